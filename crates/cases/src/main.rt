@@ -1,6 +1,7 @@
 //! Runs cases, and reports each that prints something else than it says.
 //!
-//! A case is a script of `rowfn` and what it prints. The arguments name files of cases:
+//! A case is a script of `rowfn` and what it prints, or an expression and what it answers. The
+//! arguments name files of cases:
 //!
 //! ```text
 //! Lines before the first case are comments.
@@ -14,14 +15,28 @@
 //! --
 //! i32?: 1 null
 //! error: ScopeMismatch
+//!
+//! == what another case shows
+//! rows 2
+//! col a i32? 1 null
+//! answers
+//! a * 2 as twice, b
+//! --
+//! line 1, column 17: no column "b"; is "a" meant?
 //! ```
 //!
 //! A line that begins with `== ` begins a case, and a line `--` ends its script. The lines after it
 //! are what the script prints, and last the line that it ends with on standard error, if there is
 //! one. Blank lines at the end of a case are no part of it.
+//!
+//! An expression follows a line that asks for its `tree`, for the text that this is `written`
+//! as, or for the columns of its `answers`. The lines before it are `rows` and `col` lines.
 #![tactic(auto)]
 
-use rowfn_scripts::{fault_line, interpret};
+mod expressions;
+
+use expressions::{expression_case, expression_text};
+use rowfn_scripts::{End, fault_line, interpret};
 use std::alloc::Global;
 use std::process::ExitCode;
 use std::rt::{Env, Files};
@@ -53,13 +68,24 @@ fn case_of(text: &str) -> Option<Case<'_>> {
     })
 }
 
-/// What a script prints, and after it the line that it ends with.
+/// What a case prints, and how it ends.
+fn outcome_of(alloc: Global, script: &str) -> (Vec<u8>, End) {
+    let Some(case) = expression_case(script) else {
+        let outcome = interpret(alloc, script.as_bytes());
+        return (outcome.out, outcome.ending);
+    };
+    match expression_text(alloc, case) {
+        Ok(text) => (text.into_bytes(), End::Done),
+        Err(error) => (Vec::new(alloc), End::Refused(error)),
+    }
+}
+
+/// What a case prints, and after it the line that it ends with.
 fn printed(alloc: Global, script: &str) -> io::Result<Vec<u8>> {
-    let outcome = interpret(alloc, script.as_bytes());
-    let Ok(line) = fault_line(alloc, &outcome.ending) else {
+    let (mut out, ending) = outcome_of(alloc, script);
+    let Ok(line) = fault_line(alloc, &ending) else {
         return Err(io::Error::from(io::ErrorKind::OutOfMemory));
     };
-    let mut out = outcome.out;
     out.extend_from_slice(line.as_bytes())?;
     Ok(out)
 }
@@ -91,7 +117,7 @@ fn run_file(
         let is_good = match case_of(part) {
             Some(case) => holds(rt, case)?,
             None => {
-                println!(rt; "== {part}\nhas no line -- behind its script")?;
+                println!(rt; "== {part}\nhas no line -- after its script")?;
                 false
             }
         };

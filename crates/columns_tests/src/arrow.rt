@@ -2,4 +2,3 @@
 
 mod copying;
 mod reading;
-mod refusals;

@@ -39,18 +39,15 @@ fn records(alloc: Global) -> Made {
     Ok(column)
 }
 
-/// How many rows of these numbers are taken.
-fn taken_rows(alloc: Global, column: &Column, codes: &[u32]) -> VortexResult<usize> {
-    if !are_below(codes, column.len()) {
-        return Ok(0);
-    }
-    let taken = kept(alloc, column.take(codes, &mut ExecutionCtx::new(alloc)))?;
-    Ok(taken.len())
-}
-
 /// Whether the one row of a column is taken twice.
 fn is_taken_twice(alloc: Global, column: Made) -> VortexResult<bool> {
-    Ok(taken_rows(alloc, &*column?, &[0, 0])? == 2)
+    let column = column?;
+    let codes = [0, 0];
+    if !are_below(&codes, column.len()) {
+        return Ok(false);
+    }
+    let taken = kept(alloc, column.take(&codes, &mut ExecutionCtx::new(alloc)))?;
+    Ok(taken.len() == 2)
 }
 
 #[test]

@@ -1,5 +1,5 @@
-//! Tests of views and their words, of types, values, scalars and columns, and of columns in Arrow's
-//! format.
+//! Tests of bits, views, types, values and columns, and of columns in Arrow's format: each call on
+//! its happy path, the texts that no contract says, and depth.
 #![tactic(auto)]
 
 #[cfg(test)]
@@ -12,12 +12,6 @@ mod columns;
 mod deep_columns;
 #[cfg(test)]
 mod depths;
-#[cfg(test)]
-mod errors;
-#[cfg(test)]
-mod levels;
-#[cfg(test)]
-mod order;
 #[cfg(test)]
 mod parts;
 #[cfg(test)]
@@ -34,11 +28,5 @@ mod texts;
 mod types;
 #[cfg(test)]
 mod values;
-#[cfg(test)]
-mod view_fitting;
-#[cfg(test)]
-mod view_layout;
-#[cfg(test)]
-mod view_order;
 #[cfg(test)]
 mod views;

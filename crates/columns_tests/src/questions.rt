@@ -1,16 +1,11 @@
-//! The ends of tests.
+//! The end of a test.
 
 use fixtures::Ask;
 use std::process::Abort;
 use vortex_columns::VortexResult;
 
-/// Ends the test unless that holds, which was printed if not. A call costs less to prove than an
+/// Ends the test unless the answer to a question is yes. A call costs less to prove than an
 /// `assert!` with its branch.
-pub(crate) fn must(test: &impl Abort, holds: bool) {
-    assert!(test; holds);
-}
-
-/// Ends the test unless a question was answered with yes.
 pub(crate) fn sure<R: Abort + Ask>(test: &R, answer: VortexResult<bool>) {
     assert!(test; test.yes(answer));
 }

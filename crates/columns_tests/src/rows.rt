@@ -1,75 +1,77 @@
 //! Rows of columns as Rust's own values.
 
 use crate::questions::sure;
-use fixtures::{Made, bools, constant, nullable_bools, numbers, same};
+use fixtures::{Made, constant, kept, numbers, same};
 use std::alloc::Global;
-use vortex_columns::{Column, DType, ExecutionCtx, Nullability, PType, Scalar, VortexResult};
+use vortex_columns::{Column, ExecutionCtx, PType, Validity, VortexResult};
 
-/// Whether a column of truth values has these rows, and is read neither as integers nor as texts.
+/// Whether a column of truth values has these rows, and is read as no integers.
 fn reads_bools(alloc: Global, rows: &[Option<bool>]) -> VortexResult<bool> {
-    let column = Column::of_bools(alloc, rows)?;
-    let others = column.int_rows::<u8>().is_none() && column.text_rows().is_none();
-    let Some(read) = column.bool_rows() else {
-        return Ok(false);
-    };
-    Ok(others && read.eq(rows.iter().copied()))
+    let column = kept(alloc, Column::of_bools(alloc, rows))?;
+    Ok(match column.bool_rows() {
+        Some(read) => column.int_rows::<u8>().is_none() && read.eq(rows.iter().copied()),
+        None => false,
+    })
 }
 
-/// Whether a column of 32-bit integers has these rows, and is read as no other integers.
-fn reads_ints(alloc: Global, rows: &[Option<i32>]) -> VortexResult<bool> {
-    let column = Column::of_ints(alloc, rows)?;
-    let others = column.int_rows::<u32>().is_none() && column.int_rows::<i64>().is_none();
-    let Some(read) = column.int_rows::<i32>() else {
-        return Ok(false);
-    };
-    Ok(others && column.bool_rows().is_none() && read.eq(rows.iter().copied()))
+/// Whether a column of 32-bit integers has these rows.
+fn reads_ints(column: Made, rows: &[Option<i32>]) -> VortexResult<bool> {
+    Ok(match column?.int_rows::<i32>() {
+        Some(read) => read.eq(rows.iter().copied()),
+        None => false,
+    })
 }
 
 /// Whether a column of texts has these rows.
-fn reads_texts(alloc: Global, rows: &[Option<&str>]) -> VortexResult<bool> {
-    let column = Column::of_texts(alloc, rows)?;
-    let Some(read) = column.text_rows() else {
-        return Ok(false);
-    };
-    Ok(read.eq(rows.iter().copied()))
+fn reads_texts(column: Made, rows: &[Option<&str>]) -> VortexResult<bool> {
+    Ok(match column?.text_rows() {
+        Some(read) => read.eq(rows.iter().copied()),
+        None => false,
+    })
+}
+
+/// A column of texts, none of which is null.
+fn plain_texts(alloc: Global, texts: &[&str]) -> Made {
+    kept(
+        alloc,
+        Column::try_texts(alloc, texts, Validity::NonNullable),
+    )
 }
 
 #[test]
 fn rows_are_read_in_their_order(rt: HostRuntime) {
     let alloc = rt.alloc();
     sure(&rt, reads_bools(alloc, &[Some(true), None, Some(false)]));
-    sure(&rt, reads_ints(alloc, &[None, Some(-3), Some(7)]));
-    sure(&rt, reads_texts(alloc, &[Some("new"), None, Some("")]));
-    sure(&rt, reads_ints(alloc, &[]));
-}
-
-/// Whether a constant's value is read in each row.
-fn reads_constant(alloc: Global) -> VortexResult<bool> {
-    let column = Column::constant(alloc, Scalar::from(5i32), 3)?;
-    let nulls = Column::constant(alloc, Scalar::null(DType::Bool(Nullability::Nullable)), 2)?;
-    let (Some(fives), Some(none)) = (column.int_rows::<i32>(), nulls.bool_rows()) else {
-        return Ok(false);
-    };
-    Ok(
-        fives.eq([Some(5), Some(5), Some(5)].iter().copied())
-            && none.eq([None, None].iter().copied()),
-    )
-}
-
-#[test]
-fn constants_are_read_row_by_row(rt: HostRuntime) {
-    sure(&rt, reads_constant(rt.alloc()));
+    let rows = [None, Some(-3), Some(7)];
+    sure(
+        &rt,
+        reads_ints(kept(alloc, Column::of_ints(alloc, &rows)), &rows),
+    );
+    let fives = constant(alloc, PType::I32, 5, 2);
+    sure(&rt, reads_ints(fives, &[Some(5), Some(5)]));
+    let rows = [Some("a text that is longer than a view"), None, Some("")];
+    sure(
+        &rt,
+        reads_texts(kept(alloc, Column::of_texts(alloc, &rows)), &rows),
+    );
+    sure(
+        &rt,
+        reads_texts(
+            plain_texts(alloc, &["new", "\u{a3}"]),
+            &[Some("new"), Some("\u{a3}")],
+        ),
+    );
 }
 
 /// Whether the rows of a column that are true have these numbers, and are taken by them.
-fn true_in(rt: HostRuntime, column: VortexResult<Column>, wanted: &[u32]) -> VortexResult<bool> {
+fn true_in(rt: HostRuntime, column: Made, wanted: &[u32]) -> VortexResult<bool> {
     let alloc = rt.alloc();
     let column = column?;
     if !column.dtype().is_boolean() {
         return Ok(false);
     }
     let codes = column.true_rows(alloc)?;
-    let taken = column.take(&codes, &mut ExecutionCtx::new(alloc))?;
+    let taken = kept(alloc, column.take(&codes, &mut ExecutionCtx::new(alloc)))?;
     Ok(same(rt, codes.as_slice(), wanted) && same(rt, taken.len(), wanted.len()))
 }
 
@@ -77,56 +79,23 @@ fn true_in(rt: HostRuntime, column: VortexResult<Column>, wanted: &[u32]) -> Vor
 fn true_rows_are_numbered(rt: HostRuntime) {
     let alloc = rt.alloc();
     let rows = [Some(false), Some(true), None, Some(true)];
-    let constant = Column::constant(alloc, Scalar::from(true), 3);
-    sure(&rt, true_in(rt, Column::of_bools(alloc, &rows), &[1, 3]));
-    sure(&rt, true_in(rt, Column::of_bools(alloc, &[None]), &[]));
-    sure(&rt, true_in(rt, constant, &[0, 1, 2]));
+    sure(
+        &rt,
+        true_in(rt, kept(alloc, Column::of_bools(alloc, &rows)), &[1, 3]),
+    );
 }
 
-/// Whether two columns are equal, from either side; both are dropped here.
-fn are_equal(left: Made, right: Made) -> VortexResult<bool> {
+/// Whether two columns are equal as wanted.
+fn are_equal(rt: HostRuntime, left: Made, right: Made, wanted: bool) -> VortexResult<bool> {
     let (left, right) = (left?, right?);
-    let equal = *left == *right;
-    Ok(equal && *right == *left)
-}
-
-/// Whether two columns differ, from either side; both are dropped here.
-fn differ(left: Made, right: Made) -> VortexResult<bool> {
-    let (left, right) = (left?, right?);
-    let differ = *left != *right;
-    Ok(differ && *right != *left)
-}
-
-/// 5 in each of three rows, as a constant.
-fn fives(alloc: Global) -> Made {
-    constant(alloc, PType::I32, 5, 3)
+    Ok(same(rt, *left == *right, wanted))
 }
 
 #[test]
 fn columns_are_equal_by_type_and_rows(rt: HostRuntime) {
     let alloc = rt.alloc();
-    sure(&rt, are_equal(numbers(alloc, &[5i32, 5, 5]), fives(alloc)));
-    sure(&rt, differ(numbers(alloc, &[5i32, 5]), fives(alloc)));
-    sure(&rt, differ(numbers(alloc, &[5i32, 5, 6]), fives(alloc)));
-    sure(&rt, differ(numbers(alloc, &[5i64, 5, 5]), fives(alloc)));
-    let yes_or_null = [Some(true), None];
-    let yes_or_no = [Some(true), Some(false)];
-    sure(
-        &rt,
-        are_equal(
-            nullable_bools(alloc, &yes_or_null),
-            nullable_bools(alloc, &yes_or_null),
-        ),
-    );
-    sure(
-        &rt,
-        differ(
-            nullable_bools(alloc, &yes_or_null),
-            nullable_bools(alloc, &yes_or_no),
-        ),
-    );
-    sure(
-        &rt,
-        differ(bools(alloc, &[true]), nullable_bools(alloc, &[Some(true)])),
-    );
+    let fives = constant(alloc, PType::I32, 5, 2);
+    sure(&rt, are_equal(rt, numbers(alloc, &[5i32, 5]), fives, true));
+    let fives = constant(alloc, PType::I32, 5, 2);
+    sure(&rt, are_equal(rt, numbers(alloc, &[5i64, 5]), fives, false));
 }

@@ -1,144 +1,114 @@
-//! Columns of texts whose views and buffers are handed in.
+//! Views and their words, and texts whose views and buffers are handed in.
 
 use crate::questions::sure;
-use fixtures::{Ask, Made, copied, kept};
+use fixtures::{Made, copied, kept, same};
 use std::alloc::Global;
-use vortex_columns::{BinaryView, BitBuffer, Column, Scalar, Validity, VortexResult};
+use std::cmp::Ordering;
+use vortex_columns::{Column, Scalar, Validity, VortexResult};
+use vortex_views::{
+    BinaryView, ConstantBytes, ResolvedViews, ViewsBuilder, check_views, compare, equal,
+};
 
-/// Whether a column is refused as one that does not fit.
-fn refused(rt: HostRuntime, column: Made) -> bool {
-    rt.is_refused(column, "InvalidColumn")
+/// Whether a view of `hello` has the words of its value.
+fn says_hello(rt: HostRuntime, view: BinaryView) -> bool {
+    let words = same(rt, view.as_u128(), 0x6f_6c6c_6568_0000_0005)
+        && view.head() == BinaryView::head_of(b"hello")
+        && view.prefix() == BinaryView::prefix_of(b"hello")
+        && view.order_prefix() == BinaryView::order_prefix_of(b"hello");
+    words && view.is_inlined() && same(rt, view.order_tail(), 0x6f00_0000_0000_0000)
 }
 
-/// A column of these two views over one buffer, `hello, world!`.
-fn over_hello(alloc: Global, views: [BinaryView; 2], validity: Validity) -> Made {
+/// The place of a view in the buffers.
+fn place_of(view: BinaryView) -> (u32, u32, u32) {
+    (view.len(), view.buffer(), view.offset())
+}
+
+#[test]
+fn views_have_the_words_of_their_values(rt: HostRuntime) {
+    assert!(rt; says_hello(rt, BinaryView::new_inlined(b"hello")));
+    assert!(rt;
+        same(
+            rt,
+            BinaryView::order_tail_of(b"hello"),
+            0x6f00_0000_0000_0000
+        )
+    );
+    let bytes = *b"\x0d\0\0\0hell\x01\0\0\0\x02\0\0\0";
+    assert!(rt; same(rt, place_of(BinaryView::from_bytes(bytes)), (13, 1, 2)));
+    assert!(rt;
+        same(
+            rt,
+            place_of(BinaryView::new_long(13, *b"hell", 1, 2)),
+            (13, 1, 2)
+        )
+    );
+}
+
+/// Whether the one value, `hello, world!` in a buffer, is above `hello` and equal to its own bytes.
+fn is_above(alloc: Global, view: BinaryView) -> VortexResult<bool> {
     let mut buffers = Vec::new(alloc);
     buffers.push(b"hello, world!".to_vec(alloc)?)?;
-    let views = Vec::from_array(alloc, views)?;
-    kept(
-        alloc,
-        Column::try_utf8_views(alloc, views, buffers, validity),
+    let views = [view];
+    if !check_views(&views, &buffers) {
+        return Ok(false);
+    }
+    let rows = ResolvedViews::new(&views, &buffers);
+    let row = rows.row(0);
+    Ok(
+        compare(&ConstantBytes::new(b"hello"), &row) == Ordering::Less
+            && equal(&row, &ConstantBytes::new(b"hello, world!"))
+            && rows.bytes(0).len() == 13
+            && rows.view(0).len() == 13,
     )
 }
 
-/// `hello, world!` in the buffer.
-fn whole() -> BinaryView {
-    BinaryView::new_long(13, *b"hell", 0, 0)
-}
-
-/// The first is valid, the second is not.
-fn first_alone(alloc: Global) -> VortexResult<Validity> {
-    Ok(Validity::Array(BitBuffer::from_bools(alloc, &[true, false])?))
-}
-
-fn beside_whole(alloc: Global, view: BinaryView, valid: bool) -> Made {
-    if valid {
-        return over_hello(alloc, [whole(), view], Validity::NonNullable);
-    }
-    over_hello(alloc, [whole(), view], first_alone(alloc)?)
-}
-
-/// `hello`, padded with a one.
-fn badly_padded() -> BinaryView {
-    BinaryView::from_bytes([
-        5, 0, 0, 0, b'h', b'e', b'l', b'l', b'o', 0, 0, 0, 0, 0, 0, 1,
-    ])
+/// Whether a builder holds these two values, one after the other.
+fn builds(alloc: Global, first: &[u8], second: &[u8]) -> VortexResult<bool> {
+    let mut builder = ViewsBuilder::new(alloc);
+    builder.push(first)?;
+    builder.push(second)?;
+    let values = builder.finish()?;
+    let rows = values.resolved();
+    Ok(rows.len() == 2 && rows.bytes(0) == first && rows.bytes(1) == second)
 }
 
 #[test]
-fn views_are_refused_under_nulls_too(rt: HostRuntime) {
+fn values_are_in_buffers(rt: HostRuntime) {
     let alloc = rt.alloc();
-    assert!(rt; refused(rt, beside_whole(alloc, badly_padded(), true)));
-    assert!(rt; refused(rt, beside_whole(alloc, badly_padded(), false)));
-}
-
-#[test]
-fn views_that_lie_elsewhere_are_refused(rt: HostRuntime) {
-    let alloc = rt.alloc();
-    assert!(rt;
-        refused(
-            rt,
-            beside_whole(alloc, BinaryView::new_long(13, *b"hell", 1, 0), true)
-        )
-    );
-    assert!(rt;
-        refused(
-            rt,
-            beside_whole(alloc, BinaryView::new_long(13, *b"ello", 0, 1), false)
-        )
-    );
-    assert!(rt;
-        refused(
-            rt,
-            beside_whole(alloc, BinaryView::new_long(13, *b"help", 0, 0), true)
-        )
-    );
-}
-
-fn has_two(column: Made) -> VortexResult<bool> {
-    Ok(column?.len() == 2)
-}
-
-#[test]
-fn texts_are_utf8_where_they_are_valid(rt: HostRuntime) {
-    let alloc = rt.alloc();
-    assert!(rt;
-        refused(
-            rt,
-            beside_whole(alloc, BinaryView::new_inlined(&[0xFF]), true)
-        )
-    );
     sure(
         &rt,
-        has_two(beside_whole(alloc, BinaryView::new_inlined(&[0xFF]), false)),
+        is_above(alloc, BinaryView::new_long(13, *b"hell", 0, 0)),
     );
+    sure(&rt, builds(alloc, b"hello", b"hello, world!"));
 }
 
 /// Two texts that overlap in one buffer.
 fn overlapping(alloc: Global) -> Made {
     let mut buffers = Vec::new(alloc);
     buffers.push(b"hello, world! hello".to_vec(alloc)?)?;
-    let views = [whole(), BinaryView::new_long(13, *b"o, w", 0, 4)];
-    let views = Vec::from_array(alloc, views)?;
+    let whole = BinaryView::new_long(13, *b"hell", 0, 0);
+    let views = Vec::from_array(alloc, [whole, BinaryView::new_long(13, *b"o, w", 0, 4)])?;
     kept(
         alloc,
         Column::try_utf8_views(alloc, views, buffers, Validity::NonNullable),
     )
 }
 
-/// Whether the two rows are these texts, by the bytes that are borrowed and by the scalar of the
-/// second.
-fn are_texts(alloc: Global, column: &Column, first: &str, second: &str) -> VortexResult<bool> {
+/// Whether there are two texts, and the second is this one.
+fn second_is(alloc: Global, column: Made, wanted: &str) -> VortexResult<bool> {
+    let column = column?;
     if column.len() != 2 {
         return Ok(false);
     }
-    let lent = match column.views() {
-        Some(rows) if rows.len() == 2 => {
-            rows.bytes(0) == first.as_bytes() && rows.bytes(1) == second.as_bytes()
-        }
-        _ => false,
-    };
-    Ok(lent && column.scalar_at(alloc, 1)? == Scalar::try_from_str(alloc, second)?)
-}
-
-fn has_texts(alloc: Global, column: Made, first: &str, second: &str) -> VortexResult<bool> {
-    are_texts(alloc, &*column?, first, second)
+    Ok(column.scalar_at(alloc, 1)? == Scalar::try_from_str(alloc, wanted)?)
 }
 
 #[test]
 fn views_may_overlap(rt: HostRuntime) {
     let alloc = rt.alloc();
+    sure(&rt, second_is(alloc, overlapping(alloc), "o, world! hel"));
     sure(
         &rt,
-        has_texts(alloc, overlapping(alloc), "hello, world!", "o, world! hel"),
-    );
-    sure(
-        &rt,
-        has_texts(
-            alloc,
-            copied(alloc, overlapping(alloc)),
-            "hello, world!",
-            "o, world! hel",
-        ),
+        second_is(alloc, copied(alloc, overlapping(alloc)), "o, world! hel"),
     );
 }

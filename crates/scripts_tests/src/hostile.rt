@@ -1,7 +1,7 @@
-//! Scripts that are cut off, and lines that nobody would write.
+//! Scripts that are cut off, and bytes that are no text.
 
-use crate::endings::{are_malformed, ends, is_case};
-use rowfn_scripts::{End, interpret};
+use fixtures::{same, same_text};
+use rowfn_scripts::{End, fault_line, interpret, status};
 use std::alloc::Global;
 
 const SCRIPT: &str = "rows 2
@@ -26,7 +26,7 @@ vortex.not(((is_not_null($.a) and is_not_null($.b)) and is_not_null($.c)))
 bool: false true
 ";
 
-/// In which line a script's last byte stands, or would.
+/// The number of the line of a script's last byte, or of the one after it.
 fn last_line(script: &[u8]) -> usize {
     let mut line = 1usize;
     for byte in script {
@@ -64,45 +64,15 @@ fn every_beginning_of_a_script_ends_by_its_lines(rt: HostRuntime) {
     assert!(rt; all_print_beginnings(rt.alloc(), SCRIPT, OUT));
 }
 
-#[test]
-fn the_whole_script_prints_all(rt: HostRuntime) {
-    assert!(rt; ends(rt, SCRIPT.as_bytes(), OUT, 0, ""));
-}
-
-/// Whether a line behind four others is malformed.
-fn is_malformed_behind_literals(rt: HostRuntime, line: &str) -> bool {
+/// Whether a script prints `out`, and ends with that status and that line.
+fn ends(rt: HostRuntime, script: &[u8], out: &str, wanted: u8, line: &str) -> bool {
     let alloc = rt.alloc();
-    let mut script = String::new(alloc);
-    let _ = script.push_str("rows 1\nlit i8 1\nlit i8 1\nlit i8 1\n");
-    let _ = script.push_str(line);
-    ends(rt, script.as_bytes(), "", 2, "line 5: malformed\n")
-}
-
-/// Whether so is each of these lines.
-fn are_malformed_behind_literals(rt: HostRuntime, cases: &[&str]) -> bool {
-    for (place, line) in cases.iter().enumerate() {
-        if !is_case(rt, place, is_malformed_behind_literals(rt, line)) {
-            return false;
-        }
-    }
-    true
-}
-
-#[test]
-fn odd_lines_are_malformed(rt: HostRuntime) {
-    const MALFORMED: &[(usize, &str)] = &[
-        (4, "\n\nrows 1\nfoo\n"),
-        (1, "rows 1000000\n"),
-        (1, "get a\n"),
-    ];
-    const BEHIND_LITERALS: &[&str] = &[
-        "lit i8 -129",
-        "lit utf8 \"a",
-        "lit utf8 \"a\"b",
-        "call between < !",
-    ];
-    assert!(rt; are_malformed(rt, MALFORMED));
-    assert!(rt; are_malformed_behind_literals(rt, BEHIND_LITERALS));
+    let outcome = interpret(alloc, script);
+    let is_line = match fault_line(alloc, &outcome.ending) {
+        Ok(fault) => same(rt, fault.as_str(), line),
+        Err(_) => false,
+    };
+    is_line && same_text(rt, &outcome.out, out) && same(rt, status(&outcome.ending), wanted)
 }
 
 #[test]

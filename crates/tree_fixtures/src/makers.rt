@@ -127,19 +127,6 @@ pub fn call_of<C: ScalarFnVTable>(
     planted(alloc, BoundExpression::try_new(alloc, function, children))
 }
 
-/// A call of a function of the columns `a` and `b` of those types.
-pub fn call_of_columns<C: ScalarFnVTable>(
-    alloc: Global,
-    function: ScalarFnRef<C>,
-    types: (DType, DType),
-) -> Bound<C> {
-    let scope = fields(alloc, ("a", "b"), types)?;
-    let first = planted(alloc, BoundExpression::column(alloc, &scope, "a"));
-    let second = planted(alloc, BoundExpression::column(alloc, &scope, "b"));
-    let children = two(alloc, first, second)?;
-    planted(alloc, BoundExpression::try_new(alloc, function, children))
-}
-
 /// A copy of a tree.
 pub fn copied<C: ScalarFnVTable>(alloc: Global, tree: Bound<C>) -> Bound<C> {
     planted(alloc, tree?.try_clone(alloc))

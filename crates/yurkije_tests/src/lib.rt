@@ -1,4 +1,4 @@
-//! Tests of expressions over columns that a C caller lends, on the examples of Arrow's own page.
+//! Tests of expressions over columns that are borrowed of a C caller, on the examples of Arrow's own page.
 #![tactic(auto)]
 
 #[cfg(test)]
@@ -9,5 +9,3 @@ mod reading;
 mod rooms;
 #[cfg(test)]
 mod running;
-#[cfg(test)]
-mod words;

@@ -1,25 +1,21 @@
-//! Answers that are measured and selected, and texts that are cut.
+//! Answers that are measured and copied, and texts that are cut.
 
 use crate::lending::{names, numbers};
 use crate::running::answers_of;
 use fixtures::same;
-use vortex_arrow::copy_true_rows;
 use vortex_columns::Column;
-use yurkije_columns::{Room, Size, copy_answer, put_text, size_of};
+use yurkije_columns::{Room, Size, copy_answer, put_message, put_text, size_of};
 
 /// The first answer of a text over the columns.
 fn first(rt: HostRuntime, text: &[u8]) -> Option<Box<Column>> {
     let alloc = rt.alloc();
-    match answers_of(alloc, text, &[numbers(), names()]) {
-        Ok(columns) => {
-            let mut columns = columns;
-            columns.truncate(1);
-            match columns.pop() {
-                Some(column) => Box::new(alloc, column).ok(),
-                None => None,
-            }
-        }
-        Err(_) => None,
+    let Ok(mut columns) = answers_of(alloc, text, &[numbers(), names()]) else {
+        return None;
+    };
+    columns.truncate(1);
+    match columns.pop() {
+        Some(column) => Box::new(alloc, column).ok(),
+        None => None,
     }
 }
 
@@ -37,17 +33,6 @@ fn is_size(rt: HostRuntime, answer: Option<Box<Column>>) -> bool {
                 data,
             },
         ) => same(rt, [rows, validity, values, offsets, data], [5, 1, 0, 6, 7]),
-        Err(_) => false,
-    }
-}
-
-fn are_selected(rt: HostRuntime, answer: Option<Box<Column>>) -> bool {
-    let Some(column) = answer else {
-        return false;
-    };
-    let mut numbers = [9u32; 5];
-    match copy_true_rows(&column, &mut numbers) {
-        Ok(count) => same(rt, (count, numbers), (3, [0, 2, 3, 9, 9])),
         Err(_) => false,
     }
 }
@@ -84,14 +69,9 @@ fn is_copied(rt: HostRuntime, answer: Option<Box<Column>>) -> bool {
 }
 
 #[test]
-fn answers_are_copied(rt: HostRuntime) {
-    assert!(rt; is_copied(rt, first(rt, b"number")));
-}
-
-#[test]
-fn answers_are_measured_and_selected(rt: HostRuntime) {
+fn answers_are_measured_and_copied(rt: HostRuntime) {
     assert!(rt; is_size(rt, first(rt, b"name")));
-    assert!(rt; are_selected(rt, first(rt, b"number < 5")));
+    assert!(rt; is_copied(rt, first(rt, b"number")));
 }
 
 #[test]
@@ -99,4 +79,7 @@ fn texts_are_cut_at_a_character(rt: HostRuntime) {
     let mut room = [b'-'; 4];
     let count = put_text("abc\u{e9}", &mut room);
     assert!(rt; same(rt, (count, room), (3, *b"abc-")));
+    let mut room = [b'-'; 5];
+    let count = put_message("abc\u{e9}", &mut room);
+    assert!(rt; same(rt, (count, room), (3, *b"abc\0-")));
 }

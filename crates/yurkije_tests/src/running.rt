@@ -1,12 +1,12 @@
-//! Programs that are run over columns that are lent.
+//! Programs that are run over borrowed columns, and refusals in words.
 
-use crate::lending::{lent, names, numbers};
+use crate::lending::{names, numbers};
 use crate::reading::program_of;
 use fixtures::same;
 use std::alloc::Global;
-use vortex_columns::{Column, VortexError};
-use yurkije_columns::{LentColumn, arrow_columns};
-use yurkije_core::{RunError, Told, run_program};
+use vortex_columns::Column;
+use yurkije_columns::{LentColumn, LentError, arrow_columns, lent_words};
+use yurkije_core::{RunError, Told, run_program, run_words};
 
 /// The answers of a text over columns of five rows.
 pub fn answers_of(
@@ -15,11 +15,11 @@ pub fn answers_of(
     columns: &[LentColumn<'_>],
 ) -> Result<Vec<Column>, RunError> {
     let Ok(program) = program_of(alloc, text) else {
-        return Err(RunError::Program(vortex_program::RunError::OutOfMemory));
+        return Err(RunError::OutOfMemory);
     };
     match arrow_columns(alloc, columns) {
         Ok(columns) => run_program(alloc, &program, &columns, 5),
-        Err(_) => Err(RunError::Program(vortex_program::RunError::OutOfMemory)),
+        Err(_) => Err(RunError::OutOfMemory),
     }
 }
 
@@ -46,78 +46,51 @@ fn answers(rt: HostRuntime, text: &[u8], wanted: [&str; 2]) -> bool {
 
 #[test]
 fn columns_are_answered(rt: HostRuntime) {
-    assert!(rt;
-        answers(
-            rt,
-            b"number * number, name like '%o%'",
-            ["i32?: 1 null 4 16 64", "bool?: true null null false false"]
-        )
-    );
-    assert!(rt;
-        answers(
-            rt,
-            b"name is null, number",
-            ["bool: false true true false false", "i32?: 1 null 2 4 8"]
-        )
-    );
+    let wanted = ["i32?: 1 null 4 16 64", "bool?: true null null false false"];
+    assert!(rt; answers(rt, b"number * number, name like '%o%'", wanted));
 }
 
-/// Whether the first faulty row and its answer are told.
-fn faults(rt: HostRuntime, text: &[u8], wanted: (usize, usize)) -> bool {
-    match answers_of(rt.alloc(), text, &[numbers(), names()]) {
-        Err(
-            RunError::Program(vortex_program::RunError::Fault {
-                row,
-                answer,
-                error: VortexError::Arithmetic(_),
-            }),
-        ) => same(rt, (row, answer), wanted),
-        _ => false,
-    }
-}
-
-#[test]
-fn a_fault_is_told_with_its_row(rt: HostRuntime) {
-    assert!(rt; faults(rt, b"number, 1 / (number - 4)", (3, 1)));
-    assert!(rt; faults(rt, b"number * 300000000, 1 / (number - 8)", (4, 0)));
-    assert!(rt; faults(rt, b"1 / (number - 2), 1 / (number - 1)", (0, 1)));
-}
-
-/// What is told of a batch that is refused: its status, column and row.
-fn refuses(rt: HostRuntime, columns: &[LentColumn<'_>], wanted: (u32, usize, usize)) -> bool {
-    match answers_of(rt.alloc(), b"number", columns) {
-        Ok(_) => false,
-        Err(error) => {
-            let told = Told::of_run(&error);
-            same(rt, (told.status, told.column, told.row), wanted)
+/// Whether the run of a text over the columns is refused with that status, column and row, in these
+/// words.
+fn refuses(
+    rt: HostRuntime,
+    text: &[u8],
+    columns: &[LentColumn<'_>],
+    wanted: (u32, usize, usize),
+    words: &str,
+) -> bool {
+    let alloc = rt.alloc();
+    let (Ok(program), Ok(columns)) = (program_of(alloc, text), arrow_columns(alloc, columns)) else {
+        return false;
+    };
+    let Err(error) = run_program(alloc, &program, &columns, 5) else {
+        return false;
+    };
+    let told = Told::of_run(&error);
+    match run_words(alloc, &program, &error, 5) {
+        Ok(said) => {
+            same(rt, (told.status, told.column, told.row), wanted) && same(rt, said.as_str(), words)
         }
+        Err(_) => false,
     }
 }
 
 #[test]
-fn columns_are_refused(rt: HostRuntime) {
-    let none = usize::MAX;
-    assert!(rt; refuses(rt, &[numbers()], (11, 1, none)));
-    assert!(rt; refuses(rt, &[numbers(), names(), names()], (11, 2, none)));
-    assert!(rt; refuses(rt, &[numbers(), numbers()], (11, 1, none)));
-    let short = LentColumn {
-        rows: 4,
-        ..numbers()
-    };
-    assert!(rt; refuses(rt, &[short, names()], (2, 0, none)));
-    let strict = LentColumn {
-        nullable: false,
-        ..names()
-    };
-    assert!(rt; refuses(rt, &[numbers(), strict], (11, 1, none)));
+fn columns_and_faults_are_refused_with_their_rows(rt: HostRuntime) {
     let falls = LentColumn {
         offsets32: &[0, 3, 2, 3, 7, 7],
         ..names()
     };
-    assert!(rt; refuses(rt, &[numbers(), falls], (125, 1, 1)));
-    let empty = LentColumn {
-        nullable: true,
-        ..lent(4, 5)
-    };
-    assert!(rt; refuses(rt, &[empty, names()], (121, 0, none)));
+    let words = "column 1 (name): row 1: offsets fall";
+    assert!(rt; refuses(rt, b"number", &[numbers(), falls], (125, 1, 1), words));
+    let words = "row 3, answer 1 (q): integer division by zero or overflow in checked div";
+    let text = b"number, 1 / (number - 4) as q";
+    assert!(rt; refuses(rt, text, &[numbers(), names()], (7, usize::MAX, 3), words));
+}
+
+#[test]
+fn columns_of_no_kind_are_refused(rt: HostRuntime) {
+    let error = LentError::UnknownKind { column: 3 };
+    let words = "column 3: no kind has that number";
+    assert!(rt; matches!(lent_words(rt.alloc(), error), Ok(said) if said.as_str() == words));
 }

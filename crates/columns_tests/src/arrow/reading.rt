@@ -2,11 +2,11 @@
 
 use fixtures::same;
 use std::alloc::Global;
-use vortex_arrow::{ArrowColumn, ArrowError, ArrowValues, to_column};
+use vortex_arrow::{ArrowColumn, ArrowError, ArrowValues, ValueFault, to_column};
 use vortex_columns::Column;
 
 /// The column, on the heap.
-pub fn made(alloc: Global, column: &ArrowColumn<'_>) -> Result<Box<Column>, ArrowError> {
+fn made(alloc: Global, column: &ArrowColumn<'_>) -> Result<Box<Column>, ArrowError> {
     Ok(Box::new(alloc, to_column(alloc, column)?)?)
 }
 
@@ -29,19 +29,24 @@ fn reads(rt: HostRuntime, column: ArrowColumn<'_>, wanted: &str) -> bool {
     }
 }
 
-/// Rows from the first item on, of a column that is nullable.
-pub fn nullable<'a>(validity: &'a [u8], length: usize, values: ArrowValues<'a>) -> ArrowColumn<'a> {
+/// Rows from an item on, of a column that is nullable.
+fn nullable<'a>(
+    validity: &'a [u8],
+    offset: usize,
+    length: usize,
+    values: ArrowValues<'a>,
+) -> ArrowColumn<'a> {
     ArrowColumn {
         nullable: true,
         length,
-        offset: 0,
+        offset,
         validity: Some(validity),
         values,
     }
 }
 
 /// Rows from an item on, none of which is null.
-pub fn plain<'a>(offset: usize, length: usize, values: ArrowValues<'a>) -> ArrowColumn<'a> {
+fn plain<'a>(offset: usize, length: usize, values: ArrowValues<'a>) -> ArrowColumn<'a> {
     ArrowColumn {
         nullable: false,
         length,
@@ -51,28 +56,21 @@ pub fn plain<'a>(offset: usize, length: usize, values: ArrowValues<'a>) -> Arrow
     }
 }
 
-/// "[1, null, 2, 4, 8]", whose validity is 00011101; from the second item on.
+/// "[1, null, 2, 4, 8]", whose validity is 00011101; and bits 5 to 9 of 11000000 and 00000001.
 #[test]
-fn integers_are_read(rt: HostRuntime) {
+fn integers_and_truth_values_are_read(rt: HostRuntime) {
     let five = ArrowValues::Int32(&[1, 0, 2, 4, 8]);
-    let column = nullable(&[0b00011101], 5, five);
-    let rest = ArrowColumn {
-        offset: 1,
-        length: 3,
-        ..column
-    };
-    assert!(rt; reads(rt, column, "i32?: 1 null 2 4 8"));
-    assert!(rt; reads(rt, rest, "i32?: null 2 4"));
+    assert!(rt;
+        reads(
+            rt,
+            nullable(&[0b00011101], 0, 5, five),
+            "i32?: 1 null 2 4 8"
+        )
+    );
     assert!(rt; reads(rt, plain(3, 2, five), "i32: 4 8"));
-    assert!(rt; reads(rt, plain(5, 0, five), "i32:"));
-}
-
-/// "[0, 1, null, 2, null, 3]", whose validity is 00101011.
-#[test]
-fn validity_is_read_from_the_least_significant_bit(rt: HostRuntime) {
-    let values = ArrowValues::UInt64(&[0, 1, 9, 2, 9, 18446744073709551615]);
-    let text = "u64?: 0 1 null 2 null 18446744073709551615";
-    assert!(rt; reads(rt, nullable(&[0b00101011], 6, values), text));
+    let bits = ArrowValues::Bool(&[0b11000000, 0b00000001]);
+    let column = nullable(&[0b11100000, 0b00000001], 5, 5, bits);
+    assert!(rt; reads(rt, column, "bool?: false true true true null"));
 }
 
 /// "['joe', null, null, 'mark']", whose validity is 00001001 and whose offsets are 0, 3, 3, 3, 7.
@@ -82,13 +80,12 @@ fn texts_by_offsets_are_read(rt: HostRuntime) {
         offsets: &[0, 3, 3, 3, 7],
         data: b"joemark",
     };
+    let names = "utf8?: \"joe\" null null \"mark\"";
+    assert!(rt; reads(rt, nullable(&[0b00001001], 0, 4, utf8), names));
     let binary = ArrowValues::LargeBinary {
         offsets: &[0, 3, 3, 3, 7],
         data: b"joemark",
     };
-    let names = "utf8?: \"joe\" null null \"mark\"";
-    assert!(rt; reads(rt, nullable(&[0b00001001], 4, utf8), names));
-    assert!(rt; reads(rt, plain(3, 1, utf8), "utf8: \"mark\""));
     assert!(rt; reads(rt, plain(2, 2, binary), "binary: 0x 0x6d61726b"));
 }
 
@@ -106,18 +103,36 @@ fn texts_by_views_are_read(rt: HostRuntime) {
         buffers: &[b"", b"--thirteenbytes"],
     };
     let text = "utf8?: \"twelve bytes\" \"thirteenbytes\" null";
-    assert!(rt; reads(rt, nullable(&[0b00000011], 3, values), text));
+    assert!(rt; reads(rt, nullable(&[0b00000011], 0, 3, values), text));
 }
 
-/// Bits 6 to 9 of 11000000 and 00000001.
+/// Whether the buffers are refused so, in these words.
+fn refuses(rt: HostRuntime, column: ArrowColumn<'_>, wanted: ArrowError, words: &str) -> bool {
+    match made(rt.alloc(), &column) {
+        Ok(_) => false,
+        Err(error) => match format!(in rt.alloc(); "{error}") {
+            Ok(text) => same(rt, error, wanted) && same(rt, text.as_str(), words),
+            Err(_) => false,
+        },
+    }
+}
+
 #[test]
-fn bits_are_read_at_any_offset(rt: HostRuntime) {
-    let bits = ArrowValues::Bool(&[0b11000000, 0b00000001]);
-    let column = ArrowColumn {
-        offset: 5,
-        length: 5,
-        ..nullable(&[0b11100000, 0b00000001], 0, bits)
+fn offsets_are_refused_under_nulls_too(rt: HostRuntime) {
+    let falls = ArrowValues::Binary {
+        offsets: &[0, 3, 2, 3],
+        data: b"joe",
     };
-    assert!(rt; reads(rt, plain(6, 4, bits), "bool: true true true false"));
-    assert!(rt; reads(rt, column, "bool?: false true true true null"));
+    let wanted = ArrowError::InvalidValue {
+        row: 1,
+        fault: ValueFault::OffsetsFall,
+    };
+    assert!(rt;
+        refuses(
+            rt,
+            nullable(&[0b101], 0, 3, falls),
+            wanted,
+            "row 1: offsets fall"
+        )
+    );
 }

@@ -1,0 +1,158 @@
+//! Cases of expressions: the columns that lines of a script say, and a text that is read over them.
+
+use rowfn_lines::parse::parse;
+use rowfn_lines::{Line, lines};
+use std::alloc::Global;
+use vortex_columns::{Column, ExecutionCtx, StructFields, VortexError, VortexResult};
+use vortex_expressions::{Answer, read_answers, read_expression, write_expression};
+
+/// What a case asks of a text.
+#[derive(Clone, Copy)]
+enum Question {
+    /// The tree of an expression, and its type.
+    Tree,
+    /// The text that this tree is written as.
+    Written,
+    /// The columns of a list of answers.
+    Answers,
+}
+
+/// A text, what is asked of it, and the lines that say its columns.
+#[derive(Clone, Copy)]
+pub struct ExpressionCase<'a> {
+    question: Question,
+    columns: &'a str,
+    text: &'a str,
+}
+
+/// Columns, their row count, and their names and types.
+#[derive(Drop)]
+struct Batch {
+    row_count: usize,
+    scope: StructFields,
+    columns: Vec<Column>,
+}
+
+/// The case in what is written before the line `--`; none where it is a script.
+pub fn expression_case(script: &str) -> Option<ExpressionCase<'_>> {
+    let (question, (columns, text)) = if let Some(parts) = script.split_once("\ntree\n") {
+        (Question::Tree, parts)
+    } else if let Some(parts) = script.split_once("\nwritten\n") {
+        (Question::Written, parts)
+    } else {
+        (Question::Answers, script.split_once("\nanswers\n")?)
+    };
+    Some(ExpressionCase {
+        question,
+        columns,
+        text,
+    })
+}
+
+/// Adds a column that has the row count, under a name that no other has.
+fn add_column(alloc: Global, batch: &mut Batch, name: &str, column: Column) -> VortexResult<()> {
+    if column.len() != batch.row_count {
+        return Err(VortexError::InvalidColumn);
+    }
+    if batch.scope.find(name).is_some() {
+        return Err(VortexError::InvalidColumn);
+    }
+    let dtype = column.dtype().try_clone(alloc)?;
+    batch.scope.push(String::from_str(alloc, name)?, dtype)?;
+    batch.columns.push(column)?;
+    Ok(())
+}
+
+/// The columns of `rows` and `col` lines. E12 where a line is another.
+fn read_batch(alloc: Global, text: &str) -> VortexResult<Batch> {
+    let mut batch = Batch {
+        row_count: 0,
+        scope: StructFields::new(alloc),
+        columns: Vec::new(alloc),
+    };
+    for line in lines(alloc, text.as_bytes())?.iter() {
+        match parse(alloc, line)? {
+            Line::Nothing => {}
+            Line::Rows(count) => batch.row_count = count,
+            Line::Column(name, column) => add_column(alloc, &mut batch, name, column)?,
+            _ => return Err(VortexError::InvalidColumn),
+        }
+    }
+    Ok(batch)
+}
+
+/// The tree of a text and its type, or why there is none.
+fn tree_text(alloc: Global, scope: &StructFields, text: &str) -> VortexResult<String> {
+    match read_expression(alloc, scope, text) {
+        Ok(tree) => {
+            let mut line = tree.sql_text(alloc)?;
+            line.push_str(": ")?;
+            tree.dtype().write_text(&mut line)?;
+            Ok(line)
+        }
+        Err(error) => Ok(format!(in alloc; "{error}")?),
+    }
+}
+
+/// The text that the tree of a text is written as, followed by the tree of that text where it is
+/// another.
+fn written_text(alloc: Global, scope: &StructFields, text: &str) -> VortexResult<String> {
+    let Ok(tree) = read_expression(alloc, scope, text) else {
+        return tree_text(alloc, scope, text);
+    };
+    let Some(mut written) = write_expression(alloc, &tree)? else {
+        return Ok(String::from_str(alloc, "no text")?);
+    };
+    let again = tree_text(alloc, scope, written.as_str())?;
+    if again.as_str() != tree_text(alloc, scope, text)?.as_str() {
+        written.push_str(", which is ")?;
+        written.push_str(again.as_str())?;
+    }
+    Ok(written)
+}
+
+/// Writes the name of an answer, and its column, as a line.
+fn push_answer(
+    alloc: Global,
+    out: &mut String,
+    answer: &Answer,
+    batch: &Batch,
+) -> VortexResult<()> {
+    let mut ctx = ExecutionCtx::new(alloc);
+    let column = answer
+        .tree
+        .execute(&batch.columns, batch.row_count, &mut ctx)?;
+    let text = column.into_owned()?.text(alloc)?;
+    if let Some(name) = &answer.name {
+        out.push_str(name.as_str())?;
+        out.push_str(" = ")?;
+    }
+    out.push_str(text.as_str())?;
+    out.push_str("\n")?;
+    Ok(())
+}
+
+/// The columns of a list of answers, each in a line, or why the text is no list.
+fn answers_text(alloc: Global, batch: &Batch, text: &str) -> VortexResult<String> {
+    let mut out = String::new(alloc);
+    match read_answers(alloc, &batch.scope, text) {
+        Ok(answers) => {
+            for answer in answers.iter() {
+                push_answer(alloc, &mut out, answer, batch)?;
+            }
+            Ok(out)
+        }
+        Err(error) => Ok(format!(in alloc; "{error}")?),
+    }
+}
+
+/// What a case answers, in lines. E12 where its columns are badly written; else the fault of the
+/// first answer that has one.
+pub fn expression_text(alloc: Global, case: ExpressionCase<'_>) -> VortexResult<String> {
+    let batch = read_batch(alloc, case.columns)?;
+    match case.question {
+        Question::Tree => tree_text(alloc, &batch.scope, case.text),
+        Question::Written => written_text(alloc, &batch.scope, case.text),
+        Question::Answers => answers_text(alloc, &batch, case.text),
+    }
+}
