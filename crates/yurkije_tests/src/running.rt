@@ -15,11 +15,11 @@ pub fn answers_of(
     columns: &[LentColumn<'_>],
 ) -> Result<Vec<Column>, RunError> {
     let Ok(program) = program_of(alloc, text) else {
-        return Err(RunError::OutOfMemory);
+        return Err(RunError::Program(vortex_program::RunError::OutOfMemory));
     };
     match arrow_columns(alloc, columns) {
         Ok(columns) => run_program(alloc, &program, &columns, 5),
-        Err(_) => Err(RunError::OutOfMemory),
+        Err(_) => Err(RunError::Program(vortex_program::RunError::OutOfMemory)),
     }
 }
 
