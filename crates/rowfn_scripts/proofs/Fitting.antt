@@ -268,12 +268,12 @@ module _ {V O : Type 0} (m : Meaning V O) (s : SessionView V O) (fits : Fits m s
           shown = fits.shown;
         }
 
-    -- other trees and names, and what was printed
-    with_stack : (stack : List (Tree V O)) (names : List (Option (List ℕ))) (printed : List ℕ)
+    -- other trees, and what was printed
+    with_stack : (stack : List (Tree V O)) (printed : List ℕ)
         → StackHasRows s.columns n stack → AllFit s.columns stack → AllHaveTypes m stack
         → AllShown stack
-        → Fits m (record s { stack = stack; names = names; printed = printed })
-    with_stack stack names printed typed fit types shown = record {
+        → Fits m (record s { stack = stack; printed = printed })
+    with_stack stack printed typed fit types shown = record {
       counted = fits.counted;
       typed = fits.typed;
       typed_rows = fits.typed_rows;
@@ -287,7 +287,7 @@ module _ {V O : Type 0} (m : Meaning V O) (s : SessionView V O) (fits : Fits m s
         → is_some (tree_type m t) ≡ true → HasText t
         → Fits m (pushed t s.stack s)
     pushed_fits t typed fit type shown =
-        with_stack (t ∷ s.stack) _ s.printed (typed, rows_at) (fit, fits.fit)
+        with_stack (t ∷ s.stack) s.printed (typed, rows_at) (fit, fits.fit)
         (type, fits.with_types) (shown, fits.shown)
 
     leaf_fits : (name : List ℕ) (p : ℕ × LogicalType) → find_field name s.fields ≡ Some p
@@ -375,7 +375,7 @@ module _ {V O : Type 0} (m : Meaning V O) (rs : Rules V O) (laws : AreSound m rs
       let limit = weight_told m u in
       let asks = (rewritten m rs laws limit u o.last o.run all.2.0).asks in
       as_step a _ o.is
-      (with_stack m s fits n known (o.last ∷ stack) s.names _
+      (with_stack m s fits n known (o.last ∷ stack) _
       ((λ i lt. asks.rows s.columns i (all.0.0 i lt)), all.0.1)
       (leaves_still_fit s.columns u o.last asks all.1.0, all.1.1)
       (rewritten_typed m rs laws limit u o.last o.run all.2.0, all.2.1)

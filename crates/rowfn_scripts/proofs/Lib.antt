@@ -10,5 +10,3 @@ pub mod OneStep
 pub mod Telling
 pub mod EachOutcome
 pub mod OneOutcome
-pub mod Headers
-pub mod SplitNames

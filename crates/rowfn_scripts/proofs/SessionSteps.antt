@@ -49,8 +49,7 @@ use Rattle.rowfn_scripts.specs.Sessions.{with_taken, with_call}
 use Rattle.rowfn_scripts.specs.Sessions.{shown_by, ShowsTop, prints, refused, RunsTop, steps_text}
 use Rattle.rowfn_scripts.specs.Sessions.{Optimizes, OptimizesTop, prints_after, refused_after}
 use Rattle.rowfn_scripts.specs.Sessions.{RunsAfterTop}
-use Rattle.rowfn_scripts.specs.Stepping.{MakesStep, after_text, given_in}
-use Rattle.rowfn_scripts.specs.Expressions.{named}
+use Rattle.rowfn_scripts.specs.Stepping.{MakesStep, after_text}
 
 module _ {V O : Type 0} where
   pub row_count_of : {s t : SessionView V O} → s ≡ t → s.row_count ≡ t.row_count
@@ -82,23 +81,15 @@ module _ {V O : Type 0} where
       (λ i. goes_on (record v { fields = a i; columns = b i }))
       ∙ ap (λ (u : SessionView V O). goes_on (added name c u)) e
 
-  -- a tree is pushed: the names are cut to so many, and one is added that is none
-  pub tree_pushed : (v s : SessionView V O) (t : Tree V O) (items after : List (Tree V O))
-      (names cut now : List (Option (String Global))) (n : ℕ) → v ≡ s → v.stack ≡ reverse items
-      → v.names ≡ map given_in names → n ≡ length items → cut ≡ take n names
-      → now ≡ cut ++ None ∷ [] → after ≡ items ++ t ∷ []
-      → record v { stack = reverse after; names = map given_in now } ≡ pushed t s.stack s
-  tree_pushed v s t items after names cut now n e st nm many first added made =
+  -- a tree is pushed
+  pub tree_pushed : (v s : SessionView V O) (t : Tree V O) (items after : List (Tree V O)) → v ≡ s
+      → v.stack ≡ reverse items → after ≡ items ++ t ∷ []
+      → record v { stack = reverse after } ≡ pushed t s.stack s
+  tree_pushed v s t items after e st made =
       let stack : reverse after ≡ t ∷ v.stack =
       ap reverse made ∙ reverse-append items (t ∷ [])
       ∙ ap (λ (xs : List (Tree V O)). t ∷ xs) (sym st) in
-      let count : n ≡ length v.stack = many ∙ sym (length-reverse items) ∙ ap length (sym st) in
-      let given : map given_in now ≡ take (length v.stack) v.names ++ None ∷ [] =
-      ap (map given_in) (added ∙ ap (λ (xs : List (Option (String Global))). xs ++ None ∷ []) first)
-      ∙ map-append given_in (take n names) (None ∷ [])
-      ∙ ap (λ (xs : List (Option (List ℕ))). xs ++ None ∷ [])
-      (sym (take-map given_in n names) ∙ (λ i. take (count i) (sym nm i))) in
-      (λ i. record v { stack = stack i; names = given i })
+      (λ i. record v { stack = stack i })
       ∙ ap (λ (u : SessionView V O). pushed t u.stack u) e
 
   pub same_pushed : (r v s : SessionView V O) (t u : Tree V O) (kept below : List (Tree V O))
@@ -106,38 +97,6 @@ module _ {V O : Type 0} where
       → goes_on r ≡ goes_on (pushed u below s)
   same_pushed r v s t u kept below e f k h =
       ap goes_on h ∙ (λ i. goes_on (pushed (f i) (k i) (e i)))
-
-  -- the last tree is named
-  pub named_last : (v s : SessionView V O) (names kept now : List (Option (String Global)))
-      (given : String Global) (name : List ℕ) → v ≡ s → v.names ≡ map given_in names
-      → 0 < length names → kept ≡ take (length names - 1) names → now ≡ kept ++ Some given ∷ []
-      → string_bytes given ≡ name
-      → goes_on (record v { names = map given_in now }) ≡ named name s
-  named_last v s names kept now given name e st some first added is =
-      let all : List (Option (List ℕ)) = map given_in names in
-      let l : length all ≡ length names = length-map names given_in in
-      let less : nat_lt 0 (length all) ≡ true = lt-ltb 0 _ (omega (arith, l, some)) in
-      let made : map given_in now ≡ take (length all - 1) all ++ Some name ∷ [] =
-      ap (map given_in)
-      (added ∙ ap (λ (xs : List (Option (String Global))). xs ++ Some given ∷ []) first)
-      ∙ map-append given_in (take (length names - 1) names) (Some given ∷ [])
-      ∙ (λ i. sym (take-map given_in (length names - 1) names) i ++ Some (is i) ∷ [])
-      ∙ ap (λ (n : ℕ). take (n - 1) all ++ Some name ∷ []) (sym l) in
-      let r : Step V O =
-      goes_on (record v { names = take (length all - 1) all ++ Some name ∷ [] }) in
-      (λ i. goes_on (record v { names = made i }))
-      ∙ sym (ap (λ (b : Bool). if b then r else is_malformed) less)
-      ∙ (λ i. named name (record v { names = sym st i }))
-      ∙ ap (named name) e
-
-  pub none_named : (v s : SessionView V O) (names : List (Option (String Global)))
-      (name : List ℕ) → v ≡ s → v.names ≡ map given_in names → names ≡ []
-      → is_malformed ≡ named name s
-  none_named v s names name e st none =
-      sym
-      (ap (λ (xs : List (Option (List ℕ))). named name (record v { names = xs }))
-      (st ∙ ap (map given_in) none))
-      ∙ ap (named name) e
 
   -- one more tree, and a text that was printed
   pub same_optimized : (v s : SessionView V O) (t : Tree V O) (kept after : List (Tree V O))

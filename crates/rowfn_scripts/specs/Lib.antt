@@ -4,9 +4,6 @@ pub mod Sessions
 pub mod SessionCodes
 pub mod Scripts
 pub mod Stepping
-pub mod Expecting
-pub mod Expressions
 pub mod Fitting
 pub mod Telling
 pub mod Words
-pub mod Naming

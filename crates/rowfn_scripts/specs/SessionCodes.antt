@@ -12,11 +12,11 @@ use Rattle.rowfn_scripts.specs.Sessions.{SessionView}
 
 abbrev Parts : Type 0 → Type 0 → Type 0
 Parts V O =
-    Option ℕ × (Fields × (List ColumnView × (List (Tree V O) × (List (Option (List ℕ)) × List ℕ))))
+    Option ℕ × (Fields × (List ColumnView × (List (Tree V O) × List ℕ)))
 
 module _ {V O : Type 0} where
   abbrev parts_of : SessionView V O → Parts V O
-  parts_of s = (s.row_count, (s.fields, (s.columns, (s.stack, (s.names, s.printed)))))
+  parts_of s = (s.row_count, (s.fields, (s.columns, (s.stack, s.printed))))
 
   abbrev of_parts : Parts V O → SessionView V O
   of_parts p = record {
@@ -24,14 +24,12 @@ module _ {V O : Type 0} where
     fields = p.1.0;
     columns = p.1.1.0;
     stack = p.1.1.1.0;
-    names = p.1.1.1.1.0;
-    printed = p.1.1.1.1.1;
+    printed = p.1.1.1.1;
   }
 
   abbrev pub coded_session : Coded V → Coded O → Coded (SessionView V O)
   coded_session v o =
-      let texts = coded× (coded_list (coded_option (coded_list coded_ℕ))) (coded_list coded_ℕ) in
-      let trees = coded× (coded_list (coded_tree v o)) texts in
+      let trees = coded× (coded_list (coded_tree v o)) (coded_list coded_ℕ) in
       let columns = coded× (coded_list coded_column) trees in
       let parts = coded× (coded_option coded_ℕ) (coded× coded_fields columns) in
       code_by (Parts V O) parts parts_of of_parts (λ _. refl)

@@ -28,14 +28,12 @@ use Rattle.rowfn_lines.specs.Commands.{Command, nothing, malformed, rows, column
 use Rattle.rowfn_lines.specs.Commands.{call, show, optimize, run, run_after}
 
 -- the row count once it is said, the columns and the fields that name them in the order of their
--- lines, the trees with the last one first, the name that an `as` line gave each tree with the last
--- one at the end, and what was printed
+-- lines, the trees with the last one first, and what was printed
 pub record SessionView (V O : Type 0) : Type 0 where
   pub row_count : Option ℕ
   pub fields : Fields
   pub columns : List ColumnView
   pub stack : List (Tree V O)
-  pub names : List (Option (List ℕ))
   pub printed : List ℕ
 
 pub data Step (V O : Type 0) : Type 0 where
@@ -49,7 +47,6 @@ fresh = record {
   fields = no_fields;
   columns = [];
   stack = [];
-  names = [];
   printed = [];
 }
 
@@ -92,10 +89,9 @@ module _ {V O : Type 0} where
       if (length c.rows == n) && is_none (find_field name s.fields) then goes_on (added name c s)
       else is_malformed
 
-  -- a tree on those that stay: it has no name yet, and those that it took lose theirs
+  -- a tree on those that stay
   abbrev pub pushed : Tree V O → List (Tree V O) → SessionView V O → SessionView V O
-  pushed t kept s =
-      record s { stack = t ∷ kept; names = take (length kept) s.names ++ None ∷ [] }
+  pushed t kept s = record s { stack = t ∷ kept }
 
   abbrev pub with_leaf : List ℕ → SessionView V O → Option (ℕ × LogicalType) → Step V O
   with_leaf name s None = refuses ScopeMismatch

@@ -1,6 +1,6 @@
 -- When a call makes a step.
 use Rattle.std.specs.Prelude.{◌≡◌, ◌++◌, ℕ, List, Result, MatchResult, Option, Some, None, String}
-use Rattle.std.specs.Prelude.{string_bytes, option_map}
+use Rattle.std.specs.Prelude.{string_bytes}
 use Rattle.std.specs.declared.alloc.Global.{Global}
 use Rattle.vortex_errors.specs.Answers.{UnlessMemory}
 use Rattle.rowfn_scripts.specs.declared.stop.Stop.{Stop}
@@ -30,10 +30,6 @@ script_rules = default_rules script_meaning
 -- the step of a script's session
 abbrev pub Steps : Command → SessionView NoCustom EmptyOptions → Step NoCustom EmptyOptions → Type 0
 Steps = StepsTo script_meaning script_rules
-
--- the name that a line gave a tree, if any
-abbrev pub given_in : Option (String Global) → Option (List ℕ)
-given_in = option_map string_bytes
 
 module _ {V O : Type 0} where
   abbrev pub StopsBy : (Step V O → Type 0) → Stop → Type 0

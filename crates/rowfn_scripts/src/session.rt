@@ -1,12 +1,11 @@
 //! What a script has made so far.
-ghost use Rattle.std.specs.Prelude.{◌≡◌, OnOk, Some, map, reverse, string_bytes};
-ghost use Rattle.vortex_types.specs.TypeOf.{struct_fields};
+ghost use Rattle.std.specs.Prelude.{◌≡◌, OnOk, Some, map, string_bytes};
 ghost use Rattle.rowfn_scripts.specs.Words.{Answers, AnswersUnlessMemory, rows, column, get};
 ghost use Rattle.rowfn_scripts.specs.Words.{literal, call, show, optimize, run, run_after};
 ghost use Rattle.rowfn_scripts.specs.Words.{command_in, command_of};
 ghost use Rattle.rowfn_scripts.specs.Words.{refuses, fresh, least_count, steps_text, ShowsTop};
 ghost use Rattle.rowfn_scripts.specs.Words.{RunsTop, RunsAfterTop, Steps, MakesStep, after_text};
-ghost use Rattle.rowfn_scripts.specs.Words.{column_line, pushed, opened, named, given_in};
+ghost use Rattle.rowfn_scripts.specs.Words.{column_line, pushed};
 ghost use Rattle.rowfn_scripts.specs.Words.{script_meaning, script_rules};
 
 use crate::scope::Scope;
@@ -15,21 +14,18 @@ use rowfn_lines::Line;
 use rowfn_lines::parse::parse;
 use std::alloc::{AllocError, Global};
 use std::marker::Model;
-use vortex_columns::{
-    Arity, Column, ExecutionCtx, Scalar, StructFields, VortexError, VortexResult,
-};
+use vortex_columns::{Arity, Column, ExecutionCtx, Scalar, VortexError, VortexResult};
 use vortex_functions::{BoundExpression, NoCustom, ScalarFnRef};
 use vortex_rewriting::{Optimized, Rewrite, run};
 
-/// The row count, the columns and the fields that name them, the trees that lines have pushed, the
-/// names that lines gave these, and what was printed.
+/// The row count, the columns and the fields that name them, the trees that lines have pushed, and
+/// what was printed.
 #[derive(Drop)]
 pub struct Session {
     row_count: Option<usize>,
     fields: Scope,
     columns: Vec<Column>,
     stack: Vec<BoundExpression<NoCustom>>,
-    names: Vec<Option<String>>,
     out: Vec<u8>,
 }
 
@@ -43,15 +39,13 @@ impl Model for Session {
 
     ghost coded = { coded_script };
 
-    ghost use Rattle.std.specs.Prelude.{map, reverse};
-    ghost use Rattle.rowfn_scripts.specs.Stepping.{given_in};
+    ghost use Rattle.std.specs.Prelude.{reverse};
 
     ghost view = { λ a. record {
       row_count = a.row_count;
       fields = a.fields;
       columns = a.columns.items;
       stack = reverse a.stack.items;
-      names = map given_in a.names.items;
       printed = a.out.items;
     } };
 }
@@ -92,40 +86,8 @@ impl Session {
             fields: Scope::new(alloc),
             columns: Vec::new(alloc),
             stack: Vec::new(alloc),
-            names: Vec::new(alloc),
             out: Vec::new(alloc),
         }
-    }
-
-    /// A session of no rows, whose columns have no cells; takes no memory.
-    pub fn of_no_rows(alloc: Global) -> Session
-        ensures { result ≡ opened }
-    {
-        let mut session = Session::new(alloc);
-        session.row_count = Some(0);
-        session
-    }
-
-    /// The fields that name the columns, the trees, the last one at the end, and the names that
-    /// lines gave them.
-    pub fn into_parts(
-        self,
-    ) -> (
-        StructFields,
-        Vec<BoundExpression<NoCustom>>,
-        Vec<Option<String>>,
-    )
-        ensures fields { struct_fields result.0 ≡ self.fields }
-        ensures trees { reverse result.1.items ≡ self.stack }
-        ensures names { map given_in result.2.items ≡ self.names }
-    {
-        let Session {
-            fields,
-            stack,
-            names,
-            ..
-        } = self;
-        (fields.into_fields(), stack, names)
     }
 
     /// What was printed.
@@ -136,14 +98,11 @@ impl Session {
         out
     }
 
-    /// Pushes a tree, without a name; those that it took lose theirs. Refuses only where memory is
-    /// refused.
+    /// Pushes a tree. Fails only where an allocation does.
     fn push(&mut self, tree: BoundExpression<NoCustom>) -> Result<(), AllocError>
         ensures pushed { OnOk result (self.new ≡ pushed tree self.old.stack self.old) }
         ensures printed { self.new.printed ≡ self.old.printed }
     {
-        self.names.truncate(self.stack.len());
-        self.names.push(None)?;
         self.stack.push(tree)?;
         Ok(())
     }
@@ -325,19 +284,6 @@ impl Session {
             return Err(Stop::Malformed);
         };
         self.out.extend_from_slice(shown.as_bytes())?;
-        Ok(())
-    }
-
-    /// Gives the last tree a name, until a call takes it. Stops where there is no tree, and where
-    /// memory is refused.
-    pub fn name_last(&mut self, alloc: Global, name: &str) -> Result<(), Stop>
-        ensures { MakesStep (λ s r. r ≡ named name.now s) self.old result self.new }
-    {
-        let name = String::from_str(alloc, name)?;
-        if self.names.pop().is_none() {
-            return Err(Stop::Malformed);
-        }
-        self.names.push(Some(name))?;
         Ok(())
     }
 
