@@ -79,12 +79,4 @@ impl Scope {
     {
         &self.fields
     }
-
-    /// The fields.
-    pub(crate) fn into_fields(self) -> StructFields
-        ensures { struct_fields result ≡ self }
-    {
-        let Scope { fields, .. } = self;
-        fields
-    }
 }
