@@ -1,7 +1,7 @@
 -- Some rows of columns mean what those rows mean.
 use Rattle.std.proofs.Common.{◌≡◌, ℕ, zero, suc, ◌+◌, ◌<◌, ◌≤◌, ◌-◌, refl, sym, ap, subst, ◌∙◌}
 use Rattle.std.proofs.Common.{List, [], ◌∷◌, map, Option, Some, None, inl, inr, arith, length}
-use Rattle.std.proofs.Common.{Bool, true, false, nat_eq}
+use Rattle.std.proofs.Common.{Bool, true, false, nat_eq, nat_lt}
 use Rattle.std.specs.Prelude.{slice_get, All, if◌then◌else◌}
 use Rattle.std.specs.List.{range_with_len}
 use Rattle.std.proofs.Math.Nat.{add-zero}
@@ -241,3 +241,27 @@ pub all_counted : {V O : Type 0} (cs : List ColumnView) (n : ℕ) (ts : List (Tr
     → 0 < length ts → AllFit cs n ts → other_length n cs ≡ None
 all_counted cs n [] some h = absurd (omega (arith, some))
 all_counted cs n (t ∷ ts) some h = h.0.1
+
+-- no tree faults in rows that follow one another
+pub joined_within : {V O : Type 0} (m : Meaning V O) (cs : List ColumnView) (from end : ℕ)
+    (ts : List (Tree V O)) → AllGiveWithin m cs 0 from ts → AllGiveWithin m cs from end ts
+    → AllGiveWithin m cs 0 end ts
+joined_within m cs from end ts before after i low below = by (nat_lt i from) refl
+  where
+    by : (b : Bool) → nat_lt i from ≡ b → AllGive m cs i ts
+    by true e = before i low (grind (arith, e))
+    by false e = after i (grind (arith, e)) below
+
+-- the row at which the parts end
+pub to_end : {V O : Type 0} (m : Meaning V O) (cs : List ColumnView) (from end : ℕ)
+    (ts : List (Tree V O)) → from ≤ end
+    → AllGiveWithin m cs from (from + (end - from)) ts → AllGiveWithin m cs from end ts
+to_end m cs from end ts le h i low below = h i low (omega (arith, le, below))
+
+-- where a later row faults, not all rows before it and it are without a fault
+pub not_before : {V O : Type 0} (m : Meaning V O) (cs : List ColumnView) (from end n : ℕ)
+    (ts : List (Tree V O)) → from ≤ end
+    → (AllGiveWithin m cs from (from + (end - from)) ts → ⊥)
+    → AllGiveWithin m cs 0 end ts → AllGiveWithin m cs 0 n ts
+not_before m cs from end n ts le faulty_there all =
+    absurd (faulty_there (λ i low below. all i (omega arith) (omega (arith, le, below))))
