@@ -1,7 +1,7 @@
 //! An example to copy: the filter of a scan.
 //!
-//! It is read from a text over the names and types of the columns, optimised once, and run over one
-//! batch after another: of each it tells the rows in which it is true.
+//! It is read once from a text over the names and types of the columns, and run over one batch after
+//! another. Of each batch it prints the rows in which it is true.
 #![tactic(auto)]
 
 mod table;
@@ -10,43 +10,47 @@ use std::alloc::Global;
 use std::io;
 use std::process::ExitCode;
 use table::{Batch, batches, scope};
-use vortex_expressions::{read_expression, write_expression};
+use vortex_program::{Program, RunError};
 use vortex_row_fn::*;
 
 /// The goods that are cheap, and whose stock is known.
 const FILTER: &str = "stock + ordered is not null and price < 10";
 
-/// A tree that calls shipped functions alone.
-type Expression = BoundExpression<NoCustom>;
-
-/// The rows of the batch in which the filter is true; none where it is no truth value.
-fn picked(alloc: Global, filter: &Expression, batch: &Batch) -> VortexResult<Vec<u32>> {
-    let mut ctx = ExecutionCtx::new(alloc);
-    let answer = filter.execute(&batch.columns, batch.row_count, &mut ctx)?;
+/// The rows in which a column of truth values is true; none of any other column.
+fn true_rows(alloc: Global, answer: &Column) -> VortexResult<Vec<u32>> {
     if !answer.dtype().is_boolean() {
         return Ok(Vec::new(alloc));
     }
     answer.true_rows(alloc)
 }
 
-/// The batch's number, and the rows that are picked, as a line.
-fn line(alloc: Global, number: usize, rows: &[u32]) -> VortexResult<String> {
-    let mut line = format!(in alloc; "batch {number}:")?;
-    for row in rows {
-        line.push_str(format!(in alloc; " {row}")?.as_str())?;
+/// The rows in which the filter is true, each with a space before it; or why there are none.
+fn picked(alloc: Global, filter: &Program, batch: &Batch) -> VortexResult<String> {
+    let answers = match filter.run(alloc, &batch.columns, batch.row_count) {
+        Ok(answers) => answers,
+        Err(RunError::Fault { row, error, .. }) => {
+            return Ok(format!(in alloc; " row {row}: {error}")?);
+        }
+        Err(RunError::Refused(error)) => return Err(error),
+        Err(RunError::OutOfMemory) => return Err(VortexError::OutOfMemory),
+    };
+    let mut text = String::new(alloc);
+    for answer in answers.iter() {
+        for row in true_rows(alloc, answer)? {
+            text.push_str(format!(in alloc; " {row}")?.as_str())?;
+        }
     }
-    line.push_str("\n")?;
-    Ok(line)
+    Ok(text)
 }
 
 /// What the program prints: the filter as rules make it, and its rows, batch after batch.
-fn report(alloc: Global, filter: &Expression) -> VortexResult<String> {
-    let filter = filter.optimize_recursive(alloc, filter.weight())?.tree;
-    let mut report = write_expression(alloc, &filter)?.unwrap_or(String::new(alloc));
+fn report(alloc: Global, filter: &Program) -> VortexResult<String> {
+    let mut report = filter.text(alloc, 0, true)?.unwrap_or(String::new(alloc));
     report.push_str("\n")?;
     for (number, batch) in batches(alloc)?.iter().enumerate() {
-        let rows = picked(alloc, &filter, batch)?;
-        report.push_str(line(alloc, number, &rows)?.as_str())?;
+        let rows = picked(alloc, filter, batch)?;
+        let rows = rows.as_str();
+        report.push_str(format!(in alloc; "batch {number}:{rows}\n")?.as_str())?;
     }
     Ok(report)
 }
@@ -58,7 +62,7 @@ fn run(rt: &(impl Print + AllocGlobal)) -> io::Result<u8> {
         println!(rt; "out of memory")?;
         return Ok(1);
     };
-    let filter = match read_expression(alloc, &scope, FILTER) {
+    let filter = match Program::read(alloc, scope, FILTER) {
         Ok(filter) => filter,
         Err(error) => {
             println!(rt; "{error}")?;
