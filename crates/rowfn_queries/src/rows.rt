@@ -182,10 +182,12 @@ pub(crate) fn read_numbered<R: Read>(
 }
 
 /// Adds the rows that follow: all up to the first record that is no row, at most so many, and no more
-/// after the one that ends with enough bytes.
+/// after the one that ends with enough bytes. `fits` says whether shorter records are rows, and longer
+/// ones whose further fields are empty.
 pub(crate) fn read_rows<R: Read>(
     records: &mut Records<'_, R>,
     rows: &mut Rows,
+    fits: bool,
 ) -> Result<(), ReadError> {
     for _ in 0..SAMPLED_ROWS {
         match records.read() {
@@ -193,9 +195,9 @@ pub(crate) fn read_rows<R: Read>(
             Found::End => return Ok(()),
             Found::Failed => return Err(records.take_error()),
         }
-        let is_row = records.record().len() == rows.width
-            && !records.is_open()
-            && !records.is_outgrown();
+        let found = records.record().len();
+        let has_width = found == rows.width || fits && !records.has_surplus(rows.width);
+        let is_row = has_width && !records.is_open() && !records.is_outgrown();
         if !is_row {
             return Ok(());
         }

@@ -150,7 +150,7 @@ pub(crate) fn read_sample<R: Read>(
     } else {
         read_numbered(alloc, &mut records, wanted, &mut sample.names)?
     };
-    match read_rows(&mut records, &mut rows) {
+    match read_rows(&mut records, &mut rows, format.fits) {
         Ok(()) => {}
         Err(ReadError::Io(error)) => sample.failed = Some(error),
         Err(ReadError::OutOfMemory) => return Err(QueryError::OutOfMemory),
