@@ -1,6 +1,6 @@
 -- What a line of a script says.
 use Rattle.std.specs.Prelude.{◌==◌, ℕ, ◌-◌, ◌&&◌, ◌||◌, nat_le, nat_lt, map, List, [], ◌∷◌, length}
-use Rattle.std.specs.Prelude.{Bool, false, Option, Some, None, codes}
+use Rattle.std.specs.Prelude.{Bool, false, Option, Some, None, codes, if◌then◌else◌}
 use Rattle.std.specs.List.{list_all}
 use Rattle.std.specs.Option.{option_and_then}
 use Rattle.std.specs.Char.{is_ascii_alphanumeric, is_ascii_digit}

@@ -1,7 +1,7 @@
 -- The values that cells, which are texts or null, have by a type, and the columns of these.
 use Rattle.std.specs.Prelude.{◌==◌, ℕ, zero, suc, ℤ, pos, negsuc, ◌+◌, ◌-◌, ◌*◌, ◌&&◌, nat_le}
 use Rattle.std.specs.Prelude.{nat_lt, map, List, [], ◌∷◌, length, Bool, true, false, Option, Some}
-use Rattle.std.specs.Prelude.{None, is_some, codes}
+use Rattle.std.specs.Prelude.{None, is_some, codes, if◌then◌else◌}
 use Rattle.std.specs.List.{list_all}
 use Rattle.std.specs.Option.{option_and_then, option_map}
 use Rattle.std.specs.Char.{is_ascii_digit}

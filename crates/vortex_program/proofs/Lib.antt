@@ -6,3 +6,4 @@ pub mod Naming
 pub mod Optimized
 pub mod Parsing
 pub mod SomeRows
+pub mod TakenRows

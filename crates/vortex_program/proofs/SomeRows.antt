@@ -1,7 +1,7 @@
 -- Some rows of columns mean what those rows mean.
 use Rattle.std.proofs.Common.{◌≡◌, ℕ, zero, suc, ◌+◌, ◌<◌, ◌≤◌, ◌-◌, refl, sym, ap, subst, ◌∙◌}
 use Rattle.std.proofs.Common.{List, [], ◌∷◌, map, Option, Some, None, inl, inr, arith, length}
-use Rattle.std.proofs.Common.{Bool, true, false, nat_eq}
+use Rattle.std.proofs.Common.{Bool, true, false, nat_eq, nat_lt}
 use Rattle.std.specs.Prelude.{slice_get, All, if◌then◌else◌}
 use Rattle.std.specs.List.{range_with_len}
 use Rattle.std.proofs.Math.Nat.{add-zero}
@@ -31,49 +31,6 @@ use Rattle.vortex_functions.specs.Walks.{AllMean}
 use Rattle.vortex_program.specs.Rows.{row_column, AreTaken, HasRows, HaveRows}
 use Rattle.vortex_program.specs.Executing.{FaultsAt, AllGive, AllGiveWithin, AllFit, RefusesFirst}
 use Rattle.vortex_program.proofs.Answered.{all_head, all_tail, all_cons}
-
--- one row, as a constant
-pub one_row_has : (i : ℕ) (cs : List ColumnView) → HaveRows i 1 cs (map (row_column i) cs)
-one_row_has i [] = tt
-one_row_has i (c ∷ cs) = (
-  record {
-    dtype = refl;
-    count = refl;
-    each = λ j lt.
-        let first : j ≡ 0 = omega (arith, lt) in
-        rw first (ap (row c.rows) (sym (add-zero i)));
-  },
-  one_row_has i cs,
-)
-
--- the numbers of rows that columns have
-pub numbers_within : (first count n : ℕ) → first + count ≤ n
-    → All (λ k. k < n) (range_with_len first count)
-numbers_within first count n within k d lt =
-    let below : k < count = omega (arith, lt, length-range_with_len first count) in
-    subst (λ i. i < n) (sym (get_or-range_with_len first count k d below))
-    (omega (arith, below, within))
-
-taken_has : (first count : ℕ) (c d : ColumnView) → IsTaken c (range_with_len first count) d
-    → HasRows first count c d
-taken_has first count c d h = record {
-  dtype = h.dtype;
-  count = ap length h.rows ∙ length-map-range_with_len (row c.rows) first count;
-  each = λ j lt.
-      let numbers = range_with_len first count in
-      let below : j < length numbers = omega (arith, lt, length-range_with_len first count) in
-      ap (λ rows. row rows j) h.rows ∙ get_or-map (row c.rows) numbers j 0 null below
-      ∙ ap (row c.rows) (get_or-range_with_len first count j 0 lt);
-}
-
--- rows that were taken by their numbers
-pub taken_have : (first count : ℕ) (cs ds : List ColumnView)
-    → AreTaken (range_with_len first count) cs ds → HaveRows first count cs ds
-taken_have first count [] [] h = tt
-taken_have first count [] (d ∷ ds) h = absurd h
-taken_have first count (c ∷ cs) [] h = absurd h
-taken_have first count (c ∷ cs) (d ∷ ds) h =
-    (taken_has first count c d h.0, taken_have first count cs ds h.1)
 
 module _ (first count : ℕ) where
   place_row : (cs ds : List ColumnView) → HaveRows first count cs ds → (p j : ℕ) → j < count
@@ -106,7 +63,7 @@ module _ (first count : ℕ) where
   counted [] (d ∷ ds) h = absurd h
   counted (c ∷ cs) [] h = absurd h
   counted (c ∷ cs) (d ∷ ds) h =
-      let same : nat_eq (length d.rows) count ≡ true = grind (arith, h.0.count) in
+      let same : nat_eq (length d.rows) count ≡ true = grind (arith, h.0.counted) in
       rw same (counted cs ds h.1)
 
 module _ (first count : ℕ) (cs ds : List ColumnView) (have : HaveRows first count cs ds) where
@@ -284,3 +241,27 @@ pub all_counted : {V O : Type 0} (cs : List ColumnView) (n : ℕ) (ts : List (Tr
     → 0 < length ts → AllFit cs n ts → other_length n cs ≡ None
 all_counted cs n [] some h = absurd (omega (arith, some))
 all_counted cs n (t ∷ ts) some h = h.0.1
+
+-- no tree faults in rows that follow one another
+pub joined_within : {V O : Type 0} (m : Meaning V O) (cs : List ColumnView) (from end : ℕ)
+    (ts : List (Tree V O)) → AllGiveWithin m cs 0 from ts → AllGiveWithin m cs from end ts
+    → AllGiveWithin m cs 0 end ts
+joined_within m cs from end ts before after i low below = by (nat_lt i from) refl
+  where
+    by : (b : Bool) → nat_lt i from ≡ b → AllGive m cs i ts
+    by true e = before i low (grind (arith, e))
+    by false e = after i (grind (arith, e)) below
+
+-- the row at which the parts end
+pub to_end : {V O : Type 0} (m : Meaning V O) (cs : List ColumnView) (from end : ℕ)
+    (ts : List (Tree V O)) → from ≤ end
+    → AllGiveWithin m cs from (from + (end - from)) ts → AllGiveWithin m cs from end ts
+to_end m cs from end ts le h i low below = h i low (omega (arith, le, below))
+
+-- where a later row faults, not all rows before it and it are without a fault
+pub not_before : {V O : Type 0} (m : Meaning V O) (cs : List ColumnView) (from end n : ℕ)
+    (ts : List (Tree V O)) → from ≤ end
+    → (AllGiveWithin m cs from (from + (end - from)) ts → ⊥)
+    → AllGiveWithin m cs 0 end ts → AllGiveWithin m cs 0 n ts
+not_before m cs from end n ts le faulty_there all =
+    absurd (faulty_there (λ i low below. all i (omega arith) (omega (arith, le, below))))

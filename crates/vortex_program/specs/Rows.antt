@@ -15,7 +15,7 @@ AreTaken numbers = AllMean (λ c d. IsTaken c numbers d)
 -- so many rows of a column, from the first on
 pub record HasRows (first count : ℕ) (c d : ColumnView) : Type 0 where
   pub dtype : d.dtype ≡ c.dtype
-  pub count : length d.rows ≡ count
+  pub counted : length d.rows ≡ count
   pub each : (j : ℕ) → j < count → row d.rows j ≡ row c.rows (first + j)
 
 abbrev pub HaveRows : ℕ → ℕ → List ColumnView → List ColumnView → Type 0

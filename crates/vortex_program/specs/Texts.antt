@@ -9,12 +9,13 @@ use Rattle.vortex_syntax.specs.Postfix.{step_in}
 use Rattle.vortex_syntax.specs.Grammar.{Reads}
 use Rattle.vortex_syntax.specs.Refusals.{ListStopsAt, TreeStopsAt}
 use Rattle.vortex_syntax.specs.AnswerLists as syntax
-use Rattle.vortex_syntax.specs.AnswerLists.{Told, told, ReadsAnswers}
+use Rattle.vortex_syntax.specs.AnswerLists.{Told, told, ReadsAnswers, answer_in}
 use Rattle.vortex_expressions.specs.declared.refusal.Refusal.{Refusal}
 use Rattle.vortex_expressions.specs.Items.{Tree}
 use Rattle.vortex_expressions.specs.Binding.{Expresses, IsRefused}
 use Rattle.vortex_expressions.specs.Answers.{Answer, ExpressesAll, IsRefusedAll}
 use Rattle.vortex_program.specs.declared.answer.Answer as bound
+use Rattle.vortex_program.specs.declared.parsed.Parsed.{Parsed}
 use Rattle.vortex_program.specs.declared.form.Form.{Form}
 use Rattle.vortex_program.specs.declared.form.Form.TheVariants as form
 use Rattle.vortex_program.specs.Naming.{IsNamedAnswer}
@@ -37,6 +38,10 @@ pub record ReadsOne (text : List ℕ) (parsed : List Told) : Type 0 where
 abbrev pub IsParsed : Form → List ℕ → List Told → Type 0
 IsParsed form.Answers = ReadsList
 IsParsed form.Condition = ReadsOne
+
+-- its answers are what its text is read as
+abbrev pub IsRead : Parsed → Type 0
+IsRead p = IsParsed p.form p.text.now (map answer_in p.answers.items)
 
 pub record MeansOne (scope : Fields) (text : List ℕ) (list : List Answer) : Type 0 where
   pub tree : Tree

@@ -1,5 +1,5 @@
 //! The columns that a text names.
-ghost use Rattle.std.specs.Prelude.{◌≡◌, ◌++◌, OnOk, map, option_map, string_bytes};
+ghost use Rattle.std.specs.Prelude.{◌≡◌, ◌++◌, map, option_map, string_bytes};
 ghost use Rattle.std.specs.List.{flat_map};
 ghost use Rattle.vortex_errors.specs.Answers.{AnswersUnlessMemory};
 ghost use Rattle.vortex_syntax.specs.AnswerLists.{answer_in};
@@ -7,6 +7,7 @@ ghost use Rattle.vortex_syntax.specs.Tokens.{token_in};
 ghost use Rattle.vortex_syntax.specs.Postfix.{step_in};
 ghost use Rattle.vortex_program.specs.Names.{text_named, token_named, listed, step_names};
 ghost use Rattle.vortex_program.specs.Names.{answer_names, AreNamesOf};
+ghost use Rattle.vortex_program.specs.Texts.{IsRead};
 
 use crate::parsed::Parsed;
 use std::alloc::Global;
@@ -43,7 +44,7 @@ fn token_named(alloc: Global, token: Token<'_>) -> VortexResult<Option<String>>
 
 /// Adds the name that a token is, if it is one.
 fn push_name(alloc: Global, names: &mut Vec<String>, token: Token<'_>) -> VortexResult<()>
-    ensures { OnOk result (map string_bytes names.new.items
+    ensures { AnswersUnlessMemory result (λ _. map string_bytes names.new.items
         ≡ map string_bytes names.old.items ++ listed (token_named (token_in token.entry))) }
 {
     if let Some(name) = token_named(alloc, token)? {
@@ -54,7 +55,7 @@ fn push_name(alloc: Global, names: &mut Vec<String>, token: Token<'_>) -> Vortex
 
 /// Adds the name that a step is, if it is one.
 fn push_step(alloc: Global, names: &mut Vec<String>, step: &Step<'_>) -> VortexResult<()>
-    ensures { OnOk result (map string_bytes names.new.items
+    ensures { AnswersUnlessMemory result (λ _. map string_bytes names.new.items
         ≡ map string_bytes names.old.items ++ step_names (step_in step.now)) }
 {
     match step {
@@ -65,7 +66,7 @@ fn push_step(alloc: Global, names: &mut Vec<String>, step: &Step<'_>) -> VortexR
 
 /// Adds the names of steps.
 fn push_steps(alloc: Global, names: &mut Vec<String>, steps: &[Step<'_>]) -> VortexResult<()>
-    ensures { OnOk result (map string_bytes names.new.items
+    ensures { AnswersUnlessMemory result (λ _. map string_bytes names.new.items
         ≡ map string_bytes names.old.items ++ flat_map (λ s. step_names (step_in s)) steps.now) }
 {
     for step in steps {
@@ -76,7 +77,7 @@ fn push_steps(alloc: Global, names: &mut Vec<String>, steps: &[Step<'_>]) -> Vor
 
 /// Adds the columns that an answer names.
 fn push_names(alloc: Global, names: &mut Vec<String>, answer: &SyntaxAnswer<'_>) -> VortexResult<()>
-    ensures { OnOk result (map string_bytes names.new.items
+    ensures { AnswersUnlessMemory result (λ _. map string_bytes names.new.items
         ≡ map string_bytes names.old.items ++ answer_names (answer_in answer.now)) }
 {
     push_steps(alloc, names, answer.tree.steps.as_slice())?;
@@ -89,7 +90,7 @@ fn push_all(
     names: &mut Vec<String>,
     answers: &[SyntaxAnswer<'_>],
 ) -> VortexResult<()>
-    ensures { OnOk result (map string_bytes names.new.items ≡ map string_bytes names.old.items
+    ensures { AnswersUnlessMemory result (λ _. map string_bytes names.new.items ≡ map string_bytes names.old.items
         ++ flat_map (λ a. answer_names (answer_in a)) answers.now) }
 {
     for answer in answers {
@@ -102,7 +103,7 @@ impl Parsed<'_> {
     /// Each column that the text names, in order, as often as it names it. E9 where an allocation
     /// fails.
     pub fn names(&self, alloc: Global) -> VortexResult<Vec<String>>
-        ensures { AnswersUnlessMemory result (λ names.
+        ensures { IsRead self.now → AnswersUnlessMemory result (λ names.
             AreNamesOf self.now.form self.now.text.now (map string_bytes names.items)) }
     {
         let mut names = Vec::new(alloc);

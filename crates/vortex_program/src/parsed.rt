@@ -10,7 +10,7 @@ ghost use Rattle.vortex_expressions.specs.declared.refusal.Refusal.{Refusal};
 ghost use Rattle.vortex_expressions.specs.Answers as specs;
 ghost use Rattle.vortex_expressions.specs.Reading.{ReadUnlessMemory, RefusesAs, TellsWhy};
 ghost use Rattle.vortex_program.specs.declared.form.Form.TheVariants as form;
-ghost use Rattle.vortex_program.specs.Texts.{IsParsed, unnamed, Means, IsRefusedOver, StopsAt};
+ghost use Rattle.vortex_program.specs.Texts.{IsRead, unnamed, Means, IsRefusedOver, StopsAt};
 ghost use Rattle.vortex_program.specs.Texts.{AreAnswersOf};
 ghost use Rattle.vortex_program.specs.Naming.{IsNamedAnswer};
 ghost use Rattle.vortex_functions.specs.Walks.{AllMean};
@@ -32,7 +32,6 @@ pub struct Parsed<'t> {
     pub form: Form,
     /// The answers in their order; a condition is one answer without a name.
     pub answers: Vec<SyntaxAnswer<'t>>,
-    pub ghost read: { IsParsed form text.now (map answer_in answers.items) },
 }
 
 /// Parses a list of answers, each with a name after `as` or without one:
@@ -40,6 +39,7 @@ pub struct Parsed<'t> {
 /// there are.
 pub fn parse_answers(alloc: Global, text: &str) -> Result<Parsed<'_>, ReadError>
     ensures text { IfOk result (λ p. p.text.now ≡ text.now) }
+    ensures read { IfOk result IsRead }
     ensures form { IfOk result (λ p. p.form ≡ form.Answers) }
     ensures only { (list : List syntax.Answer) → ReadsAnswers text.now list
         → ReadUnlessMemory result (λ p. map answer_in p.answers.items ≡ map told list) }
@@ -74,6 +74,7 @@ fn one_answer<'t>(
 /// text is one, whatever columns there are.
 pub fn parse_condition(alloc: Global, text: &str) -> Result<Parsed<'_>, ReadError>
     ensures text { IfOk result (λ p. p.text.now ≡ text.now) }
+    ensures read { IfOk result IsRead }
     ensures form { IfOk result (λ p. p.form ≡ form.Condition) }
     ensures only { (tree : Syntax) → Reads text.now tree → ReadUnlessMemory result
         (λ p. map answer_in p.answers.items ≡ told (record { tree = tree; name = None }) ∷ []) }
@@ -112,17 +113,18 @@ fn name_all(
 impl Parsed<'_> {
     /// The answers over the columns of a scope, each with its name: the one after its `as`, else
     /// that of the column which it is, else its text. Together with parsing it finds the answers
-    /// that the text means over the scope, and fails as the text is refused over it.
+    /// that the text means over the scope, and fails as the text is refused over it: that is said of
+    /// what was parsed, which each clause asks first.
     pub fn bind(&self, alloc: Global, scope: &StructFields) -> Result<Vec<Answer>, ReadError>
-        ensures found { IfOk result (λ v.
+        ensures found { IsRead self.now → IfOk result (λ v.
             AreAnswersOf self.now.form (struct_fields scope.now) self.now.text.now v.items) }
-        ensures only { (list : List specs.Answer)
+        ensures only { (list : List specs.Answer) → IsRead self.now
             → Means self.now.form (struct_fields scope.now) self.now.text.now list
             → ReadUnlessMemory result (λ v. trees_of v.items ≡ map (λ a. a.tree) list) }
-        ensures refused { (r : Refusal)
+        ensures refused { (r : Refusal) → IsRead self.now
             → IsRefusedOver self.now.form (struct_fields scope.now) self.now.text.now r
             → RefusesAs r result }
-        ensures why { IfErr result (TellsWhy (StopsAt self.now.form)
+        ensures why { IsRead self.now → IfErr result (TellsWhy (StopsAt self.now.form)
             (IsRefusedOver self.now.form (struct_fields scope.now) self.now.text.now)
             self.now.text.now) }
     {

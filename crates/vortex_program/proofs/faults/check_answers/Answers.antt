@@ -1,18 +1,19 @@
 use Rattle.std.proofs.Common.{add-one}
 use Rattle.vortex_errors.proofs.Answering.{UnlessMemory-weaker}
+use Rattle.vortex_interface.specs.Bound.{IsBound}
 use Rattle.vortex_interface.specs.Execution.{RefusesColumns}
+use Rattle.vortex_functions.specs.Fixed.{fixed_meaning}
 use Rattle.vortex_rewriting.specs.Keeping.{RewritesKeepRows}
-use Rattle.vortex_expressions.specs.Items.{meaning}
 use Rattle.vortex_program.specs.Executing.{RefusesColumnsFirst}
+use Rattle.vortex_program.specs.Programs.{trees_of}
 use Rattle.vortex_program.proofs.Answered.{answers_refusal, placed_more, fit_more}
 use Rattle.vortex_program.proofs.Answered.{refuses_columns_at}
-use Rattle.vortex_program.specs.Programs.{trees_of}
-use Rattle.vortex_program.proofs.running.check_answers.Goals as goal
+use Rattle.vortex_program.proofs.faults.check_answers.Goals as goal
 
-pub returns-in_err-check_columns : goal.returns-in_err-check_columns
-returns-in_err-check_columns c =
+pub returns-in_err-check_columns-clause-fit : goal.returns-in_err-check_columns-clause-fit
+returns-in_err-check_columns-clause-fit c =
     let cs = c.args.columns.now in
-    let n = c.args.rows in
+    let n = c.args.row_count in
     let answers = c.args.answers.now in
     let answer = c.answer-item.result in
     let refuses = RefusesColumnsFirst cs n (trees_of answers) in
@@ -20,20 +21,23 @@ returns-in_err-check_columns c =
     c.from_residual.ensures.1
     (UnlessMemory-weaker (RefusesColumns cs n answer.tree) refuses
     (λ e h.
-    refuses_columns_at meaning cs n (λ a. a.tree) answers c.loop-answer.answer-index answer e
-    c.loop-answer-test.true c.answer-item.is c.loop-answer.invariant.0 h)
+    refuses_columns_at fixed_meaning cs n (λ a. a.tree) answers c.loop-answer.answer-index answer e
+    c.loop-answer-test.true c.answer-item.is c.loop-answer.invariant.1 h)
     c.in_err-check_columns.field-0.0 c.in_err-check_columns.ensures.answer)
 
 pub loop-answer-preserved : goal.loop-answer-preserved
 loop-answer-preserved c =
     let cs = c.args.columns.now in
-    let n = c.args.rows in
+    let n = c.args.row_count in
     let k = c.loop-answer.answer-index in
     let answers = c.args.answers.now in
     let answer = c.answer-item.result in (
-      fit_more meaning cs n (λ a. a.tree) answers k _ answer (add-one k) c.loop-answer-test.true
-          c.answer-item.is c.loop-answer.invariant.0 c.in_ok-check_columns.ensures.answer,
-      placed_more (RewritesKeepRows meaning cs n) (λ a. a.tree) answers k _ answer (add-one k)
+      placed_more IsBound (λ a. a.tree) answers k _ answer (add-one k) c.loop-answer-test.true
+          c.answer-item.is c.loop-answer.invariant.0 c.dtype-typed.ensures.typed,
+      fit_more fixed_meaning cs n (λ a. a.tree) answers k _ answer (add-one k)
           c.loop-answer-test.true c.answer-item.is c.loop-answer.invariant.1
+          c.in_ok-check_columns.ensures.answer,
+      placed_more (RewritesKeepRows fixed_meaning cs n) (λ a. a.tree) answers k _ answer (add-one k)
+          c.loop-answer-test.true c.answer-item.is c.loop-answer.invariant.2
           c.rewrites_keep_rows.ensures,
     )

@@ -1,14 +1,16 @@
 use Rattle.std.proofs.Common.{take}
 use Rattle.std.specs.Prelude.{All}
+use Rattle.vortex_interface.specs.Bound.{IsBound}
+use Rattle.vortex_functions.specs.Fixed.{fixed_meaning}
 use Rattle.vortex_rewriting.specs.Keeping.{RewritesKeepRows}
-use Rattle.vortex_expressions.specs.Items.{meaning}
 use Rattle.vortex_program.specs.Executing.{AllFit}
 use Rattle.vortex_program.specs.Programs.{trees_of}
-use Rattle.vortex_program.proofs.running.check_answers.Given as goal
+use Rattle.vortex_program.proofs.faults.check_answers.Given as goal
 
--- the columns serve the trees so far, whose rewrites keep their rows
+-- the columns are valid for the trees so far, whose leaves are places and whose rewrites keep rows
 abbrev pub invariant-loop-answer : goal.invariant-loop-answer
 invariant-loop-answer l =
-    AllFit l.columns l.rows (trees_of (take l.answer-index l.answers))
-    × All (RewritesKeepRows meaning l.columns l.rows)
+    All IsBound (trees_of (take l.answer-index l.answers))
+    × AllFit l.columns l.row_count (trees_of (take l.answer-index l.answers))
+    × All (RewritesKeepRows fixed_meaning l.columns l.row_count)
     (trees_of (take l.answer-index l.answers))

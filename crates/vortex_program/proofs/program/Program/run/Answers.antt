@@ -8,7 +8,7 @@ use Rattle.vortex_program.specs.declared.answer.Answer as bound
 use Rattle.vortex_program.specs.Executing.{AllFit}
 use Rattle.vortex_program.specs.Programs.{trees_of}
 use Rattle.vortex_program.proofs.Keeping.{kept_answers}
-use Rattle.vortex_program.proofs.running.run_columns.Goals as goal
+use Rattle.vortex_program.proofs.program.Program.run.Goals as goal
 
 pub returns-in-Ok : goal.returns-in-Ok
 returns-in-Ok c rewrites =
