@@ -9,7 +9,13 @@ use Rattle.vortex_types.specs.TypeOf.{struct_fields}
 use Rattle.rowfn_batches.specs.declared.asked.Asked.{Asked}
 use Rattle.rowfn_batches.specs.Fields.{Field, field_in}
 use Rattle.rowfn_batches.specs.Batches.{AreEven, AreColumns}
-use Rattle.rowfn_batches.specs.BatchAnswers.{width_of, first_fields, AreFirst}
+use Rattle.vortex_errors.specs.declared.error.VortexError.{VortexError}
+use Rattle.vortex_errors.specs.declared.error.VortexError.TheVariants.{OutOfMemory}
+use Rattle.vortex_errors.specs.Answers.{UnlessMemory}
+use Rattle.vortex_program.specs.Executing.{RefusesColumnsFirst}
+use Rattle.rowfn_batches.specs.declared.errors.StreamError.TheVariants as end
+use Rattle.rowfn_batches.specs.BatchAnswers.{width_of, first_fields, AreFirst, trees_asked}
+use Rattle.rowfn_batches.specs.BatchAnswers.{IsUnserved}
 
 pub if_ok-weaker : {A E : Type 0} (r : Result A E) (P Q : A → Type 0) → ((a : A) → P a → Q a)
     → IfOk r P → IfOk r Q
@@ -35,3 +41,10 @@ module _ (x : Asked) (fs : List (Option (Bor (List ℕ)))) (n w : ℕ) (counted 
       let ds = struct_fields x.program.now.scope in
       let here = of_first (λ f. AreEven ds f n × AreColumns ds f n (width_of x) cs) h in
       record { even = here.0; said = here.1 }
+
+-- the columns of first rows do not serve a tree
+pub unserved : (x : Asked) (fs : List Field) (n : ℕ) (cs : List ColumnView) → AreFirst x fs n cs
+    → (e : VortexError) → UnlessMemory (RefusesColumnsFirst cs n (trees_asked x)) e
+    → IsUnserved x fs (end.Refused e)
+unserved x fs n cs first OutOfMemory h = tt
+unserved x fs n cs first e h = (n, cs, first, h)

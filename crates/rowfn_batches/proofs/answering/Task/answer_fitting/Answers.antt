@@ -2,7 +2,7 @@ use Rattle.std.proofs.Common.{ℕ, refl, sym, subst, map}
 use Rattle.rowfn_batches.specs.Fields.{field_in}
 use Rattle.rowfn_batches.specs.declared.errors.StreamError.TheVariants as end
 use Rattle.rowfn_batches.specs.BatchAnswers.{EndsAnswers, at_fault, number_of}
-use Rattle.rowfn_batches.proofs.FirstRows.{if_ok-weaker}
+use Rattle.rowfn_batches.proofs.FirstRows.{if_ok-weaker, unserved}
 use Rattle.rowfn_batches.proofs.Optimized.{rewrites}
 use Rattle.rowfn_batches.proofs.answering.Task.answer_fitting.Goals as goal
 
@@ -30,4 +30,7 @@ returns-in-Err-Fault-clause-ends c =
 
 pub returns-in-Err-Refused-clause-refused : goal.returns-in-Err-Refused-clause-refused
 returns-in-Err-Refused-clause-refused c =
-    let found = c.in-Err-Refused in ?
+    let x = c.args.self.now.asked in
+    let found = c.in-Err-Refused in
+    unserved x (map field_in c.args.fields.now) c.args.row_count c.args.columns.now c.requires
+    found.refusal (rw found.field-0-is at (found.ensures (rewrites x)))

@@ -1,0 +1,9 @@
+use Rattle.rowfn_batches.proofs.Optimized.{rewrites}
+use Rattle.rowfn_batches.proofs.answering.Task.answer_faultless.Goals as goal
+
+pub returns-in-Ok-clause-rows : goal.returns-in-Ok-clause-rows
+returns-in-Ok-clause-rows c = record {
+  columns = c.in_ok-columns.columns.items;
+  first = c.in_ok-columns.ensures;
+  mean = c.in-Ok.ensures (rewrites c.args.self.now.asked);
+}
