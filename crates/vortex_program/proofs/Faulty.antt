@@ -1,7 +1,7 @@
 -- The trees so far that do not fault in a row, and the first that does.
 use Rattle.std.proofs.Common.{◌≡◌, ◌<◌, ◌∙◌, ℕ, List, [], ◌∷◌, refl, sym, ap, subst, zero, suc, arith}
-use Rattle.std.proofs.Common.{length, take, get_or}
-use Rattle.std.specs.Prelude.{option_map}
+use Rattle.std.proofs.Common.{length, take, get_or, Some, inl, inr}
+use Rattle.std.specs.Prelude.{option_map, slice_get}
 use Rattle.std.proofs.lemmas.Option.{slice_get_read, slice_get-map}
 use Rattle.std.proofs.lemmas.List.{take-map}
 use Rattle.vortex_errors.specs.declared.error.VortexError.{VortexError}
@@ -58,3 +58,14 @@ module _ (cs : List ColumnView) (row : ℕ) where
     before = subst (λ (ts : List Tree). AllGive meaning cs row ts)
         (sym (take-map (λ a. a.tree) k xs)) give;
   }
+
+-- of the first tree that faults in a row it is the fault that is told
+pub first_there : (cs : List ColumnView) (row : ℕ) (e : VortexError) (ts : List Tree) (k : ℕ)
+    (t : Tree) → slice_get ts k ≡ Some t → FaultsAt meaning cs row t e
+    → AllGive meaning cs row (take k ts) → FaultsFirst meaning cs row ts e
+first_there cs row e [] k t there here before = cc
+first_there cs row e (x ∷ ts) zero t there here before =
+    let same : x ≡ t = cc in
+    inl (subst (λ (y : Tree). FaultsAt meaning cs row y e) (sym same) here)
+first_there cs row e (x ∷ ts) (suc k) t there here before =
+    inr (before.0, first_there cs row e ts k t there here before.1)

@@ -1,5 +1,6 @@
 -- What a parsed text leaves over a scope is what the text means there.
 use Rattle.std.proofs.Common.{◌≡◌, ℕ, List, [], ◌∷◌, map, Result, Ok, Err, None, ap, sym, ◌∙◌, subst, refl}
+use Rattle.std.proofs.Common.{inl, inr, Vec, Global}
 use Rattle.std.specs.Prelude.{IfOk, IfErr}
 use Rattle.vortex_types.specs.LogicalTypes.{Fields}
 use Rattle.vortex_syntax.specs.Syntax.{Syntax}
@@ -15,14 +16,25 @@ use Rattle.vortex_expressions.specs.Items.{Tree}
 use Rattle.vortex_expressions.specs.Stacks.{tree_left}
 use Rattle.vortex_expressions.specs.Binding.{tree_of, IsRefused}
 use Rattle.vortex_expressions.specs.Answers.{Answer, with_name, with_first, answers_left}
-use Rattle.vortex_expressions.specs.Reading.{Finds, ToldBy, ReadUnlessMemory, RefusesAs, TellsWhy}
+use Rattle.vortex_expressions.specs.Reading.{Finds, ToldBy, ToldFor, ReadUnlessMemory, RefusesAs}
+use Rattle.vortex_expressions.specs.Reading.{TellsWhy}
+use Rattle.vortex_functions.specs.Walks.{AllMean}
 use Rattle.vortex_expressions.proofs.Whole.{tree_left-is}
 use Rattle.vortex_expressions.proofs.Sure.{IsTyped, sure_tree}
-use Rattle.vortex_expressions.proofs.Why.{why}
+use Rattle.vortex_expressions.proofs.Why.{why, unread_why}
+use Rattle.vortex_expressions.specs.declared.error.Reason.{Reason}
+use Rattle.vortex_expressions.specs.declared.error.Reason.TheVariants as reason
+use Rattle.vortex_syntax.specs.declared.error.SyntaxError.TheVariants as syntax
+use Rattle.vortex_syntax.specs.Tokens.{Token}
 use Rattle.vortex_expressions.proofs.Listing as listed
 use Rattle.vortex_program.specs.declared.form.Form.{Form}
 use Rattle.vortex_program.specs.declared.form.Form.TheVariants as form
+use Rattle.vortex_program.specs.declared.answer.Answer as bound
+use Rattle.vortex_program.specs.Naming.{IsNamedAnswer}
+use Rattle.vortex_program.specs.Programs.{trees_of}
 use Rattle.vortex_program.specs.Texts.{IsParsed, ReadsOne, MeansOne, Means, IsRefusedOver, StopsAt}
+use Rattle.vortex_program.specs.Texts.{AreAnswersOf}
+use Rattle.vortex_program.proofs.NamedTrees.{named_trees}
 
 -- one tree without a name
 abbrev one : Tree → List Answer
@@ -124,3 +136,52 @@ module _ (scope : Fields) (text : List ℕ) (ts : List Told) {A : Type 0} (view 
         → IfErr r (TellsWhy (StopsAt f) (IsRefusedOver f scope text) text)
     told_why form.Answers p r h = listed.told_why scope view text p.list ts p.read p.is r h
     told_why form.Condition p r h = why_one scope text ts p view r h
+
+-- the answers that are left, under their names; or memory ran out
+module _ (scope : Fields) (text : List ℕ) (ts : List Told) (f : Form) (parsed : IsParsed f text ts)
+    (list : List Answer) (left : answers_left scope ts ≡ answers list) where
+  abbrev Named : Result (Vec bound.Answer Global) ReadError → Type 0
+  Named r = ReadUnlessMemory r (λ v. AllMean (IsNamedAnswer scope) list v.items)
+
+  abbrev same : List Answer → List Answer
+  same xs = xs
+
+  pub named_found : (r : Result (Vec bound.Answer Global) ReadError) → Named r
+      → IfOk r (λ v. AreAnswersOf f scope text v.items)
+  named_found (Ok v) h = record {
+    list = list;
+    meant = found scope text ts same f parsed (Ok list) left;
+    each = h;
+  }
+  named_found (Err e) h = tt
+
+  pub named_only : (r : Result (Vec bound.Answer Global) ReadError) → Named r
+      → (other : List Answer) → Means f scope text other
+      → ReadUnlessMemory r (λ v. trees_of v.items ≡ map (λ a. a.tree) other)
+  named_only (Ok v) h other s =
+      named_trees scope list v.items h
+      ∙ ap (map (λ (a : Answer). a.tree)) (only scope text ts same f parsed (Ok list) left other s)
+  named_only (Err e) h other s = h
+
+  pub named_refused : (r : Result (Vec bound.Answer Global) ReadError) (w : Refusal)
+      → IsRefusedOver f scope text w → RefusesAs w r
+  named_refused r w s = absurd (refused scope text ts same f parsed (Ok list) left w s)
+
+  pub named_why : (r : Result (Vec bound.Answer Global) ReadError) → Named r
+      → IfErr r (TellsWhy (StopsAt f) (IsRefusedOver f scope text) text)
+  named_why (Ok v) h = tt
+  named_why (Err e) h =
+      unread_why (StopsAt f) (IsRefusedOver f scope text) text syntax.OutOfMemory e tt h
+
+module _ (Stops : List Token → ℕ → Type 0) (P Q : Refusal → Type 0)
+    (weaker : (r : Refusal) → P r → Q r) (text : List ℕ) where
+  for_weaker : (r : Reason) (byte : ℕ) → ToldFor Stops P text r byte
+      → ToldFor Stops Q text r byte
+  for_weaker reason.NoToken byte h = h
+  for_weaker (reason.Unexpected x) byte h = h
+  for_weaker reason.TooDeep byte h = h
+  for_weaker (reason.Refused r) byte (inl p) = inl (weaker r p)
+  for_weaker (reason.Refused r) byte (inr memory) = inr memory
+
+  pub why_weaker : (e : ReadError) → TellsWhy Stops P text e → TellsWhy Stops Q text e
+  why_weaker e h = for_weaker e.reason e.byte h

@@ -265,3 +265,15 @@ pub not_before : {V O : Type 0} (m : Meaning V O) (cs : List ColumnView) (from e
     → AllGiveWithin m cs 0 end ts → AllGiveWithin m cs 0 n ts
 not_before m cs from end n ts le faulty_there all =
     absurd (faulty_there (λ i low below. all i (omega arith) (omega (arith, le, below))))
+
+-- no tree faults in the rows before one, nor in it
+pub one_more_within : {V O : Type 0} (m : Meaning V O) (cs : List ColumnView) (row : ℕ)
+    (ts : List (Tree V O)) → AllGiveWithin m cs 0 row ts → AllGive m cs row ts
+    → AllGiveWithin m cs 0 (row + 1) ts
+one_more_within m cs row ts before here i low below = by (nat_lt i row) refl
+  where
+    by : (b : Bool) → nat_lt i row ≡ b → AllGive m cs i ts
+    by true e = before i low (grind (arith, e))
+    by false e =
+        let is : i ≡ row = grind (arith, e, below) in
+        subst (λ k. AllGive m cs k ts) (sym is) here

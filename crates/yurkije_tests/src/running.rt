@@ -66,11 +66,13 @@ fn columns_are_answered(rt: HostRuntime) {
 fn faults(rt: HostRuntime, text: &[u8], wanted: (usize, usize)) -> bool {
     match answers_of(rt.alloc(), text, &[numbers(), names()]) {
         Err(
-            RunError::Program(vortex_program::RunError::Fault {
-                row,
-                answer,
-                error: VortexError::Arithmetic(_),
-            }),
+            RunError::Program(
+                vortex_program::RunError::Fault {
+                    row,
+                    answer,
+                    error: VortexError::Arithmetic(_),
+                },
+            ),
         ) => same(rt, (row, answer), wanted),
         _ => false,
     }

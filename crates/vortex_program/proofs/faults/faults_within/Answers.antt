@@ -26,8 +26,8 @@ returns-in-Ok-clause-none c = λ is.
     none_within fixed_meaning c.args.first c.args.count cs ds have (trees_of c.args.answers.now)
     c.in-Ok.field-0.items c.requires.bound c.in-Ok.ensures
 
-pub returns-in-Err-clause-some : goal.returns-in-Err-clause-some
-returns-in-Err-clause-some c = λ is.
+pub returns-clause-some : goal.returns-clause-some
+returns-clause-some c = λ is.
     let cs = c.args.columns.now in
     let ds = c.deref.result.now in
     let trees = trees_of c.args.answers.now in

@@ -1,4 +1,4 @@
-use Rattle.std.proofs.Common.{List, add-one, subst, sym}
+use Rattle.std.proofs.Common.{rules, List, add-one, subst, sym}
 use Rattle.std.specs.Cow.{cow_value}
 use Rattle.vortex_columns.specs.ColumnView.{ColumnView}
 use Rattle.vortex_errors.specs.Answers.{UnlessMemory}

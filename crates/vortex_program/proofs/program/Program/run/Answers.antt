@@ -15,12 +15,12 @@ returns-in-Ok c rewrites =
     let cs = c.args.columns.now in
     let n = c.args.rows in
     let answers = c.in-Ok.answers.items in
-    let written = c.args.program.now.written.items in
-    let optimized = c.args.program.now.optimized.items in
+    let written = c.args.self.now.written.items in
+    let optimized = c.args.self.now.optimized.items in
     kept_answers cs n (trees_of written) (trees_of optimized) answers rewrites
     (subst (λ (xs : List bound.Answer). AllFit cs n (trees_of xs)) c.deref.ensures.value
-    c.in_default.ensures.0)
+    c.in_default.ensures.fit)
     (subst (λ (xs : List bound.Answer). All (RewritesKeepRows meaning cs n) (trees_of xs))
-    c.deref.ensures.value c.in_default.ensures.1)
+    c.deref.ensures.value c.in_default.ensures.kept)
     (subst (λ (xs : List bound.Answer). AllMean (Executes meaning cs n) (trees_of xs) answers)
     c.deref-2.ensures.value c.in-Ok.ensures)
