@@ -10,6 +10,9 @@ is_null_text format text =
     bytes_eq text format.null.now
     || list_any (λ other. bytes_eq text other.now) format.more_nulls.now
 
+abbrev pub is_line_end : ℕ → Bool
+is_line_end byte = (byte == 10) || (byte == 13)
+
 -- a byte at the start of a line begins a comment
 abbrev pub begins_comment : Option ℕ → ℕ → Bool
 begins_comment None byte = false

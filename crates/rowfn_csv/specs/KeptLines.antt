@@ -1,7 +1,9 @@
 -- The bytes of the last record that was read.
-use Rattle.std.specs.Prelude.{ℕ, List, [], Bool, ◌-◌, ◌&&◌, length, nat_le, slice_range}
+use Rattle.std.specs.Prelude.{◌≡◌, ℕ, List, [], Bool, ◌-◌, ◌&&◌, ◌++◌, length, nat_le, slice_range, take}
 use Rattle.std.specs.Prelude.{if◌then◌else◌}
 use Rattle.csv.specs.Reading.{reader_source}
+use Rattle.rowfn_csv.specs.Comments.{bytes_given, lines_after}
+use Rattle.rowfn_csv.specs.declared.comments.Lines.{Lines}
 use Rattle.rowfn_csv.specs.declared.tee.Tee.{Tee}
 use Rattle.rowfn_csv.specs.declared.records.Records.{Records}
 use Rattle.rowfn_csv.specs.declared.records.Span.{Span}
@@ -27,3 +29,12 @@ last_bytes rows = without_line_end (line_of rows rows.span)
 -- whether the reader below has told its end
 abbrev pub is_ended : {R : Type 0} → Records R → Bool
 is_ended rows = (reader_source rows.reader).ended
+
+-- the first bytes that are given are the last that are kept: line feeds in place of comments
+pub record GivesLines {R : Type 0} (count : ℕ) (buf : List ℕ) (lines : Lines) (tee : Tee R) : Type 0
+  where
+  pub before : List ℕ
+  pub bytes : List ℕ
+  pub kept : tee.kept.items ≡ before ++ bytes
+  pub given : take count buf ≡ bytes_given lines bytes
+  pub lines_are : tee.lines ≡ lines_after lines bytes

@@ -1,4 +1,5 @@
 pub mod Batches
+pub mod Comments
 pub mod Fields
 pub mod Formats
 pub mod KeptLines

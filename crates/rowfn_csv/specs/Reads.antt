@@ -1,6 +1,6 @@
 -- What a read of a record leaves as it was, and what is left behind the last record.
-use Rattle.std.specs.Prelude.{◌≡◌, ◌≢◌, ◌<◌, ◌-◌, ◌||◌, ◌==◌, ℕ, List, Bool, Option, true}
-use Rattle.std.specs.Prelude.{IsSome, length, drop, take, fold, slice_index, [], ◌∷◌}
+use Rattle.std.specs.Prelude.{◌≡◌, ◌≢◌, ◌<◌, ◌≤◌, ◌-◌, ◌||◌, ℕ, List, Bool, Option, true, false}
+use Rattle.std.specs.Prelude.{IsSome, length, drop, take, fold, slice_index, [], ◌∷◌, ⊤}
 use Rattle.std.specs.Prelude.{if◌then◌else◌}
 use Rattle.csv.specs.Reading.{reader_source}
 use Rattle.rowfn_csv.specs.declared.raw.Place.{Place}
@@ -10,6 +10,8 @@ use Rattle.rowfn_csv.specs.declared.records.Found.{Found}
 use Rattle.rowfn_csv.specs.declared.records.Found.TheVariants as found
 use Rattle.rowfn_csv.specs.declared.records.ReadError.{ReadError}
 use Rattle.rowfn_csv.specs.declared.tee.Tee.{Tee}
+use Rattle.rowfn_csv.specs.Formats.{is_line_end, begins_comment, is_comment_line}
+use Rattle.rowfn_csv.specs.KeptLines.{line_of}
 use Rattle.rowfn_csv.specs.Scanning.{place_behind}
 
 -- how fields are parted, and how long one may be, stay
@@ -28,9 +30,6 @@ pub record ReadsOne {R : Type 0} (old now : Records R) (result : Found) : Type 0
   pub kept : KeepsFormat old now
   pub why : TellsWhy result old.error now.error
 
-abbrev pub is_line_end : ℕ → Bool
-is_line_end byte = (byte == 10) || (byte == 13)
-
 -- where the byte behind these stands, of which the first begins a field
 abbrev pub place_after : ℕ → List ℕ → Place
 place_after delimiter bytes = fold (place_behind delimiter) at.Start bytes
@@ -44,15 +43,30 @@ pub record EndsLineAt (delimiter : ℕ) (bytes : List ℕ) (i : ℕ) : Type 0 wh
 abbrev pub HasLineEnd : ℕ → List ℕ → Type 0
 HasLineEnd delimiter bytes = (i : ℕ) × EndsLineAt delimiter bytes i
 
--- bytes from the first on that ends no line
-abbrev pub without_blank_lines : List ℕ → List ℕ
-without_blank_lines [] = []
-without_blank_lines (b ∷ bs) = if is_line_end b then without_blank_lines bs else b ∷ bs
+-- the last ones of bytes
+pub record IsEndOf (bytes rest : List ℕ) : Type 0 where
+  pub few : length rest ≤ length bytes
+  pub last : rest ≡ drop (length bytes - length rest) bytes
+
+-- bytes from the first record on: without the ends of lines and the comments before it; the first bytes
+-- may belong to a comment
+abbrev pub from_record : Option ℕ → Bool → List ℕ → List ℕ
+from_record comment in_comment [] = []
+from_record comment in_comment (b ∷ bs) =
+    if is_line_end b then from_record comment false bs
+    else (if in_comment || begins_comment comment b then from_record comment true bs else b ∷ bs)
 
 -- the bytes from a place of the input on, as far as they were read
 abbrev pub bytes_from : {R : Type 0} → Tee R → ℕ → List ℕ
 bytes_from tee start = drop (start - tee.first) tee.kept.items
 
--- those behind the last record, from the first on that ends no line
+-- those after the last record, from the next one on
 abbrev pub bytes_behind : {R : Type 0} → Records R → List ℕ
-bytes_behind rows = without_blank_lines (bytes_from (reader_source rows.reader) rows.span.end)
+bytes_behind rows =
+    from_record rows.format.comment false (bytes_from (reader_source rows.reader) rows.span.end)
+
+-- a record that was read is no comment: its line begins with no comment byte
+abbrev pub IsNoComment : {R : Type 0} → Found → Records R → Type 0
+IsNoComment found.Record rows = is_comment_line rows.format.comment (line_of rows rows.span) ≡ false
+IsNoComment found.End rows = ⊤
+IsNoComment found.Failed rows = ⊤

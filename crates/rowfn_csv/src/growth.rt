@@ -1,11 +1,12 @@
 //! How long the field is that is being read.
 
-use crate::raw::{Place, behind, ends_line};
+use crate::comments::{Line, Lines, line_after};
+use crate::raw::Place;
 
 /// How far the record that is being read was gone over, and how long its last field is there.
 #[derive(Clone, Copy)]
 pub struct Growth {
-    place: Place,
+    line: Line,
     seen: u64,
     len: usize,
 }
@@ -20,11 +21,19 @@ fn is_text(place: Place, byte: u8, delimiter: u8) -> bool {
     }
 }
 
+/// Where a byte of a record is; at the start of a field where it is in none.
+fn place_in(line: Line) -> Place {
+    match line {
+        Line::Record(place) => place,
+        _ => Place::Start,
+    }
+}
+
 impl Growth {
     /// Nothing is gone over of a record that begins at that place of the input.
     pub(crate) fn from(place: u64) -> Growth {
         Growth {
-            place: Place::Start,
+            line: Line::Start,
             seen: place,
             len: 0,
         }
@@ -35,20 +44,14 @@ impl Growth {
         self.seen
     }
 
-    /// Goes over a byte. One that ends a line begins a record, since only lines without a byte end
-    /// before the record.
-    fn pass(&mut self, byte: u8, delimiter: u8) {
+    /// Goes over a byte: a field begins with a line and after a delimiter, and comments have none.
+    fn pass(&mut self, byte: u8, lines: Lines) {
         self.seen = self.seen.saturating_add(1);
-        if ends_line(byte) && self.place != Place::Quoted {
-            self.place = Place::Start;
+        let before = place_in(self.line);
+        self.line = line_after(self.line, byte, lines.delimiter, lines.comment);
+        if place_in(self.line) == Place::Start {
             self.len = 0;
-            return;
-        }
-        let is_text = is_text(self.place, byte, delimiter);
-        self.place = behind(self.place, byte, delimiter);
-        if self.place == Place::Start {
-            self.len = 0;
-        } else if is_text {
+        } else if is_text(before, byte, lines.delimiter) {
             self.len = self.len.saturating_add(1);
         }
     }
@@ -59,14 +62,14 @@ impl Growth {
         &mut self,
         bytes: &[u8],
         from: usize,
-        delimiter: u8,
+        lines: Lines,
         limit: usize,
     ) -> bool {
         let Some(bytes) = bytes.get(from..) else {
             return false;
         };
         for byte in bytes {
-            self.pass(*byte, delimiter);
+            self.pass(*byte, lines);
             if self.len > limit {
                 return true;
             }

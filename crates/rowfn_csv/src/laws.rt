@@ -2,6 +2,7 @@
 //! contracts are proved.
 ghost use Rattle.rowfn_csv.specs.Records.{EachSaysFields};
 ghost use Rattle.rowfn_csv.specs.RoundTrip.{CellsReadBack};
+ghost use Rattle.rowfn_csv.specs.Comments.{CommentsAreSkipped};
 
 /// Whatever bytes a record has, they say fields, of which the last may be open.
 #[tactic(auto, using(crate::proofs::Said::each_says_fields))]
@@ -13,4 +14,9 @@ pub fn each_says_fields()
 /// fields that are those cells. The line is no comment, and no line ends within a bare field.
 pub fn cells_read_back()
     ensures { CellsReadBack }
+{}
+
+/// A comment is read as line feeds, up to the end of its line, and no comment begins within quotes.
+pub fn comments_are_skipped()
+    ensures { CommentsAreSkipped }
 {}

@@ -2,6 +2,7 @@
 #![tactic(auto)]
 
 pub mod batch;
+mod comments;
 mod fields;
 pub mod format;
 mod growth;

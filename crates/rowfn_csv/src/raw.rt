@@ -1,9 +1,10 @@
 //! What the bytes of a record tell beyond its fields: which fields stand in quotes, and whether the
 //! last quote is closed.
 ghost use Rattle.std.specs.Prelude.{◌≡◌, ◌≢◌, List, Bool, true, false, map, OnOk, IfOk};
-ghost use Rattle.std.specs.Prelude.{MatchBool};
+ghost use Rattle.std.specs.Prelude.{MatchBool, ◌≤◌, ◌<◌, length};
 ghost use Rattle.std.specs.Str.{bytes_eq};
-ghost use Rattle.rowfn_csv.specs.Reads.{is_line_end, without_blank_lines, HasLineEnd};
+ghost use Rattle.rowfn_csv.specs.Formats.{is_line_end};
+ghost use Rattle.rowfn_csv.specs.Reads.{from_record, HasLineEnd, IsEndOf};
 ghost use Rattle.rowfn_csv.specs.Records.{Field, SaysFields, is_quoted, quoted_at};
 ghost use Rattle.rowfn_csv.specs.Records.{without_line_end};
 ghost use Rattle.rowfn_csv.specs.Scanning.{place_behind, AreMarks, Knows};
@@ -54,21 +55,59 @@ pub fn is_text(field: &[u8], text: &[u8]) -> bool
 /// A byte order mark.
 pub const MARK: &[u8] = b"\xEF\xBB\xBF";
 
-/// The bytes without a byte order mark before them.
-pub(crate) fn without_mark(bytes: &[u8]) -> &[u8] {
-    bytes.strip_prefix(MARK).unwrap_or(bytes)
+/// Bytes of the input from a place on, without a byte order mark at the start of the input.
+pub(crate) fn without_mark(bytes: &[u8], place: u64) -> &[u8]
+    ensures { IsEndOf bytes.now result.now }
+{
+    match bytes.strip_prefix(MARK) {
+        Some(rest) if place == 0 => rest,
+        _ => bytes,
+    }
 }
 
-/// The record without the ends of lines before it.
-pub(crate) fn without_blank_lines(raw: &[u8]) -> &[u8]
-    ensures { result.now ≡ without_blank_lines raw.now }
+/// The bytes from the first record on: without the ends of lines and the comments before it.
+pub(crate) fn from_record(raw: &[u8], comment: Option<u8>) -> &[u8]
+    ensures { result.now ≡ from_record comment false raw.now }
 {
+    let mut in_comment = false;
     for (start, byte) in raw.iter().enumerate() {
-        if !ends_line(*byte) {
+        if ends_line(*byte) {
+            in_comment = false;
+        } else if in_comment || comment == Some(*byte) {
+            in_comment = true;
+        } else {
             return &raw[start..];
         }
     }
     &[]
+}
+
+/// How many bytes the first line has, with its end.
+fn line_len(bytes: &[u8]) -> usize
+    ensures within { result ≤ length bytes.now }
+    ensures some { 0 < length bytes.now → 0 < result }
+{
+    for (index, byte) in bytes.iter().enumerate() {
+        if ends_line(*byte) {
+            return match bytes.get(index + 1) {
+                Some(b'\n') if *byte == b'\r' => index + 2,
+                _ => index + 1,
+            };
+        }
+    }
+    bytes.len()
+}
+
+/// The bytes after the comments with which they begin.
+pub(crate) fn after_comments(bytes: &[u8], comment: Option<u8>) -> &[u8] {
+    let mut rest = bytes;
+    while let [first, ..] = rest {
+        if comment != Some(*first) {
+            break;
+        }
+        rest = &rest[line_len(rest)..];
+    }
+    rest
 }
 
 /// The record without the end of its line.

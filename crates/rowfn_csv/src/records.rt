@@ -4,7 +4,9 @@ ghost use Rattle.std.specs.Prelude.{OnOk, IsSome, None, true, false, unwrap_or, 
 ghost use Rattle.csv.specs.Records.{fields_of};
 ghost use Rattle.csv.specs.Reading.{reader_source};
 ghost use Rattle.rowfn_csv.specs.KeptLines.{line_of, last_bytes, is_ended};
+ghost use Rattle.rowfn_csv.specs.Comments.{BeginsLines};
 ghost use Rattle.rowfn_csv.specs.Reads.{ReadsOne, KeepsFormat, HasLineEnd, bytes_behind};
+ghost use Rattle.rowfn_csv.specs.Reads.{IsNoComment};
 ghost use Rattle.rowfn_csv.specs.Records.{Field, SaysFields, field_taken, field_spelled, has_surplus};
 ghost use Rattle.rowfn_csv.specs.declared.records.ReadError.TheVariants.{OutOfMemory};
 
@@ -15,7 +17,7 @@ use self::blank_lines::Ahead;
 use crate::batch::Batch;
 use crate::fields::{add_fields, has_surplus};
 use crate::format::Format;
-use crate::raw::{Quotes, has_line_end, is_closed, without_blank_lines, without_line_end};
+use crate::raw::{Quotes, from_record, has_line_end, is_closed, without_line_end};
 use crate::tee::Tee;
 use crate::truths::{Chosen, Spelled};
 use csv::{ByteRecord, Error, ErrorKind, Reader, ReaderBuilder};
@@ -95,6 +97,8 @@ impl<'a, R: Read> Records<'a, R> {
     pub fn new(alloc: Global, format: Format<'a>, limit: usize, reader: R) -> Records<'a, R>
         ensures format { (result.format ≡ format.entry) × (result.limit ≡ limit) }
         ensures reader { (reader_source result.reader).inner ≡ reader }
+        ensures lines { BeginsLines format.entry.delimiter format.entry.comment
+            (reader_source result.reader).lines }
         ensures none_read { (fields_of result.last ≡ []) × (result.is_outgrown ≡ false)
             × (result.span ≡ record { start = 0; end = 0 }) × (result.error ≡ None) }
     {
@@ -102,7 +106,7 @@ impl<'a, R: Read> Records<'a, R> {
             .delimiter(format.delimiter)
             .has_headers(false)
             .flexible(true)
-            .from_reader(alloc, Tee::new(alloc, reader, format.delimiter, limit));
+            .from_reader(alloc, Tee::new(alloc, reader, &format, limit));
         Records {
             reader,
             last: ByteRecord::new(alloc),
@@ -116,10 +120,12 @@ impl<'a, R: Read> Records<'a, R> {
         }
     }
 
-    /// Reads the next record, or the next line without a byte where that is one.
+    /// Reads the next record, or the next blank line where that is one. Skips comments: lines that
+    /// begin with the format's comment byte, outside quotes, up to the end of the line.
     #[inline(always)]
     pub fn read(&mut self) -> Found
-        ensures { ReadsOne self.old self.new result }
+        ensures reads { ReadsOne self.old self.new result }
+        ensures no_comment { self.old.format.blank_rows ≡ false → IsNoComment result self.new }
     {
         if self.format.blank_rows {
             self.read_with_blank_lines()
@@ -136,11 +142,12 @@ impl<'a, R: Read> Records<'a, R> {
         self.error.take().unwrap_or(ReadError::OutOfMemory)
     }
 
-    /// Reads the next record behind lines without a byte. One of which a field is too long is not
+    /// Reads the next record after blank lines and comments. One of which a field is too long is not
     /// read to its end.
     #[inline(always)]
     pub fn read_record(&mut self) -> Found
-        ensures { ReadsOne self.old self.new result }
+        ensures reads { ReadsOne self.old self.new result }
+        ensures no_comment { IsNoComment result self.new }
     {
         let start = self.reader.position().byte;
         self.reader.get_ref().begin_record(start);
@@ -189,7 +196,7 @@ impl<'a, R: Read> Records<'a, R> {
             (HasLineEnd self.now.format.delimiter (bytes_behind self.now)) }
     {
         let rest = self.reader.get_ref().from(self.span.end);
-        !has_line_end(without_blank_lines(rest), self.format.delimiter)
+        !has_line_end(from_record(rest, self.format.comment), self.format.delimiter)
     }
 
     /// The fields of the last record.

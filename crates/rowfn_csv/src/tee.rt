@@ -1,15 +1,18 @@
 //! A reader that keeps what was read.
 ghost use Rattle.std.specs.Io.{ReadsAtMost};
 
+use crate::comments::Lines;
+use crate::format::Format;
 use crate::growth::Growth;
 use crate::raw::MARK;
-use std::alloc::Global;
+use std::alloc::{AllocError, Global};
 use std::cell::Cell;
 use std::io::{self, ErrorKind, Read};
 
 /// A reader over another, which keeps the bytes that it gave from a place of the input on. Where it
-/// gives more than one byte, it gives a carriage return together with what stands behind it. It
-/// fails where the record that is being read has a field that is longer than a limit.
+/// gives more than one byte, it gives a carriage return together with what follows it. It gives line
+/// feeds for the bytes of comments, but keeps those. It fails where the record that is being read has
+/// a field that is longer than a limit.
 #[derive(Drop)]
 pub struct Tee<R> {
     inner: R,
@@ -18,7 +21,7 @@ pub struct Tee<R> {
     wanted: Cell<u64>,
     ended: bool,
     held: bool,
-    delimiter: u8,
+    lines: Lines,
     limit: usize,
     record: Cell<u64>,
     growth: Growth,
@@ -27,12 +30,14 @@ pub struct Tee<R> {
 
 impl<R: Read> Tee<R> {
     ghost use Rattle.std.specs.Prelude.{◌≡◌};
+    ghost use Rattle.rowfn_csv.specs.Comments.{BeginsLines};
     ghost use Rattle.rowfn_csv.specs.KeptLines.{bytes_between};
     ghost use Rattle.rowfn_csv.specs.Reads.{bytes_from};
 
     /// Nothing is read yet; takes no memory. `limit` is the greatest length of a field.
-    pub(crate) fn new(alloc: Global, inner: R, delimiter: u8, limit: usize) -> Tee<R>
-        ensures { result.inner ≡ inner }
+    pub(crate) fn new(alloc: Global, inner: R, format: &Format<'_>, limit: usize) -> Tee<R>
+        ensures inner { result.inner ≡ inner }
+        ensures lines { BeginsLines format.now.delimiter format.now.comment result.lines }
     {
         Tee {
             inner,
@@ -41,7 +46,7 @@ impl<R: Read> Tee<R> {
             wanted: Cell::new(0),
             ended: false,
             held: false,
-            delimiter,
+            lines: Lines::new(format.delimiter, format.comment),
             limit,
             record: Cell::new(0),
             growth: Growth::from(0),
@@ -108,7 +113,9 @@ impl<R: Read> Tee<R> {
     }
 
     /// Drops what nobody asks for again.
-    fn forget(&mut self) {
+    fn forget(&mut self)
+        ensures { self.new.lines ≡ self.old.lines }
+    {
         let passed = self.wanted.get().saturating_sub(self.first);
         let count = self.kept.len().min(passed as usize);
         if count == 0 {
@@ -122,9 +129,15 @@ impl<R: Read> Tee<R> {
 }
 
 impl<R: Read> Tee<R> {
+    ghost use Rattle.std.specs.Prelude.{◌≡◌, ◌++◌, ◌≤◌, length, take, OnOk, IfOk};
+    ghost use Rattle.rowfn_csv.specs.Comments.{bytes_given, lines_after};
+    ghost use Rattle.rowfn_csv.specs.KeptLines.{GivesLines};
+
     /// Whether a field of the record that is being read is longer than the limit. Goes over the
     /// record's bytes only where they are more than that, and over each once.
-    fn outgrows(&mut self) -> bool {
+    fn outgrows(&mut self) -> bool
+        ensures { self.new.lines ≡ self.old.lines }
+    {
         let end = self.first.saturating_add(self.kept.len() as u64);
         let start = self.record.get();
         if end.saturating_sub(start) <= self.limit as u64 {
@@ -135,12 +148,13 @@ impl<R: Read> Tee<R> {
         }
         let from = self.growth.seen().saturating_sub(self.first) as usize;
         self.growth
-            .outgrows(&self.kept, from, self.delimiter, self.limit)
+            .outgrows(&self.kept, from, self.lines, self.limit)
     }
 
     /// Reads, once more where a signal interrupts it.
     fn read_inner(&mut self, buf: &mut [u8]) -> io::Result<usize>
-        ensures { ReadsAtMost result buf.new }
+        ensures bound { ReadsAtMost result buf.new }
+        ensures lines { self.new.lines ≡ self.old.lines }
     {
         for _ in 0..u64::MAX {
             match self.inner.read(buf) {
@@ -153,7 +167,9 @@ impl<R: Read> Tee<R> {
 
     /// Writes a carriage return that was held back before what is read next; answers how many bytes
     /// that is.
-    fn give_held(&mut self, buf: &mut [u8]) -> usize {
+    fn give_held(&mut self, buf: &mut [u8]) -> usize
+        ensures { self.new.lines ≡ self.old.lines }
+    {
         match buf.first_mut() {
             Some(first) if self.held => {
                 *first = b'\r';
@@ -166,7 +182,8 @@ impl<R: Read> Tee<R> {
 
     /// Reads behind the first bytes of a buffer; answers how many bytes it then holds.
     fn read_behind(&mut self, buf: &mut [u8], count: usize) -> io::Result<usize>
-        ensures { ReadsAtMost result buf.new }
+        ensures bound { ReadsAtMost result buf.new }
+        ensures lines { self.new.lines ≡ self.old.lines }
     {
         if count >= buf.len() {
             return Ok(buf.len());
@@ -178,9 +195,27 @@ impl<R: Read> Tee<R> {
         Ok(count + more)
     }
 
+    /// Keeps the first bytes of a buffer, and writes line feeds over those of comments there.
+    fn keep(&mut self, buf: &mut [u8], count: usize) -> Result<(), AllocError>
+        requires { count ≤ length buf.old }
+        ensures kept { OnOk result
+            (self.new.kept.items ≡ self.old.kept.items ++ take count buf.old) }
+        ensures given { OnOk result
+            (take count buf.new ≡ bytes_given self.old.lines (take count buf.old)) }
+        ensures lines { OnOk result
+            (self.new.lines ≡ lines_after self.old.lines (take count buf.old)) }
+        ensures size { length buf.new ≡ length buf.old }
+    {
+        let bytes = &mut buf[..count];
+        self.kept.extend_from_slice(bytes)?;
+        self.lines.blank(bytes);
+        Ok(())
+    }
+
     /// Reads what is given next, and holds nothing back.
     fn read_whole(&mut self, buf: &mut [u8]) -> io::Result<usize>
-        ensures { ReadsAtMost result buf.new }
+        ensures bound { ReadsAtMost result buf.new }
+        ensures lines { self.new.lines ≡ self.old.lines }
     {
         let held = self.give_held(buf);
         let count = self.read_behind(buf, held)?;
@@ -189,21 +224,39 @@ impl<R: Read> Tee<R> {
         }
         Ok(count)
     }
-}
 
-impl<R: Read> Read for Tee<R> {
-    fn read(&mut self, buf: &mut [u8]) -> io::Result<usize> {
+    /// Holds back a carriage return at the end of the bytes that were read; returns how many are given.
+    fn hold_return(&mut self, buf: &[u8], count: usize) -> usize
+        requires { count ≤ length buf.now }
+        ensures fewer { result ≤ count }
+        ensures lines { self.new.lines ≡ self.old.lines }
+    {
+        if count > 1 && !self.ended && buf[count - 1] == b'\r' {
+            self.held = true;
+            return count - 1;
+        }
+        count
+    }
+
+    /// Reads and keeps what is given next.
+    fn read_kept(&mut self, buf: &mut [u8]) -> io::Result<usize>
+        ensures bound { ReadsAtMost result buf.new }
+        ensures given { IfOk result (λ n. GivesLines n buf.new self.old.lines self.new) }
+    {
         self.forget();
         if self.outgrows() {
             self.outgrown = true;
             return Err(io::Error::from(ErrorKind::FileTooLarge));
         }
-        let mut count = self.read_whole(buf)?;
-        if count > 1 && !self.ended && buf[count - 1] == b'\r' {
-            self.held = true;
-            count -= 1;
-        }
-        self.kept.extend_from_slice(&buf[..count])?;
+        let read = self.read_whole(buf)?;
+        let count = self.hold_return(buf, read);
+        self.keep(buf, count)?;
         Ok(count)
+    }
+}
+
+impl<R: Read> Read for Tee<R> {
+    fn read(&mut self, buf: &mut [u8]) -> io::Result<usize> {
+        self.read_kept(buf)
     }
 }

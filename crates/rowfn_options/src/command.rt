@@ -15,17 +15,17 @@ const AFTER_HELP: &str = "Rows are CSV. EXPRESSION is one answer or more:
   a is null, a is not null
   and or not                         three-valued, as in SQL
   cast(a as bool?)                   a truth value that may be null
-Types are bool, i8 to i64, u8 to u64 and utf8; a ? behind one allows null.
+Types are bool, i8 to i64, u8 to u64 and utf8; a ? after one allows null.
 There are no fractions, dates, functions, IN, CASE, || or %.
 
-Columns that --columns does not declare take their types from the first rows. With -e or -f the
-expression is lines: `col NAME TYPE` declares a column, `get`, `lit` and `call` make trees, `as NAME`
-names the last one; the trees that are left at the end are the answers.
+Columns that --columns does not declare take their types from the first rows. --columns also takes a
+column by its place, from 1, and gives it a name: '3 as category utf8'. Without a header columns are
+called c1, c2, .. by their places.
 
 Status: 1 a call faults in a row, or rows were left out, 2 input that does not fit, 3 reading,
 writing or memory, 4 a wrong expression, 64 wrong options.";
 
-/// What an option takes behind its name.
+/// What an option takes after its name.
 #[derive(Clone, Copy)]
 enum Takes {
     /// Nothing.
@@ -34,8 +34,8 @@ enum Takes {
     Text,
     /// A text, which may begin with a hyphen.
     AnyText,
-    /// A text each time that the option stands there.
-    Texts,
+    /// Such a text each time that the option is given.
+    AnyTexts,
     /// A number from 1 that 32 bits hold.
     Number32,
     /// A number from 1 that 64 bits hold.
@@ -75,8 +75,8 @@ const FLAG: Row = Row {
     ..TEXT
 };
 
-/// Where the expression and the rows stand.
-const SOURCES: [Row; 4] = [
+/// Where the expression and the rows are.
+const SOURCES: [Row; 3] = [
     Row {
         id: "input-file",
         value: "INPUT-FILE",
@@ -92,25 +92,17 @@ const SOURCES: [Row; 4] = [
         ..TEXT
     },
     Row {
-        id: "lines",
-        short: Some('e'),
-        takes: Takes::Texts,
-        value: "LINES",
-        help: "Lines of an expression, in place of EXPRESSION",
-        ..TEXT
-    },
-    Row {
-        id: "script",
+        id: "file",
+        long: Some("file"),
         short: Some('f'),
         value: "EXPRESSION-FILE",
-        against: [Some("lines"), None],
-        help: "A file of such lines, in place of EXPRESSION",
+        help: "The file whose text is the expression, in place of EXPRESSION",
         ..TEXT
     },
 ];
 
 /// What is done with rows.
-const ACTIONS: [Row; 8] = [
+const ACTIONS: [Row; 7] = [
     Row {
         id: "where",
         long: Some("where"),
@@ -120,24 +112,15 @@ const ACTIONS: [Row; 8] = [
         ..TEXT
     },
     Row {
-        id: "pick",
-        long: Some("pick"),
-        against: [Some("where"), None],
-        help: "Write the rows in which the last answer is true, as they stand",
-        ..FLAG
-    },
-    Row {
         id: "append",
         long: Some("append"),
-        against: [Some("pick"), None],
         help: "Write each row's own fields before its answers",
         ..FLAG
     },
     Row {
         id: "explain",
         long: Some("explain"),
-        against: [Some("pick"), None],
-        help: "Print what is answered, and of which types; write no rows",
+        help: "Print the expression with its types; write no rows",
         ..FLAG
     },
     Row {
@@ -145,14 +128,14 @@ const ACTIONS: [Row; 8] = [
         long: Some("errors"),
         value: "skip|stop",
         default: Some("stop"),
-        help: "What a row that is refused does: it is told and left out, or ends the stream",
+        help: "What a bad row does: it is reported and left out, or ends the stream",
         ..TEXT
     },
     Row {
         id: "errors-to",
         long: Some("errors-to"),
         value: "FILE",
-        help: "The file that tells of refused rows, as CSV: row, column, reason, field",
+        help: "The file that bad rows are reported in, as CSV: row, column, reason, field",
         ..TEXT
     },
     Row {
@@ -164,19 +147,18 @@ const ACTIONS: [Row; 8] = [
     Row {
         id: "progress",
         long: Some("progress"),
-        help: "Print, while rows flow, how many rows and bytes have",
+        help: "Print, while rows are read, how many rows and bytes were",
         ..FLAG
     },
 ];
 
 /// How rows are read.
-const READING: [Row; 7] = [
+const READING: [Row; 8] = [
     Row {
         id: "columns",
         long: Some("columns"),
         value: "COLUMNS",
-        against: [Some("lines"), Some("script")],
-        help: "Columns and their types: 'price i32, stock i32?, \"unit price\" i64'",
+        help: "Columns and their types: 'price i32, \"unit price\" i64?, 3 as category utf8'",
         ..TEXT
     },
     Row {
@@ -191,7 +173,7 @@ const READING: [Row; 7] = [
         takes: Takes::Number64,
         value: "N",
         default: Some("1"),
-        help: "The number by which the first row is told, as in a part of a whole",
+        help: "The number of the first row in reports, as for a part of a whole",
         ..TEXT
     },
     Row {
@@ -213,6 +195,15 @@ const READING: [Row; 7] = [
         ..TEXT
     },
     Row {
+        id: "ragged",
+        long: Some("ragged"),
+        value: "refuse|fit",
+        default: Some("refuse"),
+        help: "What a record of another length than the header is: a bad row, or, by fit, a row \
+               whose missing fields are null and whose fields past the header must be empty",
+        ..TEXT
+    },
+    Row {
         id: "flush",
         long: Some("flush"),
         help: "Write what is answered whenever the input pauses",
@@ -230,7 +221,7 @@ const READING: [Row; 7] = [
 ];
 
 /// How fields are written, in the input and in the output.
-const FIELDS: [Row; 6] = [
+const FIELDS: [Row; 8] = [
     Row {
         id: "delimiter",
         long: Some("delimiter"),
@@ -238,6 +229,21 @@ const FIELDS: [Row; 6] = [
         value: "BYTE",
         default: Some(","),
         help: "The byte between two fields; \\t is a tab",
+        ..TEXT
+    },
+    Row {
+        id: "output-delimiter",
+        long: Some("output-delimiter"),
+        value: "BYTE",
+        against: [Some("append"), None],
+        help: "The byte between two answers; that of --delimiter where there is none",
+        ..TEXT
+    },
+    Row {
+        id: "comment",
+        long: Some("comment"),
+        value: "BYTE",
+        help: "A line that begins with this byte is skipped",
         ..TEXT
     },
     Row {
@@ -250,17 +256,17 @@ const FIELDS: [Row; 6] = [
     Row {
         id: "no-header",
         long: Some("no-header"),
-        help: "No record names columns: they are the declared ones in their order",
+        help: "No record names columns: they are those of --columns, or else c1, c2, ..",
         ..FLAG
     },
     Row {
         id: "null",
         long: Some("null"),
         short: Some('n'),
-        takes: Takes::AnyText,
+        takes: Takes::AnyTexts,
         value: "TEXT",
         default: Some(""),
-        help: "What stands for null, in no quotes",
+        help: "A text that is null in no quotes; of several each is read, the first is written",
         ..TEXT
     },
     Row {
@@ -268,7 +274,7 @@ const FIELDS: [Row; 6] = [
         long: Some("blank-lines"),
         value: "null|skip",
         default: Some("skip"),
-        help: "What a line without a byte is: a row of one null, or nothing",
+        help: "What an empty line is: a row of one null, or nothing",
         ..TEXT
     },
     Row {
@@ -287,7 +293,11 @@ fn taking<'a>(arg: Arg<'a>, row: Row) -> Arg<'a> {
         Takes::Flag => arg.action(ArgAction::SetTrue),
         Takes::Text => arg.value_name(row.value),
         Takes::AnyText => arg.value_name(row.value).allow_hyphen_values(true),
-        Takes::Texts => arg.value_name(row.value).action(ArgAction::Append),
+        Takes::AnyTexts => {
+            arg.value_name(row.value)
+                .allow_hyphen_values(true)
+                .action(ArgAction::Append)
+        }
         Takes::Number32 => {
             arg.value_name(row.value)
                 .value_parser(value_parser!(u32).range(1..))
@@ -333,7 +343,7 @@ fn with_rows<'a>(alloc: Global, command: Command<'a>, rows: &[Row]) -> Result<Co
     Ok(command)
 }
 
-/// Where the expression and the rows stand.
+/// Where the expression and the rows are.
 fn with_sources<'a>(alloc: Global, command: Command<'a>) -> Result<Command<'a>, Error> {
     with_rows(alloc, command, &SOURCES)
 }
@@ -353,15 +363,14 @@ fn with_fields<'a>(alloc: Global, command: Command<'a>) -> Result<Command<'a>, E
     with_rows(alloc, command, &FIELDS)
 }
 
-/// The first word, which is the expression unless lines are.
+/// The first word, which is the expression unless a file is.
 fn expression<'a>(alloc: Global) -> Result<Arg<'a>, Error> {
     Ok(
         Arg::new(alloc, "expression")
             .value_name("EXPRESSION")
-            .required_unless_present("lines")?
-            .required_unless_present("script")?
+            .required_unless_present("file")?
             .required_unless_present("where")?
-            .help("What is answered in each row; not there with -e or -f"),
+            .help("What is answered in each row; not there with -f"),
     )
 }
 

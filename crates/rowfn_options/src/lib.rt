@@ -1,7 +1,10 @@
 //! The words that `rowfn_stream` is called with.
 #![tactic(auto)]
 
+mod bytes;
 mod command;
+mod fields;
 pub mod options;
+mod words;
 
 pub use options::{Action, Options, Source, read_options, status};

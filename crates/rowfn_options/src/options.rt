@@ -1,49 +1,54 @@
-//! What the words ask for.
-ghost use Rattle.std.specs.Prelude.{◌≡◌, IfOk, IfSome, IsTrue};
+//! What the options say.
+ghost use Rattle.std.specs.Prelude.{◌≡◌, IfOk};
 ghost use Rattle.clap.specs.Values.{kind_of};
-ghost use Rattle.std.specs.List.{list_any};
-ghost use Rattle.rowfn_options.specs.Fields.{is_quote_or_end, MayPart, MayBeNull, AreFields};
-ghost use Rattle.rowfn_options.specs.Fields.{ends_field, has_mark};
+ghost use Rattle.rowfn_options.specs.Fields.{AreFields};
 ghost use Rattle.rowfn_options.specs.Statuses.{status_of};
 
 use crate::command::command;
+use crate::fields::{Fields, asked_fields};
+use crate::words::{is_second, refusal};
 use clap::error::ErrorKind;
 use clap::{ArgMatches, Command, Error};
 use std::alloc::Global;
 
-/// What is done with rows.
+/// What is done with the expression.
 #[derive(Clone, Copy, Debug, PartialEq, Eq)]
 pub enum Action {
-    /// The answers are written.
+    /// Its answers are written.
     Answer,
-    /// The rows are written in which the last answer is true.
-    Pick,
-    /// The expression is printed, and no rows are read.
+    /// It is printed, and no rows are read.
     Explain,
 }
 
-/// Where the expression stands.
-#[derive(Drop)]
+/// Where the expression is.
+#[derive(Clone, Copy)]
 pub enum Source<'a> {
     /// Nowhere: rows are taken as they stand.
     Nowhere,
     /// In this text.
     Text(&'a str),
-    /// In the lines of the file of that name.
+    /// In the file of that name.
     File(&'a str),
-    /// In these lines.
-    Lines(Vec<&'a str>),
 }
 
-/// What the words ask for.
+/// What the options say.
 #[derive(Drop)]
 pub struct Options<'a> {
+    /// The byte between two fields of the input.
     pub delimiter: u8,
+    /// The byte between two fields of the output.
+    pub output_delimiter: u8,
+    /// The byte that begins comments, if there are any.
+    pub comment: Option<u8>,
     /// Whether the first record names the columns.
     pub header: bool,
-    /// What stands for null, in no quotes.
+    /// The text that is written for null, and is read as null in no quotes.
     pub null: &'a str,
-    /// Whether a line without a byte is a row of one null.
+    /// More texts that are read as null in no quotes.
+    pub more_nulls: Vec<&'a [u8]>,
+    /// Whether records are fitted that are shorter or longer than the header; else they are refused.
+    pub fits: bool,
+    /// Whether an empty line is a row of one null.
     pub blank_rows: bool,
     /// Whether truth values are read in any spelling.
     pub any_truths: bool,
@@ -51,137 +56,55 @@ pub struct Options<'a> {
     pub batch: u32,
     /// With how many bytes of the input those are enough; at least 1.
     pub batch_bytes: u64,
-    /// Whether rows are answered before more is read than has come.
+    /// Whether answers are written whenever the input pauses.
     pub flushes: bool,
     /// How many bytes a field has, at most; at least 1.
     pub max_field: u64,
-    /// The number by which the first row is told; at least 1.
+    /// The number of the first row in reports; at least 1.
     pub first_row: u64,
     pub action: Action,
     /// Whether each row's own fields are written before its answers.
     pub appends: bool,
     /// Whether the rows are counted at the end.
     pub summary: bool,
-    /// Whether it is told, while rows flow, how many have.
+    /// Whether it is printed, while rows are read, how many were.
     pub progress: bool,
-    /// Whether a row that is refused is left out; else it ends the stream.
+    /// Whether a bad row is left out; else it ends the stream.
     pub skips: bool,
-    /// The file that tells of rows that are refused.
+    /// The file that bad rows are reported in.
     pub errors_to: Option<&'a str>,
-    /// The columns that are declared in words.
+    /// The columns that are declared.
     pub columns: Option<&'a str>,
     /// Whether columns that are not declared take their types from the first rows.
     pub infers: bool,
-    /// In which rows is answered, where not in all.
+    /// In which rows is answered, if not in all.
     pub condition: Option<&'a str>,
     pub source: Source<'a>,
     /// The file of the rows, where they are not those of standard input.
     pub input: Option<&'a str>,
 }
 
-/// Whether a byte is a quote, or ends a line.
-fn is_quote_or_end(byte: u8) -> bool
-    ensures { result ≡ is_quote_or_end byte }
-{
-    byte == b'"' || byte == b'\r' || byte == b'\n'
-}
-
-/// The byte that a word says: a byte of ASCII that is neither a quote nor the end of a line, or a
-/// tab as `\t`.
-fn read_delimiter(word: &str) -> Option<u8>
-    ensures { IfSome result MayPart }
-{
-    if word == "\\t" {
-        return Some(b'\t');
-    }
-    match word.as_bytes() {
-        [byte] if byte.is_ascii() && !is_quote_or_end(*byte) => Some(*byte),
-        _ => None,
-    }
-}
-
-/// Whether a byte ends a field that stands in no quotes, or asks for quotes.
-fn ends_field(byte: u8, delimiter: u8) -> bool
-    ensures { result ≡ ends_field delimiter byte }
-{
-    byte == delimiter || is_quote_or_end(byte)
-}
-
-/// Whether such a byte stands in a text.
-fn has_end(text: &str, delimiter: u8) -> bool
-    ensures { result ≡ list_any (ends_field delimiter) text.now }
-{
-    text.as_bytes()
-        .iter()
-        .any(|byte| ends_field(*byte, delimiter))
-}
-
-/// Whether a text begins with a byte order mark.
-fn has_mark(text: &str) -> bool
-    ensures { result ≡ has_mark text.now }
-{
-    text.as_bytes().starts_with(b"\xef\xbb\xbf".as_slice())
-}
-
-/// Whether a text can stand for null: in no quotes it is read back as one field, also where it is
-/// the first of the input, whose byte order mark is passed over.
-fn is_bare(text: &str, delimiter: u8) -> bool
-    ensures { IsTrue result → MayBeNull delimiter text.now }
-{
-    !has_mark(text) && !has_end(text, delimiter)
-}
-
-/// Whether a word is the second of two; it may be no other.
-fn is_second(word: &str, first: &str, second: &str) -> Option<bool> {
-    if word == second {
-        Some(true)
-    } else if word == first {
-        Some(false)
-    } else {
-        None
-    }
-}
-
-/// Why the words are refused.
-fn refusal(command: &mut Command<'_>, kind: ErrorKind, message: &str) -> Result<Error, Error> {
-    Ok(command.error(kind, message)?)
-}
-
 fn asked_action(matches: &ArgMatches<'_>) -> Action {
     if matches.get_flag("explain") {
         Action::Explain
-    } else if matches.get_flag("pick") {
-        Action::Pick
     } else {
         Action::Answer
     }
 }
 
-/// Whether the expression is lines.
-fn has_lines(matches: &ArgMatches<'_>) -> bool {
-    matches.contains_id("lines") || matches.contains_id("script")
-}
-
-/// Where the expression stands: the first word is it, where lines are not.
-fn asked_source<'a>(alloc: Global, matches: &ArgMatches<'a>) -> Result<Source<'a>, Error> {
-    if let Some(name) = matches.get_str("script") {
-        return Ok(Source::File(name));
-    }
-    if let Some(words) = matches.get_strs("lines") {
-        let mut lines = Vec::new(alloc);
-        lines.extend_from_slice(words)?;
-        return Ok(Source::Lines(lines));
-    }
-    match matches.get_str("expression") {
-        Some(text) => Ok(Source::Text(text)),
-        None => Ok(Source::Nowhere),
+/// Where the expression is: the first word is it, where no file is.
+fn asked_source<'a>(matches: &ArgMatches<'a>) -> Source<'a> {
+    match (matches.get_str("file"), matches.get_str("expression")) {
+        (Some(name), _) => Source::File(name),
+        (None, Some(text)) => Source::Text(text),
+        (None, None) => Source::Nowhere,
     }
 }
 
-/// The words that may name the file of the rows: the first one where the expression is lines, else
+/// The words that may name the file of the rows: the first one where the expression is in a file, else
 /// the second one.
 fn input_words<'a>(matches: &ArgMatches<'a>) -> [Option<&'a str>; 2] {
-    if has_lines(matches) {
+    if matches.contains_id("file") {
         [matches.get_str("expression"), matches.get_str("input-file")]
     } else {
         [matches.get_str("input-file"), None]
@@ -197,14 +120,14 @@ fn asked_input<'a>(
         ([word, None], None) => word,
         ([None, None], named) => named,
         _ => {
-            let message = "the rows are those of one file: with -e and -f the first word is it";
+            let message = "expected one file of rows: with --file the first word is it";
             return Err(refusal(command, ErrorKind::ArgumentConflict, message)?);
         }
     };
     Ok(name.filter(|name| *name != "-"))
 }
 
-/// The file that tells of rows that are refused: none that the rows are read from.
+/// The file that bad rows are reported in: not that of the rows.
 fn asked_errors_to<'a>(
     matches: &ArgMatches<'a>,
     command: &mut Command<'_>,
@@ -212,20 +135,20 @@ fn asked_errors_to<'a>(
 ) -> Result<Option<&'a str>, Error> {
     let name = matches.get_str("errors-to");
     if name.is_some() && name == input {
-        let message = "the file of --errors-to is that of the rows";
+        let message = "--errors-to: expected another file than that of the rows";
         return Err(refusal(command, ErrorKind::ArgumentConflict, message)?);
     }
     Ok(name)
 }
 
-/// What is done with rows that are refused.
+/// What is done with bad rows.
 #[derive(Clone, Copy)]
 struct Refused<'a> {
     skips: bool,
     errors_to: Option<&'a str>,
 }
 
-/// What is done with rows that are refused.
+/// What is done with bad rows.
 fn asked_refused<'a>(
     matches: &ArgMatches<'a>,
     command: &mut Command<'_>,
@@ -233,76 +156,36 @@ fn asked_refused<'a>(
 ) -> Result<Refused<'a>, Error> {
     let errors = matches.get_str("errors").unwrap_or("stop");
     let Some(skips) = is_second(errors, "stop", "skip") else {
-        let message = "rows that are refused stop the stream, or skip leaves them out";
+        let message = "--errors: expected skip or stop";
         return Err(refusal(command, ErrorKind::InvalidValue, message)?);
     };
     let errors_to = asked_errors_to(matches, command, input)?;
     Ok(Refused { skips, errors_to })
 }
 
-/// How fields are written, as the words say it.
-#[derive(Clone, Copy)]
-struct Fields<'a> {
-    delimiter: u8,
-    null: &'a str,
-    blank_rows: bool,
-    any_truths: bool,
-}
-
-/// How fields are written.
-fn asked_fields<'a>(
-    matches: &ArgMatches<'a>,
-    command: &mut Command<'_>,
-) -> Result<Fields<'a>, Error>
-    ensures { IfOk result (λ fields. AreFields fields.delimiter fields.null.now) }
-{
-    let Some(delimiter) = read_delimiter(matches.get_str("delimiter").unwrap_or(",")) else {
-        let message = "the delimiter is one byte of ASCII, no quote and no end of a line";
-        return Err(refusal(command, ErrorKind::InvalidValue, message)?);
-    };
-    let null = matches.get_str("null").unwrap_or("");
-    if !is_bare(null, delimiter) {
-        let message =
-            "the text for null has no delimiter, no quote, no end of a line and no byte order \
-                       mark in it";
-        return Err(refusal(command, ErrorKind::InvalidValue, message)?);
-    }
-    let blank_lines = matches.get_str("blank-lines").unwrap_or("skip");
-    let Some(blank_rows) = is_second(blank_lines, "skip", "null") else {
-        let message = "lines without a byte are null, or skip passes over them";
-        return Err(refusal(command, ErrorKind::InvalidValue, message)?);
-    };
-    let truths = matches.get_str("bool").unwrap_or("plain");
-    let Some(any_truths) = is_second(truths, "plain", "any") else {
-        let message = "truth values are read in any spelling, or plain as true and false";
-        return Err(refusal(command, ErrorKind::InvalidValue, message)?);
-    };
-    Ok(Fields {
-        delimiter,
-        null,
-        blank_rows,
-        any_truths,
-    })
-}
-
-/// What the words that matched ask for.
+/// The options of the words that matched.
 fn options_of<'a>(
-    alloc: Global,
     matches: &ArgMatches<'a>,
     fields: Fields<'a>,
     input: Option<&'a str>,
     refused: Refused<'a>,
-) -> Result<Options<'a>, Error>
-    ensures { IfOk result (λ options. (options.delimiter ≡ fields.entry.delimiter)
-        × (options.null ≡ fields.entry.null)) }
+) -> Options<'a>
+    ensures bytes { (result.delimiter ≡ fields.entry.bytes.delimiter)
+        × (result.output_delimiter ≡ fields.entry.bytes.output_delimiter)
+        × (result.comment ≡ fields.entry.bytes.comment) }
+    ensures nulls { (result.null ≡ fields.entry.nulls.written)
+        × (result.more_nulls ≡ fields.entry.nulls.others) }
 {
-    let source = asked_source(alloc, matches)?;
-    Ok(Options {
-        delimiter: fields.delimiter,
+    Options {
+        delimiter: fields.bytes.delimiter,
+        output_delimiter: fields.bytes.output_delimiter,
+        comment: fields.bytes.comment,
         header: !matches.get_flag("no-header"),
-        null: fields.null,
-        blank_rows: fields.blank_rows,
-        any_truths: fields.any_truths,
+        null: fields.nulls.written,
+        more_nulls: fields.nulls.others,
+        fits: fields.shapes.fits,
+        blank_rows: fields.shapes.blank_rows,
+        any_truths: fields.shapes.any_truths,
         batch: matches.get_one::<u32>("batch").unwrap_or(2048),
         batch_bytes: matches.get_one::<u64>("batch-bytes").unwrap_or(1 << 20),
         flushes: matches.get_flag("flush"),
@@ -317,27 +200,28 @@ fn options_of<'a>(
         columns: matches.get_str("columns"),
         infers: !matches.get_flag("no-infer"),
         condition: matches.get_str("where"),
-        source,
+        source: asked_source(matches),
         input,
-    })
+    }
 }
 
-/// What the words after the program's name ask for; the first word is that name. Refused for wrong
-/// words, with the text to print; so are `--help` and `--version`.
+/// The options that the words after the program's name say; the first word is that name. Fails for
+/// wrong words, with the text to print; so do `--help` and `--version`.
 pub fn read_options<'a>(alloc: Global, words: &'a [String]) -> Result<Options<'a>, Error>
-    // Which options the words ask for is tested; what is answered can part fields and be read back.
-    ensures { IfOk result (λ options. AreFields options.delimiter options.null.now) }
+    // Which options the words say is tested; fields that are written so can be read back.
+    ensures { IfOk result (λ options. AreFields options.delimiter options.output_delimiter
+        options.comment options.null.now options.more_nulls.items) }
 {
     let mut command = command(alloc)?;
     let matches = command.try_get_matches_from_mut(words)?;
-    let fields = asked_fields(&matches, &mut command)?;
+    let fields = asked_fields(alloc, &matches, &mut command)?;
     let input = asked_input(&matches, &mut command)?;
     let refused = asked_refused(&matches, &mut command, input)?;
-    options_of(alloc, &matches, fields, input, refused)
+    Ok(options_of(&matches, fields, input, refused))
 }
 
-/// What the program ends with where its words give no options: 0 where help or the version was asked
-/// for, 3 where memory is refused, and 64 for wrong words.
+/// The program's status where its words give no options: 0 where help or the version was asked for, 3
+/// where an allocation failed, and 64 for wrong words.
 pub fn status(error: &Error) -> u8
     ensures { result ≡ status_of (kind_of error.now) }
 {

@@ -3,6 +3,7 @@ ghost use Rattle.std.specs.Prelude.{◌≡◌};
 ghost use Rattle.rowfn_csv.specs.Reads.{ReadsOne, KeepsFormat};
 
 use super::{Found, ReadError, Records, Span};
+use crate::raw::after_comments;
 use csv::ByteRecord;
 use std::alloc::Global;
 use std::io::Read;
@@ -70,6 +71,15 @@ impl<R: Read> Records<'_, R> {
         }
     }
 
+    /// The place after a byte order mark and the comments at a place.
+    fn blank_from(&self, place: u64) -> u64 {
+        let tee = self.reader.get_ref();
+        let place = tee.behind_mark(place);
+        let bytes = tee.from(place);
+        let rest = after_comments(bytes, self.format.comment);
+        place.saturating_add((bytes.len() - rest.len()) as u64)
+    }
+
     /// Gives the next line without a byte, or else the record behind such lines.
     #[inline(always)]
     pub(super) fn read_with_blank_lines(&mut self) -> Found
@@ -83,12 +93,12 @@ impl<R: Read> Records<'_, R> {
                 Found::End => self.reader.position().byte,
                 Found::Failed => return Found::Failed,
             };
-            if place <= self.reader.get_ref().behind_mark(given.end) {
+            if place <= self.blank_from(given.end) {
                 return found;
             }
             self.hold(given, found, place);
         }
-        let place = self.reader.get_ref().behind_mark(self.span.end);
+        let place = self.blank_from(self.span.end);
         if place < self.ahead.span.start {
             return self.give_blank(place);
         }
