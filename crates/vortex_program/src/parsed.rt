@@ -58,7 +58,7 @@ pub fn parse_answers(alloc: Global, text: &str) -> Result<Parsed<'_>, ReadError>
 /// A tree as the one answer of a condition.
 fn one_answer<'t>(alloc: Global, tree: SyntaxTree<'t>) -> Result<Vec<SyntaxAnswer<'t>>, ReadError>
     ensures { ReadUnlessMemory result
-        (λ answers. map answer_in answers.items ≡ unnamed tree) }
+        (λ answers. map answer_in answers.items ≡ unnamed tree.entry) }
 {
     let mut answers = Vec::new(alloc);
     match answers.push(SyntaxAnswer { tree, name: None }) {

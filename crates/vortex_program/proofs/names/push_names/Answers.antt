@@ -2,7 +2,7 @@ use Rattle.std.proofs.Common.{◌∙◌, ◌++◌, ℕ, List, ap, map, string_by
 use Rattle.std.specs.List.{flat_map}
 use Rattle.vortex_syntax.specs.Postfix.{step_in}
 use Rattle.vortex_program.specs.Names.{step_names}
-use Rattle.vortex_program.proofs.Naming.{flat_of_map}
+use Rattle.vortex_program.proofs.Flattened.{flat_of_map}
 use Rattle.vortex_program.proofs.names.push_names.Goals as goal
 
 pub returns : goal.returns

@@ -2,7 +2,7 @@ use Rattle.std.proofs.Common.{◌≡◌, ◌∙◌, ◌++◌, List, ap, map, str
 use Rattle.std.specs.List.{flat_map}
 use Rattle.vortex_syntax.specs.AnswerLists.{answer_in}
 use Rattle.vortex_program.specs.Names.{answer_names}
-use Rattle.vortex_program.proofs.Naming.{flat_of_map}
+use Rattle.vortex_program.proofs.Flattened.{flat_of_map}
 use Rattle.vortex_program.proofs.parsed.Parsed.names.Goals as goal
 
 pub returns : goal.returns
