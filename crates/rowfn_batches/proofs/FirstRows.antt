@@ -3,6 +3,7 @@ use Rattle.std.proofs.Common.{◌≡◌, ◌∙◌, ◌*◌, ℕ, List, Option, 
 use Rattle.std.proofs.Common.{ap, sym, subst}
 use Rattle.std.specs.Prelude.{IfOk}
 use Rattle.std.specs.Borrow.{Bor}
+use Rattle.std.proofs.Math.Logic.{∥∥₁_map}
 use Rattle.std.proofs.lemmas.List.{take-map}
 use Rattle.vortex_columns.specs.ColumnView.{ColumnView}
 use Rattle.vortex_types.specs.TypeOf.{struct_fields}
@@ -43,8 +44,9 @@ module _ (x : Asked) (fs : List (Option (Bor (List ℕ)))) (n w : ℕ) (counted 
       record { even = here.0; said = here.1 }
 
 -- the columns of first rows do not serve a tree
-pub unserved : (x : Asked) (fs : List Field) (n : ℕ) (cs : List ColumnView) → AreFirst x fs n cs
-    → (e : VortexError) → UnlessMemory (RefusesColumnsFirst cs n (trees_asked x)) e
+pub unserved : {Known : Type 0} (x : Asked) (fs : List Field) (n : ℕ) (cs : List ColumnView) → AreFirst x fs n cs
+    → (e : VortexError) → (known : ∥ Known ∥₁)
+    → (Known → UnlessMemory (RefusesColumnsFirst cs n (trees_asked x)) e)
     → IsUnserved x fs (end.Refused e)
-unserved x fs n cs first OutOfMemory h = tt
-unserved x fs n cs first e h = (n, cs, first, h)
+unserved {Known} x fs n cs first OutOfMemory known h = tt
+unserved {Known} x fs n cs first e known h = (n, cs, first, ∥∥₁_map known h)

@@ -4,6 +4,7 @@ pub mod FirstRows
 pub mod Flowing
 pub mod Optimized
 pub mod Starting
+pub mod Explained
 pub mod Leftmost
 pub mod Layouts
 pub mod Lines

@@ -2,6 +2,8 @@
 use Rattle.std.proofs.Common.{◌≡◌, ℕ, zero, suc, ◌+◌, ◌*◌, ◌<◌, ◌≤◌, List, [], ◌∷◌, Option, length}
 use Rattle.std.proofs.Common.{take, arith}
 use Rattle.std.proofs.Common.{mul-le-mul_left, mul_comm, lt_of_not-le}
+use Rattle.std.proofs.Math.Logic.{∥∥₁_elim}
+use Rattle.std.proofs.Props.{props}
 use Rattle.std.proofs.lemmas.List.{length-take}
 use Rattle.vortex_columns.specs.ColumnView.{ColumnView}
 use Rattle.vortex_expressions.specs.Items.{Tree}
@@ -33,14 +35,15 @@ module _ (x : Asked) (fs : List Field) where
   pub have_rows : (n : ℕ) (answers : List ColumnView) → AreAnswers x fs n answers
       → HaveRows n answers
   have_rows n answers a =
-      all_have a.columns n (trees_asked x) answers a.mean
+      λ k d lt. ∥∥₁_elim a.mean (search props)
+      (λ m. all_have a.columns n (trees_asked x) answers m k d lt)
 
   within_answers : (number : ℕ → ℕ) (fit : ℕ) (other : Option StreamError) (n : ℕ)
       (e : Option StreamError)
       → EndsAnswers x fs number fit other n e → n ≤ fit
   within_answers number fit other n e (with_them is ended) = omega (arith, is)
   within_answers number fit other n e (at_fault columns k fault told is first faulty tells) =
-      omega (arith, faulty.below)
+      ∥∥₁_elim faulty (search props) (λ h. omega (arith, is, h.below))
 
   within_fitting : (places : List ℕ) (number : ℕ → ℕ) (count : ℕ) (behind : Option StreamError)
       (n : ℕ)

@@ -75,11 +75,11 @@ module _ (x : Asked) (fs : List Field) where
     pub said : AreColumns (struct_fields x.program.now.scope) (first_fields n) n (width_of x) cs
 
   -- each answer has the value of its tree in each of the first n rows in which the tree has one: what
-  -- rules make of trees may drop a fault
+  -- rules make of trees may drop a fault. What is said by way of those rules is a bare fact, ∥ .. ∥₁.
   pub record AreAnswers (n : ℕ) (answers : List ColumnView) : Type 0 where
     pub columns : List ColumnView
     pub first : AreFirst n columns
-    pub mean : AnswersTrees columns n (trees_asked x) answers
+    pub mean : ∥ AnswersTrees columns n (trees_asked x) answers ∥₁
 
   -- of so many rows whose fields fit all are answered, and what ends them does; or those before the
   -- first in which a tree faults as it was written, which is reported
@@ -88,7 +88,7 @@ module _ (x : Asked) (fs : List Field) where
     with_them : n ≡ fit → e ≡ other → EndsAnswers number fit other n e
     at_fault : (columns : List ColumnView) (k : ℕ) (fault : VortexError) (told : StreamError)
         → e ≡ Some told → AreFirst fit columns
-        → FaultsFirstThere columns fit (trees_asked x) n k fault
+        → ∥ FaultsFirstThere columns fit (trees_asked x) n k fault ∥₁
         → TellsFault number n fault told
         → EndsAnswers number fit other n e
 
@@ -97,7 +97,7 @@ module _ (x : Asked) (fs : List Field) where
   IsUnserved (end.Refused e) =
       UnlessMemory
       (λ e. (n : ℕ) × (columns : List ColumnView) × AreFirst n columns
-      × RefusesColumnsFirst columns n (trees_asked x) e)
+      × ∥ RefusesColumnsFirst columns n (trees_asked x) e ∥₁)
       e
   IsUnserved end.OutOfMemory = ⊤
   IsUnserved e = ⊥

@@ -11,7 +11,7 @@ use vortex_program::{Answer, Program};
 pub struct Placed {
     pub program: Program,
     pub places: Vec<Option<usize>>,
-    pub ghost optimized: { AreOptimized program.written.items program.optimized.items },
+    pub ghost optimized: { ∥ AreOptimized program.written.items program.optimized.items ∥₁ },
 }
 
 impl Placed {

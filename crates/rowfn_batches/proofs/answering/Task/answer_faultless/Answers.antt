@@ -1,3 +1,4 @@
+use Rattle.std.proofs.Math.Logic.{∥∥₁_map}
 use Rattle.rowfn_batches.proofs.Optimized.{rewrites}
 use Rattle.rowfn_batches.proofs.answering.Task.answer_faultless.Goals as goal
 
@@ -5,5 +6,5 @@ pub returns-in-Ok-clause-rows : goal.returns-in-Ok-clause-rows
 returns-in-Ok-clause-rows c = record {
   columns = c.in_ok-columns.columns.items;
   first = c.in_ok-columns.ensures;
-  mean = c.in-Ok.ensures (rewrites c.args.self.now.asked);
+  mean = ∥∥₁_map (rewrites c.args.self.now.asked) c.in-Ok.ensures;
 }
