@@ -9,7 +9,7 @@ use Rattle.vortex_program.specs.declared.form.Form.TheVariants as form
 use Rattle.vortex_program.specs.declared.parsed.Parsed.{Parsed}
 use Rattle.rowfn_queries.specs.declared.binding.Binding.{Binding}
 use Rattle.rowfn_queries.specs.declared.error.QueryError.{QueryError}
-use Rattle.rowfn_queries.specs.declared.query.Question.{Question}
+use Rattle.rowfn_queries.specs.declared.question.Question.{Question}
 use Rattle.rowfn_queries.specs.declared.texts.Texts.{Texts}
 use Rattle.rowfn_queries.specs.Columns.{with_all, with_texts}
 use Rattle.rowfn_queries.specs.DeclaredColumns.{declared_by}

@@ -10,7 +10,7 @@ use Rattle.vortex_program.specs.declared.form.Form.TheVariants as form
 use Rattle.vortex_program.specs.Names.{AreNamesOf}
 use Rattle.vortex_program.specs.Programs.{trees_of, AreOptimized}
 use Rattle.vortex_program.specs.Texts.{AreAnswersOf}
-use Rattle.rowfn_queries.specs.declared.query.Question.{Question}
+use Rattle.rowfn_queries.specs.declared.question.Question.{Question}
 use Rattle.rowfn_queries.specs.declared.query.Query.{Query}
 use Rattle.rowfn_queries.specs.declared.query.Words.{Words}
 use Rattle.rowfn_queries.specs.DeclaredColumns.{DeclaredColumns}

@@ -16,7 +16,7 @@ use Rattle.rowfn_queries.specs.declared.error.Place.{Place}
 use Rattle.rowfn_queries.specs.declared.error.Place.TheVariants as place
 use Rattle.rowfn_queries.specs.declared.error.QueryError.{QueryError}
 use Rattle.rowfn_queries.specs.declared.error.QueryError.TheVariants as error
-use Rattle.rowfn_queries.specs.declared.query.Question.{Question}
+use Rattle.rowfn_queries.specs.declared.question.Question.{Question}
 use Rattle.rowfn_queries.specs.declared.query.Words.{Words}
 use Rattle.rowfn_queries.specs.DeclaredColumns.{DeclaredColumns}
 use Rattle.rowfn_queries.specs.Queries.{AskedBy}

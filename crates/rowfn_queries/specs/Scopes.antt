@@ -84,11 +84,7 @@ abbrev mutual
   pub columns_behind : DeclaredColumns → List Token → Outcome DeclaredColumns
   columns_behind d [] = refuses reason.NoName
   columns_behind d (number digits ∷ ts) = placed_behind d (place_said digits) ts
-  columns_behind d (name w ∷ ts) = named_behind d None (name w ∷ ts)
-  columns_behind d (nullable w ∷ ts) = named_behind d None (nullable w ∷ ts)
-  columns_behind d (quoted w ∷ ts) = named_behind d None (quoted w ∷ ts)
-  columns_behind d (text w ∷ ts) = named_behind d None (text w ∷ ts)
-  columns_behind d (sign s ∷ ts) = named_behind d None (sign s ∷ ts)
+  columns_behind d (t ∷ ts) = and_then (new_name d.fields t) (λ w. typed_behind d None w ts)
 
   pub placed_behind : DeclaredColumns → Outcome ℕ → List Token → Outcome DeclaredColumns
   placed_behind d (refuses r) ts = refuses r

@@ -2,7 +2,6 @@
 ghost use Rattle.std.specs.Prelude.{◌≡◌, ◌⊎◌, IfOk, IfErr, MatchResult, true, false};
 ghost use Rattle.vortex_types.specs.LogicalTypes.{no_fields};
 ghost use Rattle.vortex_types.specs.TypeOf.{struct_fields};
-ghost use Rattle.vortex_program.specs.Programs.{AreOptimized};
 ghost use Rattle.rowfn_queries.specs.Bindings.{RefusesWidened, columns_in, sampled_in};
 ghost use Rattle.rowfn_queries.specs.Columns.{with_all, with_texts};
 ghost use Rattle.rowfn_queries.specs.DeclaredColumns.{declared_by};
@@ -15,6 +14,7 @@ use crate::again::Again;
 use crate::binding::Binding;
 use crate::declared::{Declared, read_scope};
 use crate::error::QueryError;
+use crate::question::Question;
 use crate::sample::{Sample, read_sample};
 use crate::scopes::{add_all, add_named};
 use crate::texts::Texts;
@@ -22,7 +22,6 @@ use rowfn_csv::Format;
 use std::alloc::Global;
 use std::io::Read;
 use vortex_columns::{StructFields, VortexResult};
-use vortex_program::Program;
 
 /// The words that ask, and how columns get their types.
 #[derive(Clone, Copy)]
@@ -37,15 +36,6 @@ pub struct Words<'a> {
     pub header: bool,
     /// Whether columns that are not declared take their types from the first rows.
     pub infers: bool,
-}
-
-/// A text that is asked of rows: its program, and where the program's columns stand in a row.
-#[derive(Drop)]
-pub struct Question {
-    pub program: Program,
-    /// The place of each column, counted from 0; none where the header says it.
-    pub places: Vec<Option<usize>>,
-    pub ghost optimized: { AreOptimized program.written.items program.optimized.items },
 }
 
 /// What is asked of rows: the answers, and the condition, each over the columns that it reads.
