@@ -7,6 +7,7 @@ use Rattle.vortex_types.specs.TypeOf.{struct_fields}
 use Rattle.vortex_program.specs.declared.form.Form.{Form}
 use Rattle.vortex_program.specs.declared.form.Form.TheVariants as form
 use Rattle.vortex_program.specs.declared.parsed.Parsed.{Parsed}
+use Rattle.vortex_program.specs.Texts.{IsRead}
 use Rattle.rowfn_queries.specs.declared.binding.Binding.{Binding}
 use Rattle.rowfn_queries.specs.declared.error.QueryError.{QueryError}
 use Rattle.rowfn_queries.specs.declared.question.Question.{Question}
@@ -21,8 +22,17 @@ use Rattle.rowfn_queries.specs.Refusals.{RefusesText}
 -- the text of that form is parsed, where there is one
 abbrev pub IsParsedBy : Form → Option (Bor (List ℕ)) → Option Parsed → Type 0
 IsParsedBy f None None = ⊤
-IsParsedBy f (Some text) (Some p) = (p.form ≡ f) × (p.text.now ≡ text.now)
+IsParsedBy f (Some text) (Some p) = (p.form ≡ f) × (p.text.now ≡ text.now) × IsRead p
 IsParsedBy f o p = ⊥
+
+-- a parsed text, where there is one, is what was parsed
+abbrev pub IsReadWhere : Option Parsed → Type 0
+IsReadWhere None = ⊤
+IsReadWhere (Some p) = IsRead p
+
+pub record AreRead (texts : Texts) : Type 0 where
+  pub answers : IsReadWhere texts.answers
+  pub condition : IsReadWhere texts.condition
 
 module _ (b : Binding) where
   abbrev pub columns_in : Fields

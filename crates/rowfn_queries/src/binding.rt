@@ -5,6 +5,8 @@ ghost use Rattle.vortex_types.specs.TypeOf.{struct_fields};
 ghost use Rattle.vortex_program.specs.Programs.{trees_of};
 ghost use Rattle.rowfn_queries.specs.Bindings.{all_in, named_in, read_in, IsAskedIn, RefusesIn};
 ghost use Rattle.rowfn_queries.specs.Bindings.{IsBoundIn, RefusesWhere, RefusesBound};
+ghost use Rattle.rowfn_queries.specs.Bindings.{IsReadWhere, AreRead};
+ghost use Rattle.vortex_program.specs.Texts.{IsRead};
 ghost use Rattle.rowfn_queries.specs.Queries.{IsTruthFor};
 ghost use Rattle.rowfn_queries.specs.Refusals.{RefusesTruth};
 
@@ -84,7 +86,8 @@ impl Binding<'_> {
 
     /// The question that a parsed text asks.
     fn ask(&self, parsed: &Parsed<'_>) -> Result<Question, QueryError>
-        ensures { MatchResult result (IsAskedIn self.now parsed.now.form parsed.now.text.now)
+        ensures { IsRead parsed.now
+            → MatchResult result (IsAskedIn self.now parsed.now.form parsed.now.text.now)
             (RefusesIn self.now parsed.now.form parsed.now.text.now) }
     {
         let form = parsed.form;
@@ -105,7 +108,8 @@ impl Binding<'_> {
 
     /// The question that a parsed text asks, where there is one.
     fn ask_where(&self, parsed: &Option<Parsed<'_>>) -> Result<Option<Question>, QueryError>
-        ensures { MatchResult result (IsBoundIn self.now parsed.now) (RefusesWhere self.now parsed.now) }
+        ensures { IsReadWhere parsed.now → MatchResult result (IsBoundIn self.now parsed.now)
+            (RefusesWhere self.now parsed.now) }
     {
         let Some(parsed) = parsed else {
             return Ok(None);
@@ -121,8 +125,9 @@ impl Binding<'_> {
         &self,
         texts: &Texts<'_>,
     ) -> Result<(Option<Question>, Option<Question>), QueryError>
-        ensures { MatchResult result
-            (λ p. IsBoundIn self.now texts.now.answers p.0 × IsBoundIn self.now texts.now.condition p.1)
+        ensures { AreRead texts.now → MatchResult result
+            (λ p. IsBoundIn self.now texts.now.answers p.0
+            × IsBoundIn self.now texts.now.condition p.1)
             (RefusesBound self.now texts.now) }
     {
         let condition = match self.ask_where(&texts.condition) {

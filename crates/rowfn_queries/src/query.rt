@@ -2,7 +2,7 @@
 ghost use Rattle.std.specs.Prelude.{◌≡◌, ◌⊎◌, IfOk, IfErr, MatchResult, true, false};
 ghost use Rattle.vortex_types.specs.LogicalTypes.{no_fields};
 ghost use Rattle.vortex_types.specs.TypeOf.{struct_fields};
-ghost use Rattle.rowfn_queries.specs.Bindings.{RefusesWidened, columns_in, sampled_in};
+ghost use Rattle.rowfn_queries.specs.Bindings.{RefusesWidened, AreRead, columns_in, sampled_in};
 ghost use Rattle.rowfn_queries.specs.Columns.{with_all, with_texts};
 ghost use Rattle.rowfn_queries.specs.DeclaredColumns.{declared_by};
 ghost use Rattle.rowfn_queries.specs.Queries.{IsQuery};
@@ -68,7 +68,8 @@ fn with_header_names(
     names: &[String],
     error: QueryError,
 ) -> QueryError
-    ensures { (result ≡ error) ⊎ RefusesWidened binding.entry names.now texts.now result }
+    ensures { AreRead texts.now
+        → (result ≡ error) ⊎ RefusesWidened binding.entry names.now texts.now result }
 {
     let columns = match widened(binding, names) {
         Ok(columns) => columns,

@@ -9,5 +9,5 @@ pub struct Question {
     pub program: Program,
     /// The place of each column, counted from 0; none where the header says it.
     pub places: Vec<Option<usize>>,
-    pub ghost optimized: { AreOptimized program.written.items program.optimized.items },
+    pub ghost optimized: { ∥ AreOptimized program.written.items program.optimized.items ∥₁ },
 }
