@@ -313,9 +313,10 @@ uint32_t yk_answer_text(struct yk_expression *expression, size_t answer, bool op
 
 /* Runs the expression over a batch: as many columns as there are fields, each of the field's kind,
  * nullable as the field is, and of `rows` rows. Refused with the column and the row that are wrong,
- * or with the first row in which an answer, as it was written, faults and the first answer that does
- * there. What is run is optimized, which may drop a fault: then there are answers, of any value in
- * that row, and in all others those of the expression as it was written. */
+ * or with the first row in which an answer faults as it is run, and the first answer that does there;
+ * as it was written it faults there, too. What is run is optimized, which may drop a fault: then there
+ * are answers, of any value in that row, and in all others those of the expression as it was written.
+ * So batches answer as the whole does. */
 uint32_t yk_run(struct yk_expression *expression,
                 const struct yk_column *columns, size_t count, size_t rows,
                 struct yk_answers *answers, struct yk_error *error);

@@ -60,6 +60,10 @@ TellsName ds j e = ⊥
 abbrev pub trees_asked : Asked → List Tree
 trees_asked x = trees_of x.program.now.written.items
 
+-- what rules make of them, which is what runs
+abbrev pub trees_run : Asked → List Tree
+trees_run x = trees_of x.program.now.optimized.items
+
 -- how many columns are declared
 abbrev pub width_of : Asked → ℕ
 width_of x = field_count (struct_fields x.program.now.scope)
@@ -82,13 +86,13 @@ module _ (x : Asked) (fs : List Field) where
     pub mean : ∥ AnswersTrees columns n (trees_asked x) answers ∥₁
 
   -- of so many rows whose fields fit all are answered, and what ends them does; or those before the
-  -- first in which a tree faults as it was written, which is reported
+  -- first in which a tree faults as it runs, which is reported
   pub data EndsAnswers (number : ℕ → ℕ) (fit : ℕ) (other : Option StreamError) (n : ℕ)
       (e : Option StreamError) : Type 0 where
     with_them : n ≡ fit → e ≡ other → EndsAnswers number fit other n e
     at_fault : (columns : List ColumnView) (k : ℕ) (fault : VortexError) (told : StreamError)
         → e ≡ Some told → AreFirst fit columns
-        → ∥ FaultsFirstThere columns fit (trees_asked x) n k fault ∥₁
+        → ∥ FaultsFirstThere columns fit (trees_run x) n k fault ∥₁
         → TellsFault number n fault told
         → EndsAnswers number fit other n e
 

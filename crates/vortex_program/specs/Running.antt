@@ -41,9 +41,16 @@ module _ (cs : List ColumnView) (n : ℕ) (ts : List Tree) where
     pub before : (i : ℕ) → i < row → AllGive meaning cs i ts
     pub there : FaultsThere cs row ts k e
 
-  -- why trees answer nothing over columns: a row faults, or the columns do not serve; or memory ran
-  -- out
-  abbrev pub RefusesTrees : RunError → Type 0
-  RefusesTrees (run.Fault row k e) = FaultsFirstThere row k e
-  RefusesTrees (run.Refused e) = UnlessMemory (RefusesColumnsFirst cs n ts) e
-  RefusesTrees run.OutOfMemory = ⊤
+-- it is the first row in which a tree faults; or memory ran out
+abbrev pub IsFault : List ColumnView → ℕ → List Tree → RunError → Type 0
+IsFault cs n ts (run.Fault row k e) = FaultsFirstThere cs n ts row k e
+IsFault cs n ts (run.Refused e) = ⊥
+IsFault cs n ts run.OutOfMemory = ⊤
+
+-- why trees return no columns: in a row one faults, as they run; or the columns are not valid for one,
+-- as it was written; or memory ran out
+abbrev pub RefusesTrees : List ColumnView → ℕ → List Tree → List Tree → RunError → Type 0
+RefusesTrees cs n written optimized (run.Fault row k e) = FaultsFirstThere cs n optimized row k e
+RefusesTrees cs n written optimized (run.Refused e) =
+    UnlessMemory (RefusesColumnsFirst cs n written) e
+RefusesTrees cs n written optimized run.OutOfMemory = ⊤

@@ -4,7 +4,7 @@ ghost use Rattle.vortex_interface.specs.Bound.{IsBound};
 ghost use Rattle.std.specs.Prelude.{All};
 ghost use Rattle.vortex_program.specs.Executing.{AllFit};
 ghost use Rattle.vortex_program.specs.Programs.{trees_of, AreRewrites};
-ghost use Rattle.vortex_program.specs.Running.{AnswersTrees, RefusesTrees};
+ghost use Rattle.vortex_program.specs.Running.{AnswersTrees, IsFault, RefusesTrees};
 
 use crate::answer::Answer;
 use crate::executing::execute_answers;
@@ -29,12 +29,14 @@ pub enum RunError {
     OutOfMemory,
 }
 
-/// The first row in which an answer faults; or that memory ran out.
+/// The first row in which an answer faults; or that memory ran out. The columns are valid for the
+/// answers.
 fn fault_of(alloc: Global, answers: &[Answer], columns: &[Column], rows: usize) -> RunError
-    requires bound { All IsBound (trees_of answers.now) }
-    requires fit { AllFit columns.now rows (trees_of answers.now) }
-    ensures { RefusesTrees columns.now rows (trees_of answers.now) result }
+    ensures { IsFault columns.now rows (trees_of answers.now) result }
 {
+    if check_answers(alloc, answers, columns, rows).is_err() {
+        return RunError::OutOfMemory;
+    }
     match first_row_fault(alloc, answers, columns, rows) {
         Ok(Some(fault)) => RunError::Fault {
             row: fault.row,
@@ -51,8 +53,9 @@ impl Program {
     /// trees that run are rewrites of those that were written.
     ///
     /// Fails where the columns are not valid for an answer, as it was written; then with the first
-    /// row in which one faults. Rules may drop a fault: then there is an answer, of any value in
-    /// that row.
+    /// row in which one faults, as it runs. There it faults as it was written, too. Rules may drop a
+    /// fault: then there is an answer, of any value in that row. So batches return what the whole
+    /// returns.
     pub fn run(
         &self,
         alloc: Global,
@@ -63,7 +66,8 @@ impl Program {
             → MatchResult result
             (λ answers. AnswersTrees columns.now rows (trees_of self.now.written.items)
             answers.items)
-            (RefusesTrees columns.now rows (trees_of self.now.written.items)) }
+            (RefusesTrees columns.now rows (trees_of self.now.written.items)
+            (trees_of self.now.optimized.items)) }
     {
         if let Err(error) = check_answers(alloc, &self.written, columns, rows) {
             return Err(RunError::Refused(error));
@@ -71,7 +75,7 @@ impl Program {
         match execute_answers(alloc, &self.optimized, columns, rows) {
             Ok(answers) => Ok(answers),
             Err(VortexError::OutOfMemory) => Err(RunError::OutOfMemory),
-            Err(_) => Err(fault_of(alloc, &self.written, columns, rows)),
+            Err(_) => Err(fault_of(alloc, &self.optimized, columns, rows)),
         }
     }
 }

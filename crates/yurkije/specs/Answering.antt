@@ -43,7 +43,7 @@ pub data HoldsAnswers (p : ProgramView) (lent : List LentColumn) (rows : ℕ) (h
       → HoldsAnswers p lent rows held result old report
   refused : (columns : List ArrowColumn) (e : RunError) → AllSay lent columns
       → (AllMean (Rewrites meaning) p.written p.optimized
-      → RefusesRun p.scope rows columns p.written e)
+      → RefusesRun p.scope rows columns p.written p.optimized e)
       → Refuses (IsRunWords p.scope p.names rows e) (run_told e) held result old report
       → HoldsAnswers p lent rows held result old report
   without_memory : Wants held result old report → HoldsAnswers p lent rows held result old report

@@ -16,9 +16,10 @@ module _ (scope : Fields) (n : ℕ) (columns : List ArrowColumn) (ts : List Tree
     pub served : AllServe scope n columns
     pub answered : AnswersTrees (map arrow_column columns) n ts answers
 
-  -- why a batch has no answers: a column is wrong, or the trees return nothing over those that the
-  -- buffers say
-  abbrev pub RefusesRun : RunError → Type 0
-  RefusesRun (run.Batch e) = RefusesBatch scope n columns e
-  RefusesRun (run.Program e) =
-      AllServe scope n columns × RefusesTrees (map arrow_column columns) n ts e
+-- why a batch has no answers: a column is wrong, or the trees return nothing over those that the
+-- buffers say, as they were written and as they run
+abbrev pub RefusesRun : Fields → ℕ → List ArrowColumn → List Tree → List Tree → RunError → Type 0
+RefusesRun scope n columns written optimized (run.Batch e) = RefusesBatch scope n columns e
+RefusesRun scope n columns written optimized (run.Program e) =
+    AllServe scope n columns
+    × RefusesTrees (map arrow_column columns) n written optimized e

@@ -23,8 +23,9 @@ pub enum RunError {
 /// value in each row in which it has one. So says each program that is read: what runs are
 /// rewrites of what was written.
 ///
-/// Fails first for the columns, then with the first row in which an answer, as it was written,
-/// faults. Rules may drop a fault: then there is an answer, of any value in that row.
+/// Fails first for the columns, then with the first row in which an answer faults, as it runs; there
+/// it faults as it was written, too. Rules may drop a fault: then there is an answer, of any value in
+/// that row.
 pub fn run_program(
     alloc: Global,
     program: &Program,
@@ -36,7 +37,7 @@ pub fn run_program(
         (λ answers. AnswersBatch (struct_fields program.now.scope) rows columns.now
         (trees_of program.now.written.items) answers.items)
         (RefusesRun (struct_fields program.now.scope) rows columns.now
-        (trees_of program.now.written.items)) }
+        (trees_of program.now.written.items) (trees_of program.now.optimized.items)) }
 {
     let columns = match read_batch(alloc, &program.scope, columns, rows) {
         Ok(columns) => columns,
