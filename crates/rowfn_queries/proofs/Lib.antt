@@ -1,4 +1,5 @@
 pub mod SeenMore
 pub mod Refusing
 pub mod Gathering
+pub mod Placed
 pub mod WordsRead

@@ -1,5 +1,9 @@
 -- What is asked by words, from what parsed texts ask.
-use Rattle.std.proofs.Common.{◌≡◌, ℕ, List, Option, Some, None, Bor, subst, inl, inr}
+use Rattle.std.proofs.Common.{◌≡◌, ◌∙◌, ℕ, List, Option, Some, None, Bor, String, Global, subst, sym}
+use Rattle.std.proofs.Common.{ap, inl, inr}
+use Rattle.vortex_types.specs.LogicalTypes.{Fields, no_fields}
+use Rattle.vortex_types.specs.TypeOf.{struct_fields}
+use Rattle.vortex_types.specs.declared.dtype.fields.StructFields.{StructFields}
 use Rattle.std.specs.Prelude.{◌⊎◌}
 use Rattle.vortex_program.specs.declared.form.Form.{Form}
 use Rattle.vortex_program.specs.declared.form.Form.TheVariants as form
@@ -11,9 +15,12 @@ use Rattle.rowfn_queries.specs.declared.query.Words.{Words}
 use Rattle.rowfn_queries.specs.declared.texts.Texts.{Texts}
 use Rattle.rowfn_queries.specs.Bindings.{IsParsedBy, IsBoundIn, IsAskedIn, RefusesIn, RefusesWhere}
 use Rattle.rowfn_queries.specs.Bindings.{RefusesBound, by_condition, by_answers, columns_in, sampled_in}
-use Rattle.rowfn_queries.specs.Bindings.{read_in, placed_in}
+use Rattle.rowfn_queries.specs.Bindings.{read_in, placed_in, IsReadWhere, AreRead, RefusesWidened}
+use Rattle.rowfn_queries.specs.Columns.{with_all, with_texts}
+use Rattle.rowfn_queries.specs.DeclaredColumns.{DeclaredColumns}
 use Rattle.rowfn_queries.specs.Queries.{AskedBy}
-use Rattle.rowfn_queries.specs.Refusals.{RefusesBy, RefusesBinding}
+use Rattle.rowfn_queries.specs.Reading.{DeclaredBy, AreInferred, as_declared, by_header}
+use Rattle.rowfn_queries.specs.Refusals.{RefusesBy, RefusesBinding, RefusesWords, by_binding}
 use Rattle.rowfn_queries.specs.Refusals as refusals
 
 module _ (b : Binding) (f : Form) where
@@ -37,8 +44,23 @@ module _ (b : Binding) (f : Form) where
       subst (λ (x : Form). RefusesIn b x text.now e) h.0
       (subst (λ (w : List ℕ). RefusesIn b p.form w e) h.1 g)
 
+read_where : (f : Form) (o : Option (Bor (List ℕ))) (p : Option Parsed) → IsParsedBy f o p
+    → IsReadWhere p
+read_where f None None h = tt
+read_where f None (Some p) h = absurd h
+read_where f (Some text) None h = absurd h
+read_where f (Some text) (Some p) h = h.2
+
+pub are_read : (t : Texts) (answers condition : Option (Bor (List ℕ)))
+    → IsParsedBy form.Answers answers t.answers → IsParsedBy form.Condition condition t.condition
+    → AreRead t
+are_read t answers condition a c = record {
+  answers = read_where form.Answers answers t.answers a;
+  condition = read_where form.Condition condition t.condition c;
+}
+
 -- why the texts of words are refused
-pub bound_refused : (b : Binding) (t : Texts) (e : QueryError)
+bound_refused : (b : Binding) (t : Texts) (e : QueryError)
     → IsParsedBy form.Answers b.words.answers t.answers
     → IsParsedBy form.Condition b.words.condition t.condition
     → RefusesBound b t e → RefusesBinding b.words (columns_in b) (sampled_in b) e
@@ -48,3 +70,34 @@ bound_refused b t e answers condition (by_answers q asked h) =
     refusals.by_answers (placed_in b) q
     (asked_by b form.Condition b.words.condition t.condition q condition asked)
     (refused_by b form.Answers b.words.answers t.answers e answers h)
+
+module _ (b : Binding) (t : Texts) (d : DeclaredColumns) (names : List (String Global))
+    (e result : QueryError) (same : columns_in b ≡ d.fields)
+    (declares : DeclaredBy b.words.columns d) (inferred : AreInferred (sampled_in b))
+    (answers : IsParsedBy form.Answers b.words.answers t.answers)
+    (condition : IsParsedBy form.Condition b.words.condition t.condition) where
+  over_widened : RefusesWidened b names t result → RefusesWords b.words result
+  over_widened w =
+      let wide = columns_in w.wide in
+      let answers_there =
+      subst (λ (x : Words). IsParsedBy form.Answers x.answers t.answers) (sym w.same_words) answers in
+      let condition_there =
+      subst (λ (x : Words). IsParsedBy form.Condition x.condition t.condition) (sym w.same_words)
+      condition in
+      let there = bound_refused w.wide t result answers_there condition_there w.refused in
+      let words_here =
+      subst (λ (x : Words). RefusesBinding x wide (sampled_in w.wide) result) w.same_words there in
+      by_binding d (sampled_in b) wide declares inferred
+      (by_header names
+      (w.columns
+      ∙ ap (λ (fs : Fields). with_texts names (with_all (sampled_in b) (with_all fs no_fields))) same))
+      (subst (λ (x : Bor StructFields). RefusesBinding b.words wide (struct_fields x.now) result)
+      w.same_sample words_here)
+
+  pub refused_so : RefusesBound b t e → (result ≡ e) ⊎ RefusesWidened b names t result
+      → RefusesWords b.words result
+  refused_so h (inl is) =
+      by_binding d (sampled_in b) (columns_in b) declares inferred (as_declared same)
+      (subst (λ (x : QueryError). RefusesBinding b.words (columns_in b) (sampled_in b) x) (sym is)
+      (bound_refused b t e answers condition h))
+  refused_so h (inr w) = over_widened w

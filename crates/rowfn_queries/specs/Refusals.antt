@@ -28,18 +28,19 @@ abbrev pub place_of : Form → Place
 place_of form.Answers = place.Expression
 place_of form.Condition = place.Where
 
--- one of the trees has that type, which is not of truth values
-pub record IsNoTruth (ts : List Tree) (t : LogicalType) : Type 0 where
-  pub tree : Tree
-  pub among : Contains ts tree
-  pub typed : tree_type meaning tree ≡ Some t
-  pub other : is_bool_type t ≡ false
+-- the tree has that type, which is not of truth values; or memory ran out
+abbrev pub IsNoTruth : Tree → QueryError → Type 0
+IsNoTruth t (error.NoTruth u) =
+    (tree_type meaning t ≡ Some (type_of u)) × (is_bool_type (type_of u) ≡ false)
+IsNoTruth t error.OutOfMemory = ⊤
+IsNoTruth t e = ⊥
 
--- a condition is no truth value; or memory ran out
-abbrev pub RefusesTruth : Form → List Tree → QueryError → Type 0
-RefusesTruth f ts (error.NoTruth t) = (f ≡ form.Condition) × IsNoTruth ts (type_of t)
-RefusesTruth f ts error.OutOfMemory = ⊤
-RefusesTruth f ts e = ⊥
+-- one of the trees of a condition is no truth value; or memory ran out
+pub record RefusesTruth (f : Form) (ts : List Tree) (e : QueryError) : Type 0 where
+  pub tree : Tree
+  pub of_condition : f ≡ form.Condition
+  pub among : Contains ts tree
+  pub told : IsNoTruth tree e
 
 -- why a text is refused over columns; or memory ran out
 abbrev pub RefusesOver : Form → Fields → List ℕ → QueryError → Type 0

@@ -7,8 +7,8 @@ ghost use Rattle.rowfn_queries.specs.Bindings.{all_in, named_in, read_in, IsAske
 ghost use Rattle.rowfn_queries.specs.Bindings.{IsBoundIn, RefusesWhere, RefusesBound};
 ghost use Rattle.rowfn_queries.specs.Bindings.{IsReadWhere, AreRead};
 ghost use Rattle.vortex_program.specs.Texts.{IsRead};
-ghost use Rattle.rowfn_queries.specs.Queries.{IsTruthFor};
-ghost use Rattle.rowfn_queries.specs.Refusals.{RefusesTruth};
+ghost use Rattle.rowfn_queries.specs.Queries.{IsTruth, IsTruthFor};
+ghost use Rattle.rowfn_queries.specs.Refusals.{IsNoTruth, RefusesTruth};
 
 use crate::declared::Declared;
 use crate::error::QueryError;
@@ -19,6 +19,7 @@ use crate::scopes::{add_all, add_wanted};
 use crate::texts::{Texts, place_of};
 use std::alloc::Global;
 use vortex_columns::{StructFields, VortexResult};
+use vortex_functions::{BoundExpression, NoCustom};
 use vortex_program::{Answer, Form, Parsed, Program};
 
 /// The columns that texts may read: some are declared, others have the types of their fields.
@@ -32,6 +33,17 @@ pub(crate) struct Binding<'a> {
     pub(crate) sampled: &'a StructFields,
 }
 
+/// Fails where a tree is no truth value.
+fn check_tree(alloc: Global, tree: &BoundExpression<NoCustom>) -> Result<(), QueryError>
+    ensures { MatchResult result (λ _. IsTruth tree.now) (IsNoTruth tree.now) }
+{
+    let dtype = tree.dtype();
+    if dtype.is_boolean() {
+        return Ok(());
+    }
+    Err(QueryError::NoTruth(dtype.try_clone(alloc)?))
+}
+
 /// Fails where a condition is no truth value.
 fn check_truth(alloc: Global, form: Form, answers: &[Answer]) -> Result<(), QueryError>
     ensures { MatchResult result (λ _. IsTruthFor form (trees_of answers.now))
@@ -41,8 +53,9 @@ fn check_truth(alloc: Global, form: Form, answers: &[Answer]) -> Result<(), Quer
         return Ok(());
     }
     for answer in answers {
-        if !answer.tree.dtype().is_boolean() {
-            return Err(QueryError::NoTruth(answer.tree.dtype().try_clone(alloc)?));
+        match check_tree(alloc, &answer.tree) {
+            Ok(()) => {}
+            Err(error) => return Err(error),
         }
     }
     Ok(())

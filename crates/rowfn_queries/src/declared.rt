@@ -222,7 +222,7 @@ fn read_column(
     tokens: &[Token<'_>],
 ) -> Result<usize, Stopped>
     requires { 0 < length tokens.now }
-    ensures read { IfOk result (λ count. (0 < count) × (count ≤ length tokens.now)) }
+    ensures read { IfOk result (λ count. (2 ≤ count) × (count ≤ 4) × (count ≤ length tokens.now)) }
     ensures column { let columns = columns_behind (declared_by declared.old)
         (map token_in tokens.now) in
         MatchResult result
