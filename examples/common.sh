@@ -1,4 +1,4 @@
-# What the examples share: where the library is, a Python that has what is asked for, and a folder of their own. Read by `.`, not run.
+# Shared by the examples: the library's folder, a Python that has the needed packages, and a scratch folder. Source it with `.`; do not run it.
 set -eu
 here=$(cd "$(dirname "$0")" && pwd)
 prefix=${1:-${YURKIJE_PREFIX:-}}
@@ -10,7 +10,7 @@ prefix=$(cd "$prefix" && pwd)
 export YURKIJE_PREFIX="$prefix" PYTHONPATH="$here/../../bindings/python" PYTHONDONTWRITEBYTECODE=1
 scratch=$(mktemp -d /tmp/yurkije_example.XXXXXX)
 
-# Whatever ends an example, what it started ends too: one that starts something says in `stop` how that ends.
+# However an example ends, it stops what it started: an example that starts something defines `stop`.
 stop() { :; }
 finish() {
     status=$?

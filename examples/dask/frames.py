@@ -1,4 +1,4 @@
-"""Frames of pandas under Dask's distributed scheduler, with a worker killed in mid-way."""
+"""Evaluates an expression over pandas frames under Dask's distributed scheduler, with a worker killed midway."""
 import os
 import signal
 import sys

@@ -1,4 +1,4 @@
-"""A scan filter over numpy columns, beside numpy's own answer."""
+"""A scan filter over numpy columns, compared with numpy's result."""
 import statistics
 import sys
 import time
@@ -15,7 +15,7 @@ WORDS = ["ion foci", "xylene, mixed isomers", "nitric oxide", "iron", "£", "", 
 
 
 def timed(call):
-    """Returns what a call answers, and the milliseconds of the median of some calls."""
+    """Returns the result of a call, and the median time of some calls in milliseconds."""
     times = []
     for _ in range(9):
         start = time.perf_counter()

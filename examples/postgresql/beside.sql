@@ -1,4 +1,4 @@
--- Each answer of the library beside that of PostgreSQL to the same words.
+-- Compares each answer of the library with PostgreSQL's result for the same text.
 CREATE TEMP TABLE beside (words text, otherwise bigint, wanted bigint);
 DO $$
 DECLARE

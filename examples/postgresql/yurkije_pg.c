@@ -1,9 +1,9 @@
 /* Expressions over rows of PostgreSQL:
  *     yurkije(text, record) -> text         the first answer, written as PostgreSQL writes it
  *     yurkije_is(text, record) -> boolean   the first answer, a truth value
- * The row's columns are the fields, by their names, each of which may be null: boolean, smallint, integer, bigint, text and varchar, bytea.
- * An expression is read once for each place of a query. Its handles live in the memory context of that place, which frees them also where
- * an error ends the query: PostgreSQL leaves C by longjmp, and never through the library. */
+ * The fields are the row's columns, by name, and may be null: boolean, smallint, integer, bigint, text and varchar, bytea.
+ * An expression is read once for each call site of a query. Its handles live in the memory context of that call site, which frees them
+ * even if an error ends the query: PostgreSQL leaves C by longjmp, and never through the library. */
 #include "postgres.h"
 
 #include "access/htup_details.h"

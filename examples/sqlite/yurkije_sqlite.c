@@ -1,8 +1,8 @@
 /* Expressions over values of SQLite, as a loadable extension:
  *     yurkije(columns, expression, value, ..)
- * answers the first answer of an expression over columns that are declared, `a i64?, s utf8?`, a value for each: SQLite's own columns have
- * no fixed types. A truth value is 0 or 1. The expression is read once for each place of a query, if both texts stay the same there.
- * A handle is of one thread: so is a connection that calls this. */
+ * returns the first answer of an expression over declared columns, `a i64?, s utf8?`, with a value for each: SQLite's columns have no
+ * fixed types. A truth value is 0 or 1. The expression is read once for each call site of a query, if both texts stay the same there.
+ * A handle belongs to one thread: so does a connection that calls this. */
 #include <sqlite3ext.h>
 #include <yurkije.h>
 
