@@ -4,7 +4,7 @@ use Rattle.std.proofs.Common.{inl, inr, Vec, Global}
 use Rattle.std.specs.Prelude.{IfOk, IfErr}
 use Rattle.vortex_types.specs.LogicalTypes.{Fields}
 use Rattle.vortex_syntax.specs.Syntax.{Syntax}
-use Rattle.vortex_syntax.specs.Postfix.{Step, postfix}
+use Rattle.vortex_syntax.specs.Postfix.{Step}
 use Rattle.vortex_syntax.specs.Grammar.{Reads}
 use Rattle.vortex_syntax.specs.Refusals.{TreeStopsAt}
 use Rattle.vortex_syntax.specs.AnswerLists.{Told}

@@ -1,19 +1,13 @@
 -- Some rows of columns mean what those rows mean.
 use Rattle.std.proofs.Common.{◌≡◌, ℕ, zero, suc, ◌+◌, ◌<◌, ◌≤◌, ◌-◌, refl, sym, ap, subst, ◌∙◌}
-use Rattle.std.proofs.Common.{List, [], ◌∷◌, map, Option, Some, None, inl, inr, arith, length}
+use Rattle.std.proofs.Common.{List, [], ◌∷◌, Option, Some, None, inl, inr, arith, length}
 use Rattle.std.proofs.Common.{Bool, true, false, nat_eq, nat_lt}
 use Rattle.std.specs.Prelude.{slice_get, All, if◌then◌else◌}
-use Rattle.std.specs.List.{range_with_len}
 use Rattle.std.proofs.Math.Nat.{add-zero}
-use Rattle.std.proofs.lemmas.List.{get_or-map}
-use Rattle.std.proofs.lemmas.List.FromFn.{length-range_with_len, get_or-range_with_len}
-use Rattle.std.proofs.lemmas.List.FromFn.{length-map-range_with_len}
 use borrow.Author.Tests.{eqb-true}
 use Rattle.vortex_errors.specs.declared.error.VortexError.{VortexError}
 use Rattle.vortex_types.specs.LogicalTypes.{LogicalType}
-use Rattle.vortex_types.specs.Values.{null}
 use Rattle.vortex_columns.specs.ColumnView.{ColumnView, row}
-use Rattle.vortex_columns.specs.Taken.{AreRowsOf, IsTaken}
 use Rattle.vortex_interface.specs.Outcomes.{Outcome, gives, faults, Fault, error_of, GivesValue}
 use Rattle.vortex_interface.specs.Meaning.{Meaning}
 use Rattle.vortex_interface.specs.Functions.{function_means}
@@ -28,7 +22,7 @@ use Rattle.vortex_interface.specs.Execution.{uneven}
 use Rattle.vortex_interface.specs.Bound.{IsPlace, IsBound, AllBound}
 use Rattle.vortex_interface.proofs.FaultyRows.{fault_row}
 use Rattle.vortex_functions.specs.Walks.{AllMean}
-use Rattle.vortex_program.specs.Rows.{row_column, AreTaken, HasRows, HaveRows}
+use Rattle.vortex_program.specs.Rows.{HaveRows}
 use Rattle.vortex_program.specs.Executing.{FaultsAt, AllGive, AllGiveWithin, AllFit, RefusesFirst}
 use Rattle.vortex_program.proofs.Answered.{all_head, all_tail, all_cons}
 

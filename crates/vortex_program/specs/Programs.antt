@@ -1,5 +1,5 @@
 -- What the rules make of the trees of a program.
-use Rattle.std.specs.Prelude.{List, map, Option, Some, None, ◌≡◌, ℕ, String, MatchOption}
+use Rattle.std.specs.Prelude.{List, map, Option, Some, None, ◌≡◌, String, MatchOption}
 use Rattle.std.specs.Prelude.{string_bytes}
 use Rattle.std.specs.declared.alloc.Global.{Global}
 use Rattle.vortex_interface.specs.Rewrites.{Rewrites}

@@ -9,7 +9,7 @@ use Rattle.vortex_expressions.specs.Items.{meaning}
 use Rattle.vortex_arrow.specs.Written.{SameBehind}
 use Rattle.yurkije_columns.specs.Kinds.{type_number}
 use Rattle.yurkije_columns.specs.declared.kinds.Type as told
-use Rattle.yurkije_core.specs.Programs.{IsTreeText}
+use Rattle.vortex_program.specs.Naming.{IsTreeText}
 use Rattle.yurkije.specs.Views.{ProgramView}
 
 -- P of what is there, or the status where nothing is: then what was handed over is the same

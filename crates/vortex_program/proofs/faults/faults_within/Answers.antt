@@ -1,10 +1,8 @@
-use Rattle.std.proofs.Common.{List, subst, sym, ◌∙◌}
+use Rattle.std.proofs.Common.{List, subst, sym}
 use Rattle.vortex_errors.specs.declared.error.VortexError.{VortexError}
 use Rattle.vortex_errors.specs.Answers.{UnlessMemory}
 use Rattle.vortex_columns.specs.ColumnView.{ColumnView}
-use Rattle.vortex_interface.specs.Execution.{Executes}
 use Rattle.vortex_functions.specs.Fixed.{fixed_meaning}
-use Rattle.vortex_functions.specs.Walks.{AllMean}
 use Rattle.vortex_program.specs.Executing.{RefusesFirst}
 use Rattle.vortex_program.specs.Programs.{trees_of}
 use Rattle.vortex_program.specs.Rows.{HaveRows}

@@ -1,9 +1,8 @@
-use Rattle.std.proofs.Common.{ℕ, List, All, length, map, subst, sym, ◌∙◌}
-use Rattle.std.specs.List.{range_with_len}
+use Rattle.std.proofs.Common.{ℕ, List, All, subst, sym, ◌∙◌}
 use Rattle.vortex_errors.proofs.Answering.{AnswersUnlessMemory-weaker}
 use Rattle.vortex_columns.specs.ColumnView.{ColumnView}
 use Rattle.vortex_columns.specs.Taken.{AreRowsOf}
-use Rattle.vortex_program.specs.Rows.{AreTaken, HaveRows, row_column}
+use Rattle.vortex_program.specs.Rows.{AreTaken, HaveRows}
 use Rattle.vortex_program.proofs.TakenRows.{one_row_has, taken_have, all_within}
 use Rattle.vortex_program.proofs.rows.rows_of.Goals as goal
 

@@ -6,10 +6,9 @@ use Rattle.vortex_syntax.specs.AnswerLists as syntax
 use Rattle.vortex_expressions.specs.declared.answers.Answer as held
 use Rattle.vortex_expressions.specs.Outcomes.{answers}
 use Rattle.vortex_expressions.specs.Answers.{answer_in, answers_left}
-use Rattle.vortex_expressions.specs.Reading.{ReadUnlessMemory, ToldBy, Finds}
-use Rattle.vortex_program.specs.declared.answer.Answer as bound
+use Rattle.vortex_expressions.specs.Reading.{ReadUnlessMemory, ToldBy}
 use Rattle.vortex_program.specs.Naming.{IsNamedAnswer}
-use Rattle.vortex_program.proofs.Parsing.{named_found, named_only, named_refused, named_why}
+use Rattle.vortex_program.proofs.Parsing.{named_found, named_only, named_refused}
 use Rattle.vortex_program.proofs.Parsing.{only, refused, told_why}
 use Rattle.vortex_program.proofs.parsed.Parsed.bind.Goals as goal
 

@@ -1,4 +1,4 @@
-use Rattle.std.proofs.Common.{◌≡◌, ◌∙◌, ◌++◌, List, ap, map, string_bytes, String, Global, Result, Ok, Err}
+use Rattle.std.proofs.Common.{◌∙◌, ◌++◌, List, ap, map, string_bytes, String, Global}
 use Rattle.std.specs.List.{flat_map}
 use Rattle.vortex_syntax.specs.AnswerLists.{answer_in}
 use Rattle.vortex_program.specs.Names.{answer_names}
