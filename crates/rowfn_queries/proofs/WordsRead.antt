@@ -3,7 +3,6 @@ use Rattle.std.proofs.Common.{◌≡◌, ◌∙◌, ℕ, List, Option, Some, Non
 use Rattle.std.proofs.Common.{ap, inl, inr}
 use Rattle.vortex_types.specs.LogicalTypes.{Fields, no_fields}
 use Rattle.vortex_types.specs.TypeOf.{struct_fields}
-use Rattle.vortex_types.specs.declared.dtype.fields.StructFields.{StructFields}
 use Rattle.std.specs.Prelude.{◌⊎◌}
 use Rattle.vortex_program.specs.declared.form.Form.{Form}
 use Rattle.vortex_program.specs.declared.form.Form.TheVariants as form
@@ -91,8 +90,8 @@ module _ (b : Binding) (t : Texts) (d : DeclaredColumns) (names : List (String G
       (by_header names
       (w.columns
       ∙ ap (λ (fs : Fields). with_texts names (with_all (sampled_in b) (with_all fs no_fields))) same))
-      (subst (λ (x : Bor StructFields). RefusesBinding b.words wide (struct_fields x.now) result)
-      w.same_sample words_here)
+      (subst (λ (fs : Fields). RefusesBinding b.words wide fs result)
+      (λ i. struct_fields (w.same_sample i).now) words_here)
 
   pub refused_so : RefusesBound b t e → (result ≡ e) ⊎ RefusesWidened b names t result
       → RefusesWords b.words result
