@@ -15,6 +15,7 @@ use Rattle.rowfn_queries.specs.declared.texts.Texts.{Texts}
 use Rattle.rowfn_queries.specs.Bindings.{IsParsedBy, IsBoundIn, IsAskedIn, RefusesIn, RefusesWhere}
 use Rattle.rowfn_queries.specs.Bindings.{RefusesBound, by_condition, by_answers, columns_in, sampled_in}
 use Rattle.rowfn_queries.specs.Bindings.{read_in, placed_in, IsReadWhere, AreRead, RefusesWidened}
+use Rattle.rowfn_queries.specs.Bindings.{AreBoundIn}
 use Rattle.rowfn_queries.specs.Columns.{with_all, with_texts}
 use Rattle.rowfn_queries.specs.DeclaredColumns.{DeclaredColumns}
 use Rattle.rowfn_queries.specs.Queries.{AskedBy}
@@ -42,6 +43,16 @@ module _ (b : Binding) (f : Form) where
   refused_by (Some text) (Some p) e h g =
       subst (λ (x : Form). RefusesIn b x text.now e) h.0
       (subst (λ (w : List ℕ). RefusesIn b p.form w e) h.1 g)
+
+-- the same of both texts, of what they are bound in
+module _ {b : Binding} {x y : Option Question} (t : Texts) (bound : AreBoundIn b t x y) where
+  pub answers_asked : IsParsedBy form.Answers b.words.answers t.answers
+      → AskedBy form.Answers (read_in b form.Answers) (placed_in b) b.words.answers x
+  answers_asked p = asked_by b form.Answers b.words.answers t.answers x p bound.answers_bound
+
+  pub condition_asked : IsParsedBy form.Condition b.words.condition t.condition
+      → AskedBy form.Condition (read_in b form.Condition) (placed_in b) b.words.condition y
+  condition_asked p = asked_by b form.Condition b.words.condition t.condition y p bound.condition_bound
 
 read_where : (f : Form) (o : Option (Bor (List ℕ))) (p : Option Parsed) → IsParsedBy f o p
     → IsReadWhere p

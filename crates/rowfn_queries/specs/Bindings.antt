@@ -66,6 +66,10 @@ module _ (b : Binding) where
   IsBoundIn (Some p) (Some q) = IsAskedIn p.form p.text.now q
   IsBoundIn o q = ⊥
 
+  pub record AreBoundIn (texts : Texts) (answers condition : Option Question) : Type 0 where
+    pub answers_bound : IsBoundIn texts.answers answers
+    pub condition_bound : IsBoundIn texts.condition condition
+
   abbrev pub RefusesWhere : Option Parsed → QueryError → Type 0
   RefusesWhere None e = ⊥
   RefusesWhere (Some p) e = RefusesIn p.form p.text.now e

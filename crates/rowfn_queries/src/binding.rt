@@ -4,7 +4,7 @@ ghost use Rattle.vortex_errors.specs.Answers.{AnswersUnlessMemory};
 ghost use Rattle.vortex_types.specs.TypeOf.{struct_fields};
 ghost use Rattle.vortex_program.specs.Programs.{trees_of};
 ghost use Rattle.rowfn_queries.specs.Bindings.{all_in, named_in, read_in, IsAskedIn, RefusesIn};
-ghost use Rattle.rowfn_queries.specs.Bindings.{IsBoundIn, RefusesWhere, RefusesBound};
+ghost use Rattle.rowfn_queries.specs.Bindings.{IsBoundIn, AreBoundIn, RefusesWhere, RefusesBound};
 ghost use Rattle.rowfn_queries.specs.Bindings.{IsReadWhere, AreRead};
 ghost use Rattle.vortex_program.specs.Texts.{IsRead};
 ghost use Rattle.rowfn_queries.specs.Queries.{IsTruth, IsTruthFor};
@@ -139,9 +139,7 @@ impl Binding<'_> {
         texts: &Texts<'_>,
     ) -> Result<(Option<Question>, Option<Question>), QueryError>
         ensures { AreRead texts.now → MatchResult result
-            (λ p. IsBoundIn self.now texts.now.answers p.0
-            × IsBoundIn self.now texts.now.condition p.1)
-            (RefusesBound self.now texts.now) }
+            (λ p. AreBoundIn self.now texts.now p.0 p.1) (RefusesBound self.now texts.now) }
     {
         let condition = match self.ask_where(&texts.condition) {
             Ok(condition) => condition,

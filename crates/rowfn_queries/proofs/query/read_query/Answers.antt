@@ -1,7 +1,7 @@
 use Rattle.std.proofs.Common.{refl}
-use Rattle.vortex_program.specs.declared.form.Form.TheVariants as form
 use Rattle.rowfn_queries.specs.DeclaredColumns.{declared_by}
-use Rattle.rowfn_queries.proofs.WordsRead.{asked_by, are_read, refused_so}
+use Rattle.rowfn_queries.proofs.WordsRead.{answers_asked, condition_asked, are_read}
+use Rattle.rowfn_queries.proofs.WordsRead.{refused_so}
 use Rattle.rowfn_queries.proofs.query.read_query.Goals as goal
 
 pub returns-in-Ok-bind-clause-read : goal.returns-in-Ok-bind-clause-read
@@ -15,12 +15,8 @@ returns-in-Ok-bind-clause-read g c =
       declared = declared_by c.in-Ok.declared;
       declares = c.in-Ok.ensures;
       inferred = c.in-Ok-sampled.ensures.inferred;
-      answers =
-          asked_by _ form.Answers words.answers texts.answers c.in-Ok-bind.answers parsed.answers
-          bound.0;
-      condition =
-          asked_by _ form.Condition words.condition texts.condition c.in-Ok-bind.condition
-          parsed.condition bound.1;
+      answers = answers_asked texts bound parsed.answers;
+      condition = condition_asked texts bound parsed.condition;
     }
 
 pub returns-clause-refused : goal.returns-clause-refused
