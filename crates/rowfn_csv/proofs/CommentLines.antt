@@ -1,11 +1,9 @@
 -- Comments are read as blank lines, and begin at the start of a line alone.
-use Rattle.std.proofs.Common.{◌≡◌, ◌≢◌, ◌==◌, ◌||◌, ◌∙◌, Bool, true, false, ℕ, List, [], ◌∷◌, ◌++◌, map}
-use Rattle.std.proofs.Common.{Option, Some, refl, sym, ap, inl, inr, if◌then◌else◌}
+use Rattle.std.proofs.Common.{◌≡◌, ◌==◌, true, ℕ, List, [], ◌∷◌, ◌++◌, map}
+use Rattle.std.proofs.Common.{Some, refl, ap, inl, inr}
 use Rattle.std.proofs.lemmas.Bool.{ne_eqb}
 use Rattle.std.proofs.lemmas.Bool.Decides.{eqb_tells}
-use Rattle.rowfn_csv.specs.declared.raw.Place.TheVariants as at
 use Rattle.rowfn_csv.specs.declared.comments.Line.TheVariants as line
-use Rattle.rowfn_csv.specs.Formats.{is_line_end}
 use Rattle.rowfn_csv.specs.Records.{Lacks}
 use Rattle.rowfn_csv.specs.Comments.{blanked, CommentIsBlank, QuotesHoldNone, CommentsAreSkipped}
 

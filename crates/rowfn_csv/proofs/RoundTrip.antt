@@ -7,7 +7,7 @@ use Rattle.std.specs.Str.{bytes_eq}
 use Rattle.std.proofs.lemmas.Bool.Decides.{eqb_tells}
 use Rattle.std.proofs.lemmas.Slice.Eq.{bytes_eq-Decides}
 use Rattle.rowfn_csv.specs.declared.format.Format.{Format}
-use Rattle.rowfn_csv.specs.Formats.{is_null_text, begins_comment, is_comment_line}
+use Rattle.rowfn_csv.specs.Formats.{is_null_text, is_comment_line}
 use Rattle.rowfn_csv.specs.Fields.{is_special, is_mistaken, needs_quotes, quoted}
 use Rattle.rowfn_csv.specs.Records.{Field, bare, in_quotes, Lacks, BeginsBare, Spells, SaysFields}
 use Rattle.rowfn_csv.specs.RoundTrip.{cell_field, cell_said, cells_line, fields_line, StandsInLine}

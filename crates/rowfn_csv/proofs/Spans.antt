@@ -227,4 +227,4 @@ module _ (comment : Option ℕ) (kept : List ℕ) (first start end : ℕ) (bytes
           ∙ part_longer comment kept ((end - length own) - first) (end - first) (more - first)
           (omega (arith, on))
           (λ none. let e : length own ≡ 0 = ap length (sym own_part ∙ none) in
-            absurd (omega (arith, size, some, e))) own_none
+          absurd (omega (arith, size, some, e))) own_none

@@ -33,8 +33,8 @@ is_ended rows = (reader_source rows.reader).ended
 -- the first bytes that are given are the last that are kept: line feeds in place of comments
 pub record GivesLines {R : Type 0} (count : ℕ) (buf : List ℕ) (lines : Lines) (tee : Tee R) : Type 0
   where
-  pub before : List ℕ
-  pub bytes : List ℕ
-  pub kept : tee.kept.items ≡ before ++ bytes
-  pub given : take count buf ≡ bytes_given lines bytes
-  pub lines_are : tee.lines ≡ lines_after lines bytes
+    pub before : List ℕ
+    pub bytes : List ℕ
+    pub kept : tee.kept.items ≡ before ++ bytes
+    pub given : take count buf ≡ bytes_given lines bytes
+    pub lines_are : tee.lines ≡ lines_after lines bytes

@@ -196,7 +196,10 @@ impl<'a, R: Read> Records<'a, R> {
             (HasLineEnd self.now.format.delimiter (bytes_behind self.now)) }
     {
         let rest = self.reader.get_ref().from(self.span.end);
-        !has_line_end(from_record(rest, self.format.comment), self.format.delimiter)
+        !has_line_end(
+            from_record(rest, self.format.comment),
+            self.format.delimiter,
+        )
     }
 
     /// The fields of the last record.

@@ -2,7 +2,6 @@
 use Rattle.std.specs.Prelude.{◌≡◌, ◌<◌, ◌||◌, ◌==◌, ℕ, Bool, false, List, [], ◌∷◌, nat_eq, All}
 use Rattle.std.specs.Prelude.{Option, Some, None, IfSome}
 use Rattle.std.specs.Borrow.{Bor}
-use Rattle.std.specs.Char.{is_ascii_alphanumeric}
 use Rattle.std.specs.List.{list_any, starts_with}
 
 -- a quote, or a byte that ends a line
@@ -14,16 +13,11 @@ pub record MayPart (delimiter : ℕ) : Type 0 where
   pub ascii : delimiter < 128
   pub plain : is_quote_or_end delimiter ≡ false
 
--- a byte may belong to a number or a truth value, which are written in no quotes
-abbrev pub is_value_byte : ℕ → Bool
-is_value_byte byte = is_ascii_alphanumeric byte || (byte == 45)
-
--- a byte may begin comments: one that begins no field of a row that is written
+-- a byte may begin comments: one of ASCII that is no quote, no end of a line and no delimiter
 pub record MayComment (delimiter output_delimiter byte : ℕ) : Type 0 where
   pub parts : MayPart byte
   pub no_delimiter : (byte == delimiter) ≡ false
   pub no_output_delimiter : (byte == output_delimiter) ≡ false
-  pub no_value : is_value_byte byte ≡ false
 
 -- a byte ends a field that stands in no quotes, or asks for quotes
 abbrev pub ends_field : ℕ → ℕ → Bool
@@ -46,8 +40,8 @@ module _ (delimiter output_delimiter : ℕ) (comment : Option ℕ) where
     pub output_delimiter_parts : MayPart output_delimiter
     pub comment_begins : IfSome comment (MayComment delimiter output_delimiter)
 
-  -- a text may be null: in no quotes it is one field, also where it is the first of the input or of a
-  -- line
+  -- a text may be null: in no quotes it is one field, also where it is the first of the input or of
+  -- a line
   pub record MayBeNull (null : List ℕ) : Type 0 where
     pub whole : list_any (ends_field delimiter) null ≡ false
     pub whole_in_output : list_any (ends_field output_delimiter) null ≡ false

@@ -1,7 +1,7 @@
 //! The bytes that separate fields and begin comments, and the texts that are null between them.
 ghost use Rattle.std.specs.Prelude.{◌≡◌, IfSome, IsTrue, Some};
 ghost use Rattle.std.specs.List.{list_any};
-ghost use Rattle.rowfn_options.specs.Fields.{is_quote_or_end, is_value_byte, ends_field, has_mark};
+ghost use Rattle.rowfn_options.specs.Fields.{is_quote_or_end, ends_field, has_mark};
 ghost use Rattle.rowfn_options.specs.Fields.{begins_with, MayPart, MayComment, MayBeNull};
 
 /// The bytes that have a meaning of their own in a line.
@@ -36,31 +36,13 @@ pub(crate) fn read_delimiter(word: &str) -> Option<u8>
     }
 }
 
-/// Whether a byte may belong to a number or a truth value: a letter, a digit or a minus sign.
-fn is_value_byte(byte: u8) -> bool
-    ensures { result ≡ is_value_byte byte }
-{
-    byte.is_ascii_alphanumeric() || byte == b'-'
-}
-
-/// A delimiter that belongs to no number and no truth value, since those are written in no quotes.
-pub(crate) fn read_output_delimiter(word: &str) -> Option<u8>
-    ensures { IfSome result MayPart }
-{
-    let byte = read_delimiter(word)?;
-    if is_value_byte(byte) {
-        None
-    } else {
-        Some(byte)
-    }
-}
-
-/// A byte that begins no number, no truth value and no other field, so that it may begin comments.
+/// A byte that is no delimiter, so that it may begin comments: fields that begin with it are written
+/// in quotes.
 pub(crate) fn read_comment(word: &str, delimiter: u8, output_delimiter: u8) -> Option<u8>
     ensures { IfSome result (MayComment delimiter output_delimiter) }
 {
     let byte = read_delimiter(word)?;
-    if byte == delimiter || byte == output_delimiter || is_value_byte(byte) {
+    if byte == delimiter || byte == output_delimiter {
         None
     } else {
         Some(byte)
@@ -100,8 +82,8 @@ fn begins_with(text: &[u8], byte: Option<u8>) -> bool
     }
 }
 
-/// Whether a text can be null: in no quotes it is read back as one field, also where it is the first
-/// of the input, whose byte order mark is skipped, and of a line, which may be a comment.
+/// Whether a text can be null: in no quotes it is read back as one field, also where it is the
+/// first of the input, whose byte order mark is skipped, and of a line, which may be a comment.
 pub(crate) fn is_bare(text: &str, bytes: Bytes) -> bool
     ensures { IsTrue result
         → MayBeNull bytes.delimiter bytes.output_delimiter bytes.comment text.now }

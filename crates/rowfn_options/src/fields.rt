@@ -2,7 +2,7 @@
 ghost use Rattle.std.specs.Prelude.{IfOk, IfSome, All};
 ghost use Rattle.rowfn_options.specs.Fields.{MayPart, MayComment, MayBeNull, AreBytes, AreFields};
 
-use crate::bytes::{Bytes, is_bare, read_comment, read_delimiter, read_output_delimiter};
+use crate::bytes::{Bytes, is_bare, read_comment, read_delimiter};
 use crate::words::{is_second, refusal};
 use clap::error::ErrorKind;
 use clap::{ArgMatches, Command, Error};
@@ -38,8 +38,7 @@ fn asked_delimiter(matches: &ArgMatches<'_>, command: &mut Command<'_>) -> Resul
     match read_delimiter(matches.get_str("delimiter").unwrap_or(",")) {
         Some(delimiter) => Ok(delimiter),
         None => {
-            let message =
-                "--delimiter: expected one byte of ASCII, no quote and no end of a line";
+            let message = "--delimiter: expected one byte of ASCII, no quote and no end of a line";
             Err(refusal(command, ErrorKind::InvalidValue, message)?)
         }
     }
@@ -62,11 +61,12 @@ fn asked_output_delimiter(
                        expected an EXPRESSION or --file";
         return Err(refusal(command, ErrorKind::ArgumentConflict, message)?);
     }
-    match read_output_delimiter(word) {
+    match read_delimiter(word) {
         Some(delimiter) => Ok(delimiter),
         None => {
-            let message = "--output-delimiter: expected one byte of ASCII, no quote, no end of a \
-                           line, no letter, no digit and no -";
+            let message =
+                "--output-delimiter: expected one byte of ASCII, no quote and no end of a \
+                           line";
             Err(refusal(command, ErrorKind::InvalidValue, message)?)
         }
     }
@@ -87,8 +87,9 @@ fn asked_comment(
     match read_comment(word, delimiter, output_delimiter) {
         Some(byte) => Ok(Some(byte)),
         None => {
-            let message = "--comment: expected one byte of ASCII, no delimiter, no quote, no end of \
-                           a line, no letter, no digit and no -";
+            let message =
+                "--comment: expected one byte of ASCII, no delimiter, no quote and no end \
+                           of a line";
             Err(refusal(command, ErrorKind::InvalidValue, message)?)
         }
     }
@@ -120,8 +121,8 @@ fn checked_null<'a>(
     if is_bare(text, bytes) {
         return Ok(text);
     }
-    let message = "--null: expected a text without a delimiter, a quote, an end of a line and a byte \
-                   order mark, which does not begin with the byte of --comment";
+    let message = "--null: expected a text without a delimiter, a quote, an end of a line and a \
+                   byte order mark, which does not begin with the byte of --comment";
     Err(refusal(command, ErrorKind::InvalidValue, message)?)
 }
 

@@ -46,7 +46,7 @@ pub struct Options<'a> {
     pub null: &'a str,
     /// More texts that are read as null in no quotes.
     pub more_nulls: Vec<&'a [u8]>,
-    /// Whether records are fitted that are shorter or longer than the header; else they are refused.
+    /// Whether records shorter or longer than the header are fitted; else they are refused.
     pub fits: bool,
     /// Whether an empty line is a row of one null.
     pub blank_rows: bool,
@@ -101,8 +101,8 @@ fn asked_source<'a>(matches: &ArgMatches<'a>) -> Source<'a> {
     }
 }
 
-/// The words that may name the file of the rows: the first one where the expression is in a file, else
-/// the second one.
+/// The words that may name the file of the rows: the first one where the expression is in a file,
+/// else the second one.
 fn input_words<'a>(matches: &ArgMatches<'a>) -> [Option<&'a str>; 2] {
     if matches.contains_id("file") {
         [matches.get_str("expression"), matches.get_str("input-file")]
@@ -220,8 +220,8 @@ pub fn read_options<'a>(alloc: Global, words: &'a [String]) -> Result<Options<'a
     Ok(options_of(&matches, fields, input, refused))
 }
 
-/// The program's status where its words give no options: 0 where help or the version was asked for, 3
-/// where an allocation failed, and 64 for wrong words.
+/// The program's status where its words give no options: 0 where help or the version was asked for,
+/// 3 where an allocation failed, and 64 for wrong words.
 pub fn status(error: &Error) -> u8
     ensures { result ≡ status_of (kind_of error.now) }
 {

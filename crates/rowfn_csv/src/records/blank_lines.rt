@@ -77,7 +77,7 @@ impl<R: Read> Records<'_, R> {
         let place = tee.behind_mark(place);
         let bytes = tee.from(place);
         let rest = after_comments(bytes, self.format.comment);
-        place.saturating_add((bytes.len() - rest.len()) as u64)
+        place.saturating_add(bytes.len().saturating_sub(rest.len()) as u64)
     }
 
     /// Gives the next line without a byte, or else the record behind such lines.
