@@ -9,4 +9,4 @@ returns c =
     text_added c.args.self.now
     (record c.args.self.now { bytes = c.quote_from.new.bytes; spare = c.quote_from.new.spare })
     c.len-start.result c.extend_from_slice.new.self.items c.args.text.now c.quote_from.result
-    c.len-start.ensures put c.quote_from.ensures refl
+    (c.len-start.ensures ∙ c.args.self.now.bytes.ok.0) put c.quote_from.ensures refl

@@ -17,7 +17,7 @@ returns-in_err-is_there-clause-starts g c =
     c.from_residual-in_err-is_there.ensures.1 in
     let new = c.new-records.ensures in
     rw (p.1, p.2)
-    (at_header c.new-records.result c.read_header-is_there.new.records
+    (at_header c.new-records.result c.read_header.new.records
     (fresh c.args.reader c.args.settings.now c.new-records.result new.format new.reader
     new.none_read)
     c.in_err-is_there.ensures)
@@ -30,9 +30,9 @@ returns-in_err-layout-clause-starts g c =
     let unread = fresh c.args.reader c.args.settings.now c.new-records.result new.format new.reader
     new.none_read in
     rw (p.1, p.2)
-    (at_column c.in_ok-is_there.is_there c.read_header-is_there.new.records
+    (at_column c.in_ok-is_there.is_there c.read_header.new.records
     (has_read c.args.reader c.args.settings.now c.new-records.result c.in_ok-is_there.is_there
-    c.read_header-is_there.new.records unread c.in_ok-is_there.ensures)
+    c.read_header.new.records unread c.in_ok-is_there.ensures)
     (rw c.record.ensures at c.in_err-layout.ensures.layout))
 
 pub returns-in_err-push_header-clause-starts : goal.returns-in_err-push_header-clause-starts
@@ -43,9 +43,9 @@ returns-in_err-push_header-clause-starts g c =
     let unread = fresh c.args.reader c.args.settings.now c.new-records.result new.format new.reader
     new.none_read in
     rw (p.1, p.2)
-    (at_name c.in_ok-is_there.is_there c.read_header-is_there.new.records c.in_ok-layout.layout
+    (at_name c.in_ok-is_there.is_there c.read_header.new.records c.in_ok-layout.layout
     (has_read c.args.reader c.args.settings.now c.new-records.result c.in_ok-is_there.is_there
-    c.read_header-is_there.new.records unread c.in_ok-is_there.ensures)
+    c.read_header.new.records unread c.in_ok-is_there.ensures)
     (rw c.record.ensures at c.in_ok-layout.ensures.layout)
     (rw c.deref.ensures.value at c.in_err-push_header.ensures))
 
@@ -58,10 +58,10 @@ returns-in_err-condition-clause-starts g c =
     new.none_read in
     let pushed = rw c.deref.ensures.value at c.in_ok-push_header.ensures in
     rw (p.1, p.2)
-    (at_condition c.in_ok-is_there.is_there c.read_header-is_there.new.records
+    (at_condition c.in_ok-is_there.is_there c.read_header.new.records
     c.in_ok-layout.layout
     (has_read c.args.reader c.args.settings.now c.new-records.result c.in_ok-is_there.is_there
-    c.read_header-is_there.new.records unread c.in_ok-is_there.ensures)
+    c.read_header.new.records unread c.in_ok-is_there.ensures)
     (rw c.record.ensures at c.in_ok-layout.ensures.layout) pushed.apart
     (rw c.record-2.ensures at c.in_err-condition.ensures))
 
@@ -73,7 +73,7 @@ returns-clause-starts g c =
     headed c.args.reader c.args.settings.now c.args.asked.now
     (option_map (λ x. x.now) c.args.condition) _ c.in_ok-is_there.is_there c.new-output.result
     (has_read c.args.reader c.args.settings.now c.new-records.result c.in_ok-is_there.is_there
-    c.read_header-is_there.new.records unread c.in_ok-is_there.ensures)
+    c.read_header.new.records unread c.in_ok-is_there.ensures)
     refl refl (rw c.record.ensures at c.in_ok-layout.ensures.layout) refl
     (rw c.record-2.ensures at c.in_ok-condition.ensures)
     (rw c.deref.ensures.value at c.in_ok-push_header.ensures) c.new-output.ensures refl
