@@ -90,10 +90,10 @@ refused_name : (fields : List (List ℕ)) (name : List ℕ) (p : ℕ) (e : Strea
     → StandsOnce fields name p → RefusesName fields name e → e ≡ end.OutOfMemory
 refused_name fields name p (end.ColumnMissing told) here (is, none) =
     absurd (none p (omega arith) here.0)
-refused_name fields name p (end.ColumnTwice told) here (is, q, r, below, at_q, at_r) =
-    let one = here.1 q at_q in
-    let two = here.1 r at_r in
-    absurd (omega (arith, below, one, two))
+refused_name fields name p (end.ColumnTwice told) here h =
+    let one = here.1 h.1.0 h.1.3 in
+    let two = here.1 h.1.1 h.1.4 in
+    absurd (omega (arith, h.1.2, one, two))
 refused_name fields name p end.OutOfMemory here h = refl
 refused_name fields name p e here h = absurd h
 

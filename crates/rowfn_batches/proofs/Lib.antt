@@ -4,7 +4,8 @@ pub mod FirstRows
 pub mod Flowing
 pub mod Optimized
 pub mod Starting
-pub mod Explained
+pub mod Headed
+pub mod Explanations
 pub mod Leftmost
 pub mod Layouts
 pub mod Lines

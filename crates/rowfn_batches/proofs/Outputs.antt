@@ -1,9 +1,9 @@
 -- One more name or value of a row that is put down.
 use Rattle.std.proofs.Common.{◌≡◌, ℕ, ◌+◌, ◌<◌, ◌≤◌, List, [], ◌∷◌, ◌++◌, length, take, get_or}
-use Rattle.std.proofs.Common.{ap, sym, ◌∙◌, arith, append_assoc, map, refl, string_bytes}
+use Rattle.std.proofs.Common.{ap, sym, ◌∙◌, arith, append_assoc, map, refl, string_bytes, drop, ap₂}
 use Rattle.std.specs.Prelude.{OnOk, Result, Ok, Err}
 use Rattle.std.specs.declared.alloc.AllocError.{AllocError}
-use Rattle.std.proofs.lemmas.List.{get_or-map, length-map, take_all}
+use Rattle.std.proofs.lemmas.List.{get_or-map, length-map, take_all, take-append-le, drop_at}
 use Rattle.vortex_columns.specs.ColumnView.{ColumnView, row}
 use Rattle.vortex_interface.specs.CallTexts.{joined, separator_before}
 use Rattle.vortex_types.proofs.JoinedTexts.{joined_more}
@@ -138,8 +138,11 @@ pub names_ended : (old now last : Output) (names : List (List ℕ)) (k : ℕ)
 names_ended old now last names k (Err e) all before added = added
 names_ended old now last names k (Ok u) all before added =
     let fields = map (text_field old.format) names in
-    let whole = take_all k fields (omega (arith, all,
-    length-map names (text_field old.format))) in (
+    let whole = take_all k fields (omega (
+      arith,
+      all,
+      length-map names (text_field old.format),
+    )) in (
       added.0
           ∙ ap (λ bs. bs ++ 10 ∷ [])
           (before.1
@@ -147,4 +150,22 @@ names_ended old now last names k (Ok u) all before added =
           whole)
           ∙ append_assoc old.bytes.items (joined (old.format.output_delimiter ∷ []) fields) (10 ∷ []),
       added.1 ∙ before.0,
+    )
+
+-- a text that is put after the others and made a field there
+pub text_added : (old new : Output) (start : ℕ) (mid text : List ℕ)
+    (r : Result (Unit {0}) AllocError) → start ≡ length old.bytes.items
+    → mid ≡ old.bytes.items ++ text
+    → OnOk r (new.bytes.items ≡ take start mid ++ text_field old.format (drop start mid))
+    → new.format ≡ old.format → OnOk r (Adds old new (text_field old.format text))
+text_added old new start mid text (Err e) is put h same = h
+text_added old new start mid text (Ok u) is put h same =
+    let kept : take start mid ≡ old.bytes.items =
+    ap (λ (m : List ℕ). take start m) put
+    ∙ take-append-le start old.bytes.items text (omega (arith, is))
+    ∙ take_all start old.bytes.items (omega (arith, is)) in
+    let added : drop start mid ≡ text =
+    ap (λ (m : List ℕ). drop start m) put ∙ drop_at old.bytes.items text start (sym is) in (
+      h ∙ ap₂ (λ (a b : List ℕ). a ++ text_field old.format b) kept added,
+      same,
     )

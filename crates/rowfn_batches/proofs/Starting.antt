@@ -3,7 +3,7 @@ use Rattle.std.proofs.Common.{◌≡◌, ◌∙◌, ◌++◌, ◌∷◌, [], ℕ
 use Rattle.std.proofs.Common.{Result, Ok, Err, refl, sym, ap, ap₂, append_assoc, append-nil, length}
 use Rattle.std.proofs.Common.{option_map, if◌then◌else◌}
 use Rattle.std.specs.Prelude.{MatchBool, MatchResult, IfOk, IfErr}
-use Rattle.csv.specs.Records.{fields_of}
+use Rattle.csv.specs.Records.{fields_of, Row}
 use Rattle.csv.specs.Reading.{reader_source}
 use Rattle.vortex_types.specs.LogicalTypes.{field_count}
 use Rattle.vortex_types.specs.TypeOf.{struct_fields}
@@ -18,6 +18,7 @@ use Rattle.rowfn_batches.specs.declared.header.Layout.{Layout}
 use Rattle.rowfn_batches.specs.declared.output.Output.{Output}
 use Rattle.rowfn_batches.specs.declared.settings.Settings.{Settings}
 use Rattle.rowfn_batches.specs.Layouts.{StandAt, RefusesHeader, without_memory, AreApartFrom}
+use Rattle.rowfn_batches.specs.Layouts.{IsNameTaken}
 use Rattle.rowfn_batches.specs.Names.{names_of}
 use Rattle.rowfn_batches.specs.Outputs.{Adds, names_line}
 use Rattle.rowfn_batches.specs.Spellings.{spelled_where}
@@ -202,3 +203,13 @@ module _ {R : Type 0} (reader : R) (settings : Settings) (rows : Records R) wher
       → ReadsHeader settings rows now (Ok is_there) → HasReadHeader reader settings is_there now
   has_read is_there now new header =
       record { none_read = rows; fresh = new; header = header }
+
+-- answers that were compared with the fields that are written too
+pub beside : (settings : Settings) (answers : List Answer) (header : Row)
+    (r : Result (Unit {0}) StreamError) → settings.appends ≡ true
+    → MatchResult r (λ _. AreApartFrom (fields_of header) answers)
+    (IsNameTaken (fields_of header) answers)
+    → MatchResult r (λ _. settings.appends ≡ true → AreApartFrom (fields_of header) answers)
+    (λ e. (settings.appends ≡ true) × IsNameTaken (fields_of header) answers e)
+beside settings answers header (Ok u) on h = λ _. h
+beside settings answers header (Err e) on h = (on, h)

@@ -71,7 +71,7 @@ pub data ReadsHeader {R : Type 0} (settings : Settings) (old now : Records R)
 -- columns are where a header with those fields says
 pub record AreNamed (fields : List (List ℕ)) (x : Asked) (layout : Layout) : Type 0 where
   pub places :
-    StandAt fields (struct_fields x.program.now.scope) x.places.now layout.places.items
+      StandAt fields (struct_fields x.program.now.scope) x.places.now layout.places.items
   pub width : layout.width ≡ Some (length fields)
 
 -- columns are in the order in which they are declared, but for those whose places are given
@@ -167,7 +167,7 @@ pub record IsHeaded {R : Type 0} (reader : R) (settings : Settings) (x : Asked)
   pub text : s.output.bytes.items
       ≡ header_text settings is_there s.records settings.format x.program.now.written.items
   pub apart :
-    AreNamedApart settings (fields_of s.records.last) x.program.now.written.items
+      AreNamedApart settings (fields_of s.records.last) x.program.now.written.items
   pub none_read : s.summary ≡ record { rows_read = 0; rows_written = 0 }
 
 -- Why a stream of that reader does not start, in this order: its output would not read back, its

@@ -10,7 +10,5 @@ use vortex_program::Program;
 pub struct Asked<'a> {
     pub program: &'a Program,
     pub places: &'a [Option<usize>],
-    pub ghost optimized: {
-        ∥ AreOptimized program.now.written.items program.now.optimized.items ∥₁
-    },
+    pub ghost optimized: { ∥ AreOptimized program.now.written.items program.now.optimized.items ∥₁ },
 }

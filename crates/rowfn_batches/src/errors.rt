@@ -128,9 +128,7 @@ impl StreamError {
             | StreamError::OpenHeader
             | StreamError::FieldTooLong { .. }
             | StreamError::HeaderTooLong(_) => 2,
-            StreamError::Reading(_)
-            | StreamError::Writing(_)
-            | StreamError::OutOfMemory => 3,
+            StreamError::Reading(_) | StreamError::Writing(_) | StreamError::OutOfMemory => 3,
             StreamError::AnswerTwice(_) | StreamError::RowsLost(_) | StreamError::NameTaken(_) => 4,
         }
     }

@@ -27,12 +27,7 @@ fn text_of(alloc: Global, tree: &BoundExpression<NoCustom>) -> VortexResult<Stri
 }
 
 /// Adds a tree's title and its texts. Fails only where memory runs out.
-fn push_head(
-    out: &mut String,
-    title: &str,
-    words: &str,
-    printed: &str,
-) -> Result<(), AllocError>
+fn push_head(out: &mut String, title: &str, words: &str, printed: &str) -> Result<(), AllocError>
     ensures { OnOk result (string_bytes out.new
         ≡ string_bytes out.old ++ tree_head title.now words.now printed.now) }
 {
@@ -119,16 +114,30 @@ fn push_answer(
     push_rules(out, alloc, printed.as_str(), optimized)
 }
 
+/// The answer of that number, if there is one.
+fn answer_at(answers: &[Answer], place: usize) -> Option<&Answer>
+    ensures { option_map (λ a. a.now) result ≡ slice_get answers.now place }
+{
+    answers.get(place)
+}
+
+/// The lines of each answer and of what rules make of it. E9 where an allocation fails.
+fn answer_lines(alloc: Global, written: &[Answer], optimized: &[Answer]) -> VortexResult<String>
+    ensures { AnswersUnlessMemory result (λ text. AreExplained written.now optimized.now
+        (length written.now) (string_bytes text)) }
+{
+    let mut out = String::new(alloc);
+    for k in 0..written.len() {
+        push_answer(&mut out, alloc, &written[k], answer_at(optimized, k))?;
+    }
+    Ok(out)
+}
+
 /// Of each answer its name, its texts, type and weight; and those of the tree that rules make of it,
 /// where that prints itself otherwise. E9 where an allocation fails.
 pub fn explain(alloc: Global, program: &Program) -> VortexResult<String>
     ensures { AnswersUnlessMemory result (λ text. AreExplained program.now.written.items
         program.now.optimized.items (length program.now.written.items) (string_bytes text)) }
 {
-    let mut out = String::new(alloc);
-    for k in 0..program.written.len() {
-        let optimized = program.optimized.get(k);
-        push_answer(&mut out, alloc, &program.written[k], optimized)?;
-    }
-    Ok(out)
+    answer_lines(alloc, &program.written, &program.optimized)
 }

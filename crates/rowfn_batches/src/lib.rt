@@ -28,7 +28,7 @@ pub use errors::StreamError;
 pub use explained::explain;
 pub use names::check_names;
 pub use printing::push_field;
-pub use refusals::{NoRefusals, RefusedRows, Refusals, refusals_in};
+pub use refusals::{NoRefusals, Refusals, RefusedRows, refusals_in};
 pub use rowfn_csv::Format;
 pub use settings::Settings;
 pub use stream::{Summary, run};

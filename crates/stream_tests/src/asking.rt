@@ -4,7 +4,7 @@ use crate::cases::{BATCHES, STEPS, ended_so, is_case};
 use crate::pipes::{Drips, Sink};
 use crate::programs::{Placed, placed};
 use fixtures::same;
-use rowfn_batches::{Format, RefusedRows, Refusals, Settings, StreamError, Summary, run};
+use rowfn_batches::{Format, Refusals, RefusedRows, Settings, StreamError, Summary, run};
 use rowfn_queries::{Again, Query, Words, read_query};
 use rowfn_scripts::Expression;
 use std::alloc::Global;
@@ -127,10 +127,7 @@ fn settings_of<'a>(asked: &Asked<'a>, batch: (usize, u64)) -> Settings<'a> {
 }
 
 /// A program of an expression, if there is one.
-fn placed_if(
-    alloc: Global,
-    expression: Option<Expression>,
-) -> Result<Option<Placed>, StreamError> {
+fn placed_if(alloc: Global, expression: Option<Expression>) -> Result<Option<Placed>, StreamError> {
     let Some(expression) = expression else {
         return Ok(None);
     };

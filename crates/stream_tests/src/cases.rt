@@ -153,7 +153,15 @@ pub fn run_case(
         Some(condition) => {
             let condition = condition.asked();
             let condition = Some(&condition);
-            run(alloc, &settings, &asked, condition, reader, sink, &mut refused)
+            run(
+                alloc,
+                &settings,
+                &asked,
+                condition,
+                reader,
+                sink,
+                &mut refused,
+            )
         }
         None => run(alloc, &settings, &asked, None, reader, sink, &mut refused),
     }

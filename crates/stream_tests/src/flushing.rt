@@ -75,7 +75,16 @@ fn is_heard(alloc: Global, case: &Case<'_>, parts: &[(&str, usize)]) -> bool {
     let settings = settings_of(case, (1000, 1000));
     let mut refused = RefusedRows::<Sink>::End;
     let asked = answers.asked();
-    run(alloc, &settings, &asked, None, reader, &mut listener, &mut refused).is_ok()
+    run(
+        alloc,
+        &settings,
+        &asked,
+        None,
+        reader,
+        &mut listener,
+        &mut refused,
+    )
+    .is_ok()
 }
 
 const SUM: &str = "col a i64\ncol b i64\nget a\nget b\ncall +\nas sum\n";

@@ -32,12 +32,6 @@ fn push_source(text: &mut String, source: &Source<'_>) -> Result<(), AllocError>
         Source::Nowhere => Ok(()),
         Source::Text(answers) => push_word(text, "text", Some(*answers)),
         Source::File(name) => push_word(text, "file", Some(*name)),
-        Source::Lines(lines) => {
-            for line in lines.iter() {
-                push_word(text, "line", Some(*line))?;
-            }
-            Ok(())
-        }
     }
 }
 
@@ -65,6 +59,7 @@ fn described(alloc: Global, options: &Options<'_>) -> Result<String, AllocError>
         condition,
         source,
         input,
+        ..
     } = options;
     let mut text = format!(in alloc; "{delimiter} {header} '{null}' {batch} {action:?} {summary}")?;
     if *blank_rows {

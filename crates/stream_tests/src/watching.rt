@@ -44,7 +44,15 @@ fn watched(alloc: Global, input: &str, every: u64) -> Option<((u64, u64, u64), u
     };
     let mut refused = RefusedRows::<Sink>::End;
     let asked = answers.asked();
-    match run(alloc, &settings, &asked, None, reader, &mut sink, &mut refused) {
+    match run(
+        alloc,
+        &settings,
+        &asked,
+        None,
+        reader,
+        &mut sink,
+        &mut refused,
+    ) {
         Ok(_) => Some((last.get(), rows.get())),
         Err(_) => None,
     }

@@ -1,5 +1,5 @@
 use Rattle.std.proofs.Common.{string_bytes}
-use Rattle.rowfn_batches.proofs.Explained.{head_added}
+use Rattle.rowfn_batches.proofs.Explanations.{head_added}
 use Rattle.rowfn_batches.proofs.explained.push_head.Goals as goal
 
 pub returns : goal.returns

@@ -1,7 +1,7 @@
 use Rattle.std.proofs.Common.{string_bytes, ◌∙◌, ◌++◌, ap}
 use Rattle.vortex_types.specs.TypeOf.{type_of}
 use Rattle.rowfn_batches.specs.Explaining.{tree_head, weight_end}
-use Rattle.rowfn_batches.proofs.Explained.{three}
+use Rattle.rowfn_batches.proofs.Explanations.{three}
 use Rattle.rowfn_batches.proofs.explained.push_tree.Goals as goal
 
 pub returns : goal.returns

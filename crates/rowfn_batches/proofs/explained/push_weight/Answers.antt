@@ -1,5 +1,5 @@
 use Rattle.std.proofs.Common.{string_bytes}
-use Rattle.rowfn_batches.proofs.Explained.{weight_added}
+use Rattle.rowfn_batches.proofs.Explanations.{weight_added}
 use Rattle.rowfn_batches.proofs.explained.push_weight.Goals as goal
 
 pub returns : goal.returns

@@ -14,11 +14,11 @@ returns-in_err-check_names c =
 
 pub returns-then-settings-2 : goal.returns-then-settings-2
 returns-then-settings-2 c = λ _.
-    kept_appended c.args.settings.now c.args.asked.answers.items c.if-settings.false
+    kept_appended c.args.settings.now c.args.program.now.written.items c.if-settings.false
     c.in_ok-check_names.ensures c.if-settings-2.true
 
 pub returns : goal.returns
 returns c =
-    read_back c.args.settings.now c.args.asked.answers.items c.if-settings.false
+    read_back c.args.settings.now c.args.program.now.written.items c.if-settings.false
     c.in_ok-check_names.ensures c.deref.result.now c.check_rows.result c.deref.ensures.value
     c.check_rows.ensures

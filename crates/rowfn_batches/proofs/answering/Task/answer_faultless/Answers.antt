@@ -6,5 +6,7 @@ pub returns-in-Ok-clause-rows : goal.returns-in-Ok-clause-rows
 returns-in-Ok-clause-rows c = record {
   columns = c.in_ok-columns.columns.items;
   first = c.in_ok-columns.ensures;
-  mean = ∥∥₁_map (rewrites c.args.self.now.asked) c.in-Ok.ensures;
+  mean =
+      ∥∥₁_map (rewrites c.args.self.now.asked)
+      (λ r. rw c.deref.ensures.value at (c.in-Ok.ensures r));
 }

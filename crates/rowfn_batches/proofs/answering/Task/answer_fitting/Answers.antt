@@ -25,7 +25,7 @@ returns-in-Err-Fault-clause-ends c =
     if_ok-weaker c.answer_faultless.result _ _
     (λ a h.
     subst (λ (n : ℕ). EndsAnswers x fs number fit c.args.error n a.error) (sym h.0)
-    (at_fault c.args.columns.now found.answer found.error
+    (at_fault c.args.columns.now found.field-0-1 found.error
     (end.Fault c.number_of.result found.error) h.1 c.requires faulty (c.number_of.ensures, refl)))
     c.answer_faultless.ensures.ends
 
