@@ -146,7 +146,8 @@ impl<'a> Output<'a> {
         let Some(rows) = TruthRows::of(column) else {
             return self.push_other(column, place);
         };
-        push_truth_in(&mut self.bytes, &rows, place, truths, &self.format)
+        push_truth_in(&mut self.bytes, &rows, place, truths, &self.format)?;
+        Ok(())
     }
 
     /// Ends a line. Refused only for want of memory.

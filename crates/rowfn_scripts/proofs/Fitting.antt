@@ -318,7 +318,7 @@ module _ {V O : Type 0} (m : Meaning V O) (s : SessionView V O) (fits : Fits m s
         (((a.0.0, tt), (a.1.0, tt), (a.2.0, tt), (a.3.0, tt)), (a.0.1, a.1.1, a.2.1, a.3.1)))
         (least_count (shipped_arity f)) s.stack p h
         (rows_at, fits.fit, fits.with_types, fits.shown) in
-        with_stack (call_of m f p.0 ∷ p.1) _ s.printed
+        with_stack (call_of m f p.0 ∷ p.1) s.printed
         (all_rows s.columns n p.0 all.0.0, all.1.0) (all_fit s.columns p.0 all.0.1, all.1.1)
         (type, all.1.2) (call_shown f p.0 all.0.3, all.1.3)
 

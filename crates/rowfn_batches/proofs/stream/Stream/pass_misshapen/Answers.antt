@@ -17,7 +17,7 @@ returns g c =
     (record {
       alloc = refl;
       settings = refl;
-      expression = refl;
+      asked = refl;
       condition = refl;
       records =
           refl;
