@@ -48,8 +48,8 @@ pub record IsEndOf (bytes rest : List ℕ) : Type 0 where
   pub few : length rest ≤ length bytes
   pub last : rest ≡ drop (length bytes - length rest) bytes
 
--- bytes from the first record on: without the ends of lines and the comments before it; the first bytes
--- may belong to a comment
+-- bytes from the first record on: without the ends of lines and the comments before it; the first
+-- bytes may belong to a comment
 abbrev pub from_record : Option ℕ → Bool → List ℕ → List ℕ
 from_record comment in_comment [] = []
 from_record comment in_comment (b ∷ bs) =

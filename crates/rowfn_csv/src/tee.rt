@@ -10,9 +10,9 @@ use std::cell::Cell;
 use std::io::{self, ErrorKind, Read};
 
 /// A reader over another, which keeps the bytes that it gave from a place of the input on. Where it
-/// gives more than one byte, it gives a carriage return together with what follows it. It gives line
-/// feeds for the bytes of comments, but keeps those. It fails where the record that is being read has
-/// a field that is longer than a limit.
+/// gives more than one byte, it gives a carriage return together with what follows it. It gives
+/// line feeds for the bytes of comments, but keeps those. It fails where the record that is being
+/// read has a field that is longer than a limit.
 #[derive(Drop)]
 pub struct Tee<R> {
     inner: R,
@@ -225,7 +225,8 @@ impl<R: Read> Tee<R> {
         Ok(count)
     }
 
-    /// Holds back a carriage return at the end of the bytes that were read; returns how many are given.
+    /// Holds back a carriage return at the end of the bytes that were read; returns how many are
+    /// given.
     fn hold_return(&mut self, buf: &[u8], count: usize) -> usize
         requires { count ≤ length buf.now }
         ensures fewer { result ≤ count }
