@@ -1,7 +1,7 @@
 -- What a read of a record leaves as it was, and what is left behind the last record.
-use Rattle.std.specs.Prelude.{◌≡◌, ◌≢◌, ◌<◌, ◌≤◌, ◌-◌, ◌||◌, ℕ, List, Bool, Option, true, false}
+use Rattle.std.specs.Prelude.{◌≡◌, ◌≢◌, ◌<◌, ◌≤◌, ◌-◌, ◌||◌, ◌&&◌, ◌==◌, ℕ, List, Bool, Option}
 use Rattle.std.specs.Prelude.{IsSome, length, drop, take, fold, slice_index, [], ◌∷◌, ⊤}
-use Rattle.std.specs.Prelude.{if◌then◌else◌}
+use Rattle.std.specs.Prelude.{true, false, not, if◌then◌else◌}
 use Rattle.csv.specs.Reading.{reader_source}
 use Rattle.rowfn_csv.specs.declared.raw.Place.{Place}
 use Rattle.rowfn_csv.specs.declared.raw.Place.TheVariants as at
@@ -55,6 +55,15 @@ from_record comment in_comment [] = []
 from_record comment in_comment (b ∷ bs) =
     if is_line_end b then from_record comment false bs
     else (if in_comment || begins_comment comment b then from_record comment true bs else b ∷ bs)
+
+-- bytes without the comments with which they begin, and without the ends of their lines; the first
+-- byte may belong to a comment, or may be after a carriage return that ends one
+abbrev pub after_comments : Option ℕ → Bool → Bool → List ℕ → List ℕ
+after_comments comment in_comment after_return [] = []
+after_comments comment in_comment after_return (b ∷ bs) =
+    if (in_comment || (after_return && (b == 10))) || begins_comment comment b
+    then after_comments comment (not (is_line_end b)) (b == 13) bs
+    else b ∷ bs
 
 -- the bytes from a place of the input on, as far as they were read
 abbrev pub bytes_from : {R : Type 0} → Tee R → ℕ → List ℕ
