@@ -32,7 +32,7 @@ impl<R: Read> Tee<R> {
     ghost use Rattle.std.specs.Prelude.{◌≡◌};
     ghost use Rattle.rowfn_csv.specs.Comments.{BeginsLines};
     ghost use Rattle.rowfn_csv.specs.KeptLines.{bytes_between};
-    ghost use Rattle.rowfn_csv.specs.Reads.{bytes_from};
+    ghost use Rattle.rowfn_csv.specs.Reads.{bytes_from, behind_mark};
 
     /// Nothing is read yet; takes no memory. `limit` is the greatest length of a field.
     pub(crate) fn new(alloc: Global, inner: R, format: &Format<'_>, limit: usize) -> Tee<R>
@@ -104,7 +104,9 @@ impl<R: Read> Tee<R> {
     }
 
     /// The place behind a byte order mark, where that is one's; else the same.
-    pub(crate) fn behind_mark(&self, place: u64) -> u64 {
+    pub(crate) fn behind_mark(&self, place: u64) -> u64
+        ensures { result ≡ behind_mark self.now place }
+    {
         if place == 0 && self.kept.as_slice().starts_with(MARK) {
             MARK.len() as u64
         } else {
