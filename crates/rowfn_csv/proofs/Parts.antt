@@ -39,10 +39,11 @@ parts_kept n more xs ys size same = record { grows = size; said = said_alike n x
 pub part_put : (bytes field : List ℕ) (p : Part) → p.start ≤ p.end → part_bytes bytes p ≡ field
     → part_said bytes p ≡ Some field
 part_put bytes field p rising e =
-    ap (λ b. if b then Some (part_bytes bytes p) else None) (le-leb p.start p.end rising) ∙ ap Some e
+    ap (λ b. if b then Some (part_bytes bytes p) else None) (le-leb p.start p.end rising)
+    ∙ ap Some e
 
-said_all : (n more : ℕ) (xs ys : List ℕ) → KeepsParts n xs more ys → (ps : List Part) → AreParts n ps
-    → map (part_said ys) ps ≡ map (part_said xs) ps
+said_all : (n more : ℕ) (xs ys : List ℕ) → KeepsParts n xs more ys → (ps : List Part)
+    → AreParts n ps → map (part_said ys) ps ≡ map (part_said xs) ps
 said_all n more xs ys kept [] h = refl
 said_all n more xs ys kept (p ∷ ps) h =
     λ i. kept.said p (h 0 p (omega arith)) i

@@ -1,7 +1,7 @@
 -- What is written of cells says those cells.
-use Rattle.std.proofs.Common.{◌≡◌, ◌≢◌, Bool, true, false, ℕ, List, [], ◌∷◌, ◌++◌, ◌==◌, ◌||◌, length}
-use Rattle.std.proofs.Common.{refl, sym, ap, ap₂, ◌∙◌, subst, if◌then◌else◌, map, append-nil, inl, inr}
-use Rattle.std.proofs.Common.{Option, Some, None, arith}
+use Rattle.std.proofs.Common.{◌≡◌, ◌≢◌, Bool, true, false, ℕ, List, [], ◌∷◌, ◌++◌, ◌==◌, ◌||◌}
+use Rattle.std.proofs.Common.{refl, sym, ap, ap₂, ◌∙◌, subst, if◌then◌else◌, map, append-nil}
+use Rattle.std.proofs.Common.{length, inl, inr, Option, Some, None, arith}
 use Rattle.std.specs.List.{list_any}
 use Rattle.std.specs.Str.{bytes_eq}
 use Rattle.std.proofs.lemmas.Bool.Decides.{eqb_tells}
@@ -128,8 +128,9 @@ module _ (format : Format) where
     spelled (Some text) = text_spelled (needs_quotes format text) text refl
 
     null_said : is_null_text format null ≡ true
-    null_said = ap (λ (b : Bool). b || list_any (λ other. bytes_eq null other.now) format.more_nulls.now)
-        (same_bytes null)
+    null_said =
+        let more : Bool = list_any (λ other. bytes_eq null other.now) format.more_nulls.now in
+        ap (λ (b : Bool). b || more) (same_bytes null)
 
     said : (c : Option (List ℕ)) → cell_said format (field_of c) ≡ c
     said None = ap (λ (b : Bool). if b then None else Some null) null_said
@@ -140,7 +141,8 @@ module _ (format : Format) where
     in_line (Some text) = text_in_line (needs_quotes format text) text refl
 
     line_says : (c : Option (List ℕ)) (cs : List (Option (List ℕ)))
-        → SaysFields d true (fields_line d (map (cell_field format) (c ∷ cs))) (map field_of (c ∷ cs))
+        → SaysFields d true (fields_line d (map (cell_field format) (c ∷ cs)))
+        (map field_of (c ∷ cs))
     line_says c [] =
         subst (λ (bytes : List ℕ). Spells d true (field_of c) bytes)
         (sym (append-nil (cell_field format c))) (spelled c)
@@ -173,7 +175,8 @@ module _ (format : Format) where
     text_no_comment true text e = can.quote_begins_none
     text_no_comment false text e = (no_quotes text e).no_comment
 
-    cell_no_comment : (c : Option (List ℕ)) → is_comment_line format.comment (cell_field format c) ≡ false
+    cell_no_comment : (c : Option (List ℕ))
+        → is_comment_line format.comment (cell_field format c) ≡ false
     cell_no_comment None = can.null.no_comment
     cell_no_comment (Some text) = text_no_comment (needs_quotes format text) text refl
 

@@ -69,8 +69,8 @@ module _ (d : ℕ) where
   begin_quoted bytes (shut text rest e begins (last lacks)) =
       says true (in_quotes (text ++ rest)) []
       (text, rest, refl, ap (λ (t : List ℕ). 34 ∷ t) e ∙ shape text rest, lacks, begins)
-  begin_quoted bytes (shut text rest e begins (more behind others f lacks (says closed g fs told))) =
-      says closed (in_quotes (text ++ behind)) (g ∷ fs) (
+  begin_quoted bytes (shut text rest e begins (more behind others f lacks (says shuts g fs told))) =
+      says shuts (in_quotes (text ++ behind)) (g ∷ fs) (
         quoted text ++ behind,
         others,
         ap (λ (t : List ℕ). 34 ∷ t) e ∙ shape text rest ∙ ap (λ (t : List ℕ). quoted text ++ t) f

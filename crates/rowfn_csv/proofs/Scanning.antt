@@ -1,7 +1,7 @@
 -- What going over the bytes of a record tells of the fields that they say.
 use Rattle.std.proofs.Common.{◌≡◌, ◌≢◌, Bool, true, false, ℕ, List, [], ◌∷◌, ◌++◌, ◌==◌}
-use Rattle.std.proofs.Common.{refl, sym, ap, ◌∙◌, append_assoc, if◌then◌else◌, inl, inr, map, append-nil}
-use Rattle.std.proofs.Common.{zero, suc, length, ◌<◌, slice_index, get_or, arith}
+use Rattle.std.proofs.Common.{refl, sym, ap, ◌∙◌, append_assoc, if◌then◌else◌, inl, inr}
+use Rattle.std.proofs.Common.{map, append-nil, zero, suc, length, ◌<◌, slice_index, get_or, arith}
 use Rattle.memchr.specs.Find.{is_byte}
 use Rattle.std.specs.Bool.{⊤}
 use Rattle.std.specs.List.{flat_map}
@@ -56,7 +56,8 @@ module _ (d : ℕ) where
   FollowsField (b ∷ bs) = b ≡ d
 
   module _ (A : Type 0) (stop : Place → A) (start : Bool → A → A) where
-    -- from a place on: what is told at each field's start, whether a quote stands there, and at the end
+    -- from a place on: what is told at each field's start, whether a quote stands there, and at the
+    -- end
     abbrev pub scanned : Place → List ℕ → A
     scanned p [] = stop p
     scanned at.Start (b ∷ bs) = start (b == 34) (scanned (place_behind d at.Start b) bs)
@@ -127,7 +128,8 @@ module _ (d : ℕ) where
           ∙ plain bs rest h.1
 
       in_quotes_on : (text rest : List ℕ)
-          → scanned at.Start (34 ∷ (flat_map doubled text ++ rest)) ≡ start true (scanned at.Quoted rest)
+          → scanned at.Start (34 ∷ (flat_map doubled text ++ rest))
+          ≡ start true (scanned at.Quoted rest)
       in_quotes_on text rest =
           begins at.Quoted 34 true (flat_map doubled text ++ rest)
           (at_quote d at.Start no_quote (λ e. cc) (λ e. cc)) refl
@@ -168,7 +170,8 @@ module _ (d : ℕ) where
           ap (scanned at.Start) (sym (append-nil bytes)) ∙ one_field f bytes [] h tt
       scanned_says false bytes (bare text ∷ []) h = absurd (cc h.0)
       scanned_says false bytes (in_quotes text ∷ []) h =
-          ap (scanned at.Start) (h ∙ ap (λ (t : List ℕ). 34 ∷ t) (sym (append-nil (flat_map doubled text))))
+          let no_more = sym (append-nil (flat_map doubled text)) in
+          ap (scanned at.Start) (h ∙ ap (λ (t : List ℕ). 34 ∷ t) no_more)
           ∙ in_quotes_on text []
       scanned_says closed bytes (f ∷ g ∷ fs) (spelling, rest, is, this, more) =
           ap (scanned at.Start) is
@@ -203,7 +206,8 @@ closed_says d no_quote closed bytes fs h =
     scanned_says d Bool closed_at (λ m rest. rest) no_quote refl refl closed bytes fs h
     ∙ of_fields closed fs
   where
-    of_fields : (closed : Bool) (fs : List Field) → told d Bool closed_at (λ m rest. rest) closed fs ≡ closed
+    of_fields : (closed : Bool) (fs : List Field)
+        → told d Bool closed_at (λ m rest. rest) closed fs ≡ closed
     of_fields true [] = refl
     of_fields false [] = refl
     of_fields closed (f ∷ fs) = of_fields closed fs
@@ -214,7 +218,8 @@ marks_say d no_quote closed bytes fs h =
     scanned_says d (List Bool) last_mark ◌∷◌ no_quote refl refl closed bytes fs h
     ∙ of_fields closed fs
   where
-    of_fields : (closed : Bool) (fs : List Field) → told d (List Bool) last_mark ◌∷◌ closed fs ≡ map is_quoted fs
+    of_fields : (closed : Bool) (fs : List Field)
+        → told d (List Bool) last_mark ◌∷◌ closed fs ≡ map is_quoted fs
     of_fields true [] = refl
     of_fields false [] = refl
     of_fields closed (f ∷ fs) = ap (λ (t : List Bool). is_quoted f ∷ t) (of_fields closed fs)

@@ -1,7 +1,7 @@
 -- The bytes of a record among those that are kept, and that they begin with no comment.
-use Rattle.std.proofs.Common.{◌≡◌, ◌≢◌, ◌≤◌, ◌<◌, ◌+◌, ◌-◌, ◌∙◌, ◌&&◌, ◌||◌, Bool, true, false, ℕ, List}
-use Rattle.std.proofs.Common.{[], ◌∷◌, Option, length, take, drop, refl, sym, ap, arith, zero, suc}
-use Rattle.std.proofs.Common.{if◌then◌else◌, get_or}
+use Rattle.std.proofs.Common.{◌≡◌, ◌≢◌, ◌≤◌, ◌<◌, ◌+◌, ◌-◌, ◌∙◌, ◌&&◌, ◌||◌, Bool, true, false, ℕ}
+use Rattle.std.proofs.Common.{List, [], ◌∷◌, Option, length, take, drop, refl, sym, ap, arith, zero}
+use Rattle.std.proofs.Common.{suc, if◌then◌else◌, get_or}
 use Rattle.std.specs.Prelude.{nat_le, slice_range}
 use Rattle.std.proofs.lemmas.Bool.{leb-true, le-leb}
 use Rattle.std.proofs.lemmas.List.{length-take-le, length-drop, drop-drop, drop_all, take-take}
@@ -31,7 +31,8 @@ a_part bytes start end = by (within bytes start end) refl
     by true e =
         let tests = both (nat_le start end) (nat_le end (length bytes)) e in
         there (leb-true start end tests.0) (leb-true end (length bytes) tests.1)
-        (ap (λ (b : Bool). if b then slice_range bytes start end else []) e ∙ between_is bytes start end)
+        (ap (λ (b : Bool). if b then slice_range bytes start end else []) e
+        ∙ between_is bytes start end)
     by false e = nothing (ap (λ (b : Bool). if b then slice_range bytes start end else []) e)
 
 -- a part within the bytes
@@ -182,7 +183,8 @@ end_of_end : (bytes rest least : List ℕ) → IsEndOf bytes rest → IsEndOf re
 end_of_end bytes rest least h g =
     let few : length rest ≤ length bytes = h.few in
     let fewer : length least ≤ length rest = g.few in
-    let count : (length bytes - length rest) + (length rest - length least) ≡ length bytes - length least =
+    let count : (length bytes - length rest) + (length rest - length least)
+    ≡ length bytes - length least =
     omega (arith, few, fewer) in
     record {
       few = omega (arith, few, fewer);
@@ -191,8 +193,8 @@ end_of_end bytes rest least h g =
           ∙ ap (λ (k : ℕ). drop k bytes) count;
     }
 
--- a record's own bytes, from the first that belongs to it up to the end of those that were read or on to
--- a line feed after them: they begin with no comment
+-- a record's own bytes, from the first that belongs to it up to the end of those that were read or
+-- on to a line feed after them: they begin with no comment
 module _ (comment : Option ℕ) (kept : List ℕ) (first start end : ℕ) (bytes : List ℕ)
     (read : IsEndOf (part kept (start - first) (end - first)) bytes)
   where
@@ -209,12 +211,14 @@ module _ (comment : Option ℕ) (kept : List ℕ) (first start end : ℕ) (bytes
         ∙ part_end kept (start - first) (end - first) (length own) ends.few
         ∙ sym ends.last
 
-    own_none : is_comment_line comment (part kept ((end - length own) - first) (end - first)) ≡ false
+    own_none :
+        is_comment_line comment (part kept ((end - length own) - first) (end - first)) ≡ false
     own_none = ap (is_comment_line comment) own_part ∙ no_comment comment false bytes
 
     module _ (record_bytes : List ℕ) (is : record_bytes ≡ own) where
       abbrev from_to : ℕ → List ℕ → Bool
-      from_to end_place r = is_comment_line comment (part kept ((end - length r) - first) (end_place - first))
+      from_to end_place r =
+          is_comment_line comment (part kept ((end - length r) - first) (end_place - first))
 
       pub own_no_comment : from_to end record_bytes ≡ false
       own_no_comment = ap (from_to end) is ∙ own_none

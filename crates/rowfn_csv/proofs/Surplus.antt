@@ -7,7 +7,8 @@ use Rattle.rowfn_csv.specs.Records.{is_filled, has_surplus}
 
 -- the field at a place, and those past it
 pub surplus_at : (texts : List (List ℕ)) (i : ℕ)
-    → has_surplus texts i ≡ (option_map_or is_filled (field_at texts i) false || has_surplus texts (suc i))
+    → has_surplus texts i
+    ≡ (option_map_or is_filled (field_at texts i) false || has_surplus texts (suc i))
 unfolding field_at
 surplus_at [] zero = refl
 surplus_at [] (suc i) = refl

@@ -1,6 +1,6 @@
 -- Comments: lines of the input that begin with the comment byte, outside quotes. They are skipped.
-use Rattle.std.specs.Prelude.{◌≡◌, Bool, true, false, ◌==◌, ℕ, List, [], ◌∷◌, ◌++◌, Option, Some, None, map}
-use Rattle.std.specs.Prelude.{if◌then◌else◌}
+use Rattle.std.specs.Prelude.{◌≡◌, Bool, true, false, ◌==◌, ℕ, List, [], ◌∷◌, ◌++◌, Option, Some}
+use Rattle.std.specs.Prelude.{None, map, if◌then◌else◌}
 use Rattle.rowfn_csv.specs.Formats.{is_line_end, begins_comment}
 use Rattle.rowfn_csv.specs.Records.{Lacks}
 use Rattle.rowfn_csv.specs.Scanning.{place_behind}
@@ -35,14 +35,17 @@ past_mark line.Start = line.Start
 past_mark line.Comment = line.Comment
 past_mark (line.Record p) = line.Record p
 
--- where the byte after one is: a comment goes on to the end of its line, and a record to the first end
--- of a line outside quotes
+-- where the byte after one is: a comment goes on to the end of its line, and a record to the first
+-- end of a line outside quotes
 abbrev pub begun_after : ℕ → Option ℕ → ℕ → Line
 begun_after delimiter comment b =
-    if begins_comment comment b then line.Comment else line.Record (place_behind delimiter at.Start b)
+    if begins_comment comment b
+    then line.Comment
+    else line.Record (place_behind delimiter at.Start b)
 
 abbrev pub text_after : ℕ → Option ℕ → Line → ℕ → Line
-text_after delimiter comment (line.Record at.Quoted) b = line.Record (place_behind delimiter at.Quoted b)
+text_after delimiter comment (line.Record at.Quoted) b =
+    line.Record (place_behind delimiter at.Quoted b)
 text_after delimiter comment (line.Record at.Start) b =
     if is_line_end b then line.Start else line.Record (place_behind delimiter at.Start b)
 text_after delimiter comment (line.Record at.Plain) b =

@@ -1,6 +1,6 @@
 -- The bytes of the last record that was read.
-use Rattle.std.specs.Prelude.{◌≡◌, ℕ, List, [], Bool, ◌-◌, ◌&&◌, ◌++◌, length, nat_le, slice_range, take}
-use Rattle.std.specs.Prelude.{if◌then◌else◌}
+use Rattle.std.specs.Prelude.{◌≡◌, ℕ, List, [], Bool, ◌-◌, ◌&&◌, ◌++◌, length, nat_le, slice_range}
+use Rattle.std.specs.Prelude.{take, if◌then◌else◌}
 use Rattle.csv.specs.Reading.{reader_source}
 use Rattle.rowfn_csv.specs.Comments.{bytes_given, lines_after}
 use Rattle.rowfn_csv.specs.declared.comments.Lines.{Lines}

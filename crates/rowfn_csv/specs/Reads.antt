@@ -1,7 +1,8 @@
 -- What a read of a record leaves as it was, and what is left behind the last record.
-use Rattle.std.specs.Prelude.{◌≡◌, ◌≢◌, ◌<◌, ◌≤◌, ◌-◌, ◌||◌, ℕ, List, Bool, Option, true, false}
+use Rattle.std.specs.Prelude.{◌≡◌, ◌≢◌, ◌<◌, ◌≤◌, ◌-◌, ◌||◌, ◌&&◌, ◌==◌, ℕ, List, Bool, Option}
 use Rattle.std.specs.Prelude.{IsSome, length, drop, take, fold, slice_index, [], ◌∷◌, ⊤}
-use Rattle.std.specs.Prelude.{if◌then◌else◌}
+use Rattle.std.specs.Prelude.{true, false, not, min, ◌+◌, ◌^◌, nat_eq, if◌then◌else◌}
+use Rattle.std.specs.List.{starts_with}
 use Rattle.csv.specs.Reading.{reader_source}
 use Rattle.rowfn_csv.specs.declared.raw.Place.{Place}
 use Rattle.rowfn_csv.specs.declared.raw.Place.TheVariants as at
@@ -48,17 +49,44 @@ pub record IsEndOf (bytes rest : List ℕ) : Type 0 where
   pub few : length rest ≤ length bytes
   pub last : rest ≡ drop (length bytes - length rest) bytes
 
--- bytes from the first record on: without the ends of lines and the comments before it; the first bytes
--- may belong to a comment
+-- bytes from the first record on: without the ends of lines and the comments before it; the first
+-- bytes may belong to a comment
 abbrev pub from_record : Option ℕ → Bool → List ℕ → List ℕ
 from_record comment in_comment [] = []
 from_record comment in_comment (b ∷ bs) =
     if is_line_end b then from_record comment false bs
     else (if in_comment || begins_comment comment b then from_record comment true bs else b ∷ bs)
 
+-- bytes without the comments with which they begin, and without the ends of their lines; the first
+-- byte may belong to a comment, or may be after a carriage return that ends one
+abbrev pub after_comments : Option ℕ → Bool → Bool → List ℕ → List ℕ
+after_comments comment in_comment after_return [] = []
+after_comments comment in_comment after_return (b ∷ bs) =
+    if (in_comment || (after_return && (b == 10))) || begins_comment comment b
+    then after_comments comment (not (is_line_end b)) (b == 13) bs
+    else b ∷ bs
+
 -- the bytes from a place of the input on, as far as they were read
 abbrev pub bytes_from : {R : Type 0} → Tee R → ℕ → List ℕ
 bytes_from tee start = drop (start - tee.first) tee.kept.items
+
+-- the place after a byte order mark, where that is the start of the input; else the same
+abbrev pub behind_mark : {R : Type 0} → Tee R → ℕ → ℕ
+behind_mark tee place =
+    if (place == 0) && starts_with nat_eq tee.kept.items (239 ∷ 187 ∷ 191 ∷ []) then 3 else place
+
+-- the place after such a mark and the comments at a place; at most what 64 bits hold
+abbrev pub behind_comments : {R : Type 0} → Records R → ℕ → ℕ
+behind_comments rows place = min (start + (length bytes - length rest)) (2 ^ 64 - 1)
+  where
+    start : ℕ
+    start = behind_mark (reader_source rows.reader) place
+
+    bytes : List ℕ
+    bytes = bytes_from (reader_source rows.reader) start
+
+    rest : List ℕ
+    rest = after_comments rows.format.comment false false bytes
 
 -- those after the last record, from the next one on
 abbrev pub bytes_behind : {R : Type 0} → Records R → List ℕ

@@ -57,8 +57,8 @@ abbrev pub quoted_at : List Field → ℕ → Bool
 quoted_at said i = get_or (map is_quoted said) i false
 
 -- what a row takes of a field, by its text, if the record has it, and whether it is in quotes:
--- nothing for null, which is a text for null in no quotes. A field past the record's end is null where
--- records are fitted, and else an empty text.
+-- nothing for null, which is a text for null in no quotes. A field past the record's end is null
+-- where records are fitted, and else an empty text.
 abbrev pub field_by : Format → Option (List ℕ) → Bool → Option (List ℕ)
 field_by format None is_in_quotes = if format.fits then None else Some []
 field_by format (Some text) is_in_quotes =

@@ -38,8 +38,8 @@ module _ (format : Format) where
     pub lines : StandsInLine (bare format.null.now)
     pub no_comment : is_comment_line format.comment format.null.now ≡ false
 
-  -- what is written in that format can be read: the delimiter is no quote, null may be written so, and
-  -- neither a quote nor the delimiter begins a comment
+  -- what is written in that format can be read: the delimiter is no quote, null may be written so,
+  -- and neither a quote nor the delimiter begins a comment
   pub record CanReadBack : Type 0 where
     pub delimiter : format.output_delimiter ≢ 34
     pub null : MayBeNull

@@ -184,8 +184,8 @@ impl Batch {
         self.spans.as_slice()
     }
 
-    /// Adds a field to the row that comes next. Refused only for want of memory, and then the row is
-    /// left unfinished.
+    /// Adds a field to the row that comes next. Refused only for want of memory, and then the row
+    /// is left unfinished.
     #[inline(always)]
     pub fn push_field(&mut self, field: &[u8], is_null: bool) -> Result<(), AllocError>
         ensures fields { OnOk result (self.new.fields ≡ self.old.fields

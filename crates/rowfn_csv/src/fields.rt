@@ -1,5 +1,6 @@
 //! The fields of a record as a batch takes them.
-ghost use Rattle.std.specs.Prelude.{◌≡◌, ◌≢◌, ◌++◌, ◌∷◌, [], ◌&&◌, Bool, not, List, map, OnOk, IfOk};
+ghost use Rattle.std.specs.Prelude.{◌≡◌, ◌≢◌, ◌++◌, ◌∷◌, [], ◌&&◌, Bool, not, List};
+ghost use Rattle.std.specs.Prelude.{map, OnOk, IfOk};
 ghost use Rattle.std.specs.Prelude.{option_map, false};
 ghost use Rattle.std.specs.Option.{option_map_or};
 ghost use Rattle.csv.specs.Records.{fields_of};
@@ -19,8 +20,8 @@ use csv::ByteRecord;
 use std::alloc::AllocError;
 use std::io::Read;
 
-/// Whether the field of a record at that index is null: a text for null in no quotes. The record has
-/// that span of what is kept.
+/// Whether the field of a record at that index is null: a text for null in no quotes. The record
+/// has that span of what is kept.
 #[inline(always)]
 fn is_null<R: Read>(
     field: &[u8],
@@ -98,9 +99,9 @@ fn add_field<R: Read>(
     batch.push_field(respelled(field, column.is_truth), is_null)
 }
 
-/// Adds the fields of a record in those columns to the batch; null or an empty text where the record
-/// has none, as the format says. The record has that span of what is kept. Fails only where an
-/// allocation fails.
+/// Adds the fields of a record in those columns to the batch; null or an empty text where the
+/// record has none, as the format says. The record has that span of what is kept. Fails only where
+/// an allocation fails.
 #[inline(always)]
 pub fn add_fields<C: Chosen, R: Read>(
     fields: &ByteRecord,

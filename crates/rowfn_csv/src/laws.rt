@@ -1,5 +1,5 @@
-//! What follows from what a record says, and how fields are written. The functions do nothing: their
-//! contracts are proved.
+//! What follows from what a record says, and how fields are written. The functions do nothing:
+//! their contracts are proved.
 ghost use Rattle.rowfn_csv.specs.Records.{EachSaysFields};
 ghost use Rattle.rowfn_csv.specs.RoundTrip.{CellsReadBack};
 ghost use Rattle.rowfn_csv.specs.Comments.{CommentsAreSkipped};
@@ -10,8 +10,8 @@ pub fn each_says_fields()
     ensures { EachSaysFields }
 {}
 
-/// Cells that are written as a line, in quotes where they need them, and null as its first text, say
-/// fields that are those cells. The line is no comment, and no line ends within a bare field.
+/// Cells that are written as a line, in quotes where they need them, and null as its first text,
+/// say fields that are those cells. The line is no comment, and no line ends within a bare field.
 pub fn cells_read_back()
     ensures { CellsReadBack }
 {}

@@ -4,7 +4,7 @@ ghost use Rattle.std.specs.Prelude.{◌≡◌, ◌≢◌, List, Bool, true, fals
 ghost use Rattle.std.specs.Prelude.{MatchBool, ◌≤◌, ◌<◌, length};
 ghost use Rattle.std.specs.Str.{bytes_eq};
 ghost use Rattle.rowfn_csv.specs.Formats.{is_line_end};
-ghost use Rattle.rowfn_csv.specs.Reads.{from_record, HasLineEnd, IsEndOf};
+ghost use Rattle.rowfn_csv.specs.Reads.{from_record, after_comments, HasLineEnd, IsEndOf};
 ghost use Rattle.rowfn_csv.specs.Records.{Field, SaysFields, is_quoted, quoted_at};
 ghost use Rattle.rowfn_csv.specs.Records.{without_line_end};
 ghost use Rattle.rowfn_csv.specs.Scanning.{place_behind, AreMarks, Knows};
@@ -82,32 +82,21 @@ pub(crate) fn from_record(raw: &[u8], comment: Option<u8>) -> &[u8]
     &[]
 }
 
-/// How many bytes the first line has, with its end.
-fn line_len(bytes: &[u8]) -> usize
-    ensures within { result ≤ length bytes.now }
-    ensures some { 0 < length bytes.now → 0 < result }
+/// The bytes after the comments with which they begin, and after the ends of their lines.
+pub(crate) fn after_comments(bytes: &[u8], comment: Option<u8>) -> &[u8]
+    ensures { result.now ≡ after_comments comment false false bytes.now }
 {
-    for (index, byte) in bytes.iter().enumerate() {
-        if ends_line(*byte) {
-            return match bytes.get(index + 1) {
-                Some(b'\n') if *byte == b'\r' => index + 2,
-                _ => index + 1,
-            };
+    let mut in_comment = false;
+    let mut after_return = false;
+    for (start, byte) in bytes.iter().enumerate() {
+        if in_comment || (after_return && *byte == b'\n') || comment == Some(*byte) {
+            in_comment = !ends_line(*byte);
+            after_return = *byte == b'\r';
+        } else {
+            return &bytes[start..];
         }
     }
-    bytes.len()
-}
-
-/// The bytes after the comments with which they begin.
-pub(crate) fn after_comments(bytes: &[u8], comment: Option<u8>) -> &[u8] {
-    let mut rest = bytes;
-    while let [first, ..] = rest {
-        if comment != Some(*first) {
-            break;
-        }
-        rest = &rest[line_len(rest)..];
-    }
-    rest
+    &[]
 }
 
 /// The record without the end of its line.

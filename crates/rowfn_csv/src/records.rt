@@ -7,7 +7,8 @@ ghost use Rattle.rowfn_csv.specs.KeptLines.{line_of, last_bytes, is_ended};
 ghost use Rattle.rowfn_csv.specs.Comments.{BeginsLines};
 ghost use Rattle.rowfn_csv.specs.Reads.{ReadsOne, KeepsFormat, HasLineEnd, bytes_behind};
 ghost use Rattle.rowfn_csv.specs.Reads.{IsNoComment};
-ghost use Rattle.rowfn_csv.specs.Records.{Field, SaysFields, field_taken, field_spelled, has_surplus};
+ghost use Rattle.rowfn_csv.specs.Records.{Field, SaysFields, field_taken, field_spelled};
+ghost use Rattle.rowfn_csv.specs.Records.{has_surplus};
 ghost use Rattle.rowfn_csv.specs.declared.records.ReadError.TheVariants.{OutOfMemory};
 
 mod blank_lines;
@@ -41,8 +42,8 @@ pub enum ReadError {
     OutOfMemory,
 }
 
-/// What a read found. It is small, since it is handed on with each record; what failed stands beside
-/// the records.
+/// What a read found. It is small, since it is handed on with each record; what failed stands
+/// beside the records.
 #[derive(Clone, Copy, PartialEq, Eq)]
 pub enum Found {
     /// A record, or a line without a byte that is one.
@@ -142,8 +143,8 @@ impl<'a, R: Read> Records<'a, R> {
         self.error.take().unwrap_or(ReadError::OutOfMemory)
     }
 
-    /// Reads the next record after blank lines and comments. One of which a field is too long is not
-    /// read to its end.
+    /// Reads the next record after blank lines and comments. One of which a field is too long is
+    /// not read to its end.
     #[inline(always)]
     pub fn read_record(&mut self) -> Found
         ensures reads { ReadsOne self.old self.new result }
@@ -188,8 +189,8 @@ impl<'a, R: Read> Records<'a, R> {
         self.is_outgrown
     }
 
-    /// Whether no record is there behind the last one, as far as the input was read: the next one is
-    /// yet to come, or its end is.
+    /// Whether no record is there behind the last one, as far as the input was read: the next one
+    /// is yet to come, or its end is.
     pub fn is_drained(&self) -> bool
         ensures { MatchBool result
             (¬ HasLineEnd self.now.format.delimiter (bytes_behind self.now))
@@ -269,8 +270,9 @@ impl<'a, R: Read> Records<'a, R> {
         self.add_columns_to(batch, places)
     }
 
-    /// Adds the fields of the last record to the batch, as `add_to` does, but truth values as `true`
-    /// and `false` where a column's may stand in any spelling. Refused only for want of memory.
+    /// Adds the fields of the last record to the batch, as `add_to` does, but truth values as
+    /// `true` and `false` where a column's may stand in any spelling. Refused only for want of
+    /// memory.
     pub fn add_spelled_to(
         &mut self,
         batch: &mut Batch,

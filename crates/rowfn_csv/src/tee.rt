@@ -10,9 +10,9 @@ use std::cell::Cell;
 use std::io::{self, ErrorKind, Read};
 
 /// A reader over another, which keeps the bytes that it gave from a place of the input on. Where it
-/// gives more than one byte, it gives a carriage return together with what follows it. It gives line
-/// feeds for the bytes of comments, but keeps those. It fails where the record that is being read has
-/// a field that is longer than a limit.
+/// gives more than one byte, it gives a carriage return together with what follows it. It gives
+/// line feeds for the bytes of comments, but keeps those. It fails where the record that is being
+/// read has a field that is longer than a limit.
 #[derive(Drop)]
 pub struct Tee<R> {
     inner: R,
@@ -32,7 +32,7 @@ impl<R: Read> Tee<R> {
     ghost use Rattle.std.specs.Prelude.{◌≡◌};
     ghost use Rattle.rowfn_csv.specs.Comments.{BeginsLines};
     ghost use Rattle.rowfn_csv.specs.KeptLines.{bytes_between};
-    ghost use Rattle.rowfn_csv.specs.Reads.{bytes_from};
+    ghost use Rattle.rowfn_csv.specs.Reads.{bytes_from, behind_mark};
 
     /// Nothing is read yet; takes no memory. `limit` is the greatest length of a field.
     pub(crate) fn new(alloc: Global, inner: R, format: &Format<'_>, limit: usize) -> Tee<R>
@@ -104,7 +104,9 @@ impl<R: Read> Tee<R> {
     }
 
     /// The place behind a byte order mark, where that is one's; else the same.
-    pub(crate) fn behind_mark(&self, place: u64) -> u64 {
+    pub(crate) fn behind_mark(&self, place: u64) -> u64
+        ensures { result ≡ behind_mark self.now place }
+    {
         if place == 0 && self.kept.as_slice().starts_with(MARK) {
             MARK.len() as u64
         } else {
@@ -225,7 +227,8 @@ impl<R: Read> Tee<R> {
         Ok(count)
     }
 
-    /// Holds back a carriage return at the end of the bytes that were read; returns how many are given.
+    /// Holds back a carriage return at the end of the bytes that were read; returns how many are
+    /// given.
     fn hold_return(&mut self, buf: &[u8], count: usize) -> usize
         requires { count ≤ length buf.now }
         ensures fewer { result ≤ count }

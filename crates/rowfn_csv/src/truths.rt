@@ -62,7 +62,8 @@ fn says_false(field: &[u8]) -> bool
         || is_text(field, b"0")
 }
 
-/// A field that says a truth value in another spelling, as `true` or `false`; any other as it stands.
+/// A field that says a truth value in another spelling, as `true` or `false`; any other as it
+/// stands.
 pub fn truth_spelled(field: &[u8]) -> &[u8]
     ensures { result.now ≡ truth_spelled field.now }
 {

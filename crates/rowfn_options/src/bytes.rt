@@ -36,8 +36,8 @@ pub(crate) fn read_delimiter(word: &str) -> Option<u8>
     }
 }
 
-/// A byte that is no delimiter, so that it may begin comments: fields that begin with it are written
-/// in quotes.
+/// A byte that is no delimiter, so that it may begin comments: fields that begin with it are
+/// written in quotes.
 pub(crate) fn read_comment(word: &str, delimiter: u8, output_delimiter: u8) -> Option<u8>
     ensures { IfSome result (MayComment delimiter output_delimiter) }
 {

@@ -66,7 +66,7 @@ fn asked_output_delimiter(
         None => {
             let message =
                 "--output-delimiter: expected one byte of ASCII, no quote and no end of a \
-                           line";
+                 line";
             Err(refusal(command, ErrorKind::InvalidValue, message)?)
         }
     }
@@ -89,7 +89,7 @@ fn asked_comment(
         None => {
             let message =
                 "--comment: expected one byte of ASCII, no delimiter, no quote and no end \
-                           of a line";
+                 of a line";
             Err(refusal(command, ErrorKind::InvalidValue, message)?)
         }
     }

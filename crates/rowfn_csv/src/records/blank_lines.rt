@@ -1,6 +1,6 @@
 //! How blank lines are read that are rows.
 ghost use Rattle.std.specs.Prelude.{◌≡◌};
-ghost use Rattle.rowfn_csv.specs.Reads.{ReadsOne, KeepsFormat};
+ghost use Rattle.rowfn_csv.specs.Reads.{ReadsOne, KeepsFormat, behind_comments};
 
 use super::{Found, ReadError, Records, Span};
 use crate::raw::after_comments;
@@ -72,7 +72,9 @@ impl<R: Read> Records<'_, R> {
     }
 
     /// The place after a byte order mark and the comments at a place.
-    fn blank_from(&self, place: u64) -> u64 {
+    fn blank_from(&self, place: u64) -> u64
+        ensures { result ≡ behind_comments self.now place }
+    {
         let tee = self.reader.get_ref();
         let place = tee.behind_mark(place);
         let bytes = tee.from(place);

@@ -11,7 +11,8 @@ impl<R: Read> Records<'_, R> {
     /// Whether a record may begin with a byte at the start of a line.
     #[inline(always)]
     fn begins_record(&self, byte: u8) -> bool
-        ensures { result ≡ (not (is_line_end byte) && not (begins_comment self.now.format.comment byte)) }
+        ensures { result ≡ (not (is_line_end byte)
+            && not (begins_comment self.now.format.comment byte)) }
     {
         !ends_line(byte) && !self.format.begins_comment(byte)
     }

@@ -1,4 +1,5 @@
-use Rattle.std.proofs.Common.{◌≡◌, ℕ, ◌+◌, ◌-◌, List, length, take, drop, ◌++◌, sym, ap, ◌∙◌, arith, append-nil}
+use Rattle.std.proofs.Common.{◌≡◌, ℕ, ◌+◌, ◌-◌, List, length, take, drop, ◌++◌, sym, ap, ◌∙◌}
+use Rattle.std.proofs.Common.{arith, append-nil}
 use Rattle.std.proofs.lemmas.List.{take_all, drop_all}
 use Rattle.rowfn_csv.proofs.Parts.{parts_kept, part_put}
 use Rattle.rowfn_csv.proofs.batch.put_field.Goals as goal
@@ -12,7 +13,8 @@ whole n xs ys same size =
 
 pub returns-in_err-have_room-clause-kept : goal.returns-in_err-have_room-clause-kept
 returns-in_err-have_room-clause-kept c =
-    parts_kept c.args.filled.now c.args.filled.now c.args.bytes.now.items c.have_room.new.bytes.items
+    let filled = c.args.filled.now in
+    parts_kept filled filled c.args.bytes.now.items c.have_room.new.bytes.items
     (omega arith) c.have_room.ensures.kept
 
 pub returns-clause-kept : goal.returns-clause-kept

@@ -9,7 +9,8 @@ use Rattle.rowfn_csv.proofs.fields.add_fields.Given as goal
 abbrev pub invariant-loop-column : goal.invariant-loop-column
 invariant-loop-column g l = record {
   fields : (closed : Bool) → (said : List Field) → l.format.delimiter ≢ 34
-      → SaysFields l.format.delimiter closed (without_line_end (bytes_between l.kept l.span.start l.span.end)) said
+      → SaysFields l.format.delimiter closed
+      (without_line_end (bytes_between l.kept l.span.start l.span.end)) said
       → l.batch.fields ≡ l.initial.batch.fields
       ++ map (λ c. field_spelled l.format (fields_of l.fields) said (g.C.Chosen.spelled c))
       (take l.column-index l.columns);

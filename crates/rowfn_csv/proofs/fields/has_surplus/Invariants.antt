@@ -5,4 +5,5 @@ use Rattle.rowfn_csv.proofs.fields.has_surplus.Given as goal
 
 -- the fields so far are empty
 abbrev pub invariant-loop-index : goal.invariant-loop-index
-invariant-loop-index l = has_surplus (fields_of l.fields) l.index ≡ has_surplus (fields_of l.fields) l.width
+invariant-loop-index l =
+    has_surplus (fields_of l.fields) l.index ≡ has_surplus (fields_of l.fields) l.width

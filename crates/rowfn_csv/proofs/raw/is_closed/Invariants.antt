@@ -6,4 +6,5 @@ use Rattle.rowfn_csv.proofs.raw.is_closed.Given as goal
 -- the rest of the bytes ends as all of them do
 abbrev pub invariant-loop-byte : goal.invariant-loop-byte
 invariant-loop-byte l =
-    ends_closed l.delimiter l.place (drop l.byte-index l.raw) ≡ ends_closed l.delimiter at.Start l.raw
+    ends_closed l.delimiter l.place (drop l.byte-index l.raw)
+    ≡ ends_closed l.delimiter at.Start l.raw

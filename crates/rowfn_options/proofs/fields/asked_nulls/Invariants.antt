@@ -5,4 +5,5 @@ use Rattle.rowfn_options.proofs.fields.asked_nulls.Given as goal
 -- the texts so far may be null
 abbrev pub invariant-loop-text : goal.invariant-loop-text
 invariant-loop-text l =
-    All (λ n. MayBeNull l.bytes.delimiter l.bytes.output_delimiter l.bytes.comment n.now) l.others.items
+    let b = l.bytes in
+    All (λ n. MayBeNull b.delimiter b.output_delimiter b.comment n.now) l.others.items

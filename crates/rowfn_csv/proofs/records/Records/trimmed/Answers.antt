@@ -18,7 +18,8 @@ returns-then-eq g c =
     (part tee.kept.items (s - tee.first) (c.saturating_add-end.result - tee.first))) start
     ∙ longer_no_comment comment tee.kept.items tee.first c.args.span.start end
     c.without_mark.result.now
-    (subst (λ (bs : List ℕ). IsEndOf bs c.without_mark.result.now) c.requires c.without_mark.ensures)
+    (subst (λ (bs : List ℕ). IsEndOf bs c.without_mark.result.now) c.requires
+    c.without_mark.ensures)
     own c.from_record-record.ensures c.saturating_add-end.result on (omega arith)
 
 pub returns-else-eq : goal.returns-else-eq
@@ -32,7 +33,8 @@ returns-else-eq g c =
     (part tee.kept.items (s - tee.first) (end - tee.first))) start
     ∙ own_no_comment comment tee.kept.items tee.first c.args.span.start end
     c.without_mark.result.now
-    (subst (λ (bs : List ℕ). IsEndOf bs c.without_mark.result.now) c.requires c.without_mark.ensures)
+    (subst (λ (bs : List ℕ). IsEndOf bs c.without_mark.result.now) c.requires
+    c.without_mark.ensures)
     own c.from_record-record.ensures
 
 pub returns-else-record-lt1 : goal.returns-else-record-lt1
@@ -46,5 +48,6 @@ returns-else-record-lt1 g c =
     (part tee.kept.items (s - tee.first) (end - tee.first))) start
     ∙ own_no_comment comment tee.kept.items tee.first c.args.span.start end
     c.without_mark.result.now
-    (subst (λ (bs : List ℕ). IsEndOf bs c.without_mark.result.now) c.requires c.without_mark.ensures)
+    (subst (λ (bs : List ℕ). IsEndOf bs c.without_mark.result.now) c.requires
+    c.without_mark.ensures)
     own c.from_record-record.ensures
