@@ -6,7 +6,7 @@ use crate::transcript::{each_prints, prints};
 /// Whether a column of that type has these fields and prints them so.
 fn has(rt: HostRuntime, dtype: &str, fields: &[u8], row_count: usize, out: &str) -> bool {
     let alloc = rt.alloc();
-    match format!(in alloc; "col a {dtype}\nget a\nas a") {
+    match format!(in alloc; "a {dtype}: a") {
         Ok(text) => match format!(in alloc; "a,\n{out}") {
             Ok(out) => prints(rt, text.as_str(), fields, row_count, out.as_str()),
             Err(_) => false,
@@ -61,13 +61,6 @@ fn integers_reach_their_ends(rt: HostRuntime) {
             2,
             "-9223372036854775808,\n9223372036854775807,\n",
         ),
-    ];
-    assert!(rt; each_has(rt, CASES));
-}
-
-#[test]
-fn unsigned_integers_reach_their_ends(rt: HostRuntime) {
-    const CASES: &[(&str, &[u8], usize, &str)] = &[
         ("u8", b"0,255", 2, "0,\n255,\n"),
         ("u16", b"-0,65535", 2, "0,\n65535,\n"),
         ("u32", b"007,4294967295", 2, "7,\n4294967295,\n"),
@@ -155,25 +148,25 @@ fn letters_and_wrong_bytes_are_seen_at_each_place(rt: HostRuntime) {
 fn the_first_misfit_goes_row_by_row(rt: HostRuntime) {
     const CASES: &[(&str, &[u8], usize, &str)] = &[
         (
-            "col a i8\ncol b bool\nget a\nas a",
+            "a i8, b bool: a",
             b"1,x,y,true",
             2,
             "a,\nthe field of row 0 and column 1 does not fit",
         ),
         (
-            "col a i8\ncol b bool\nget a\nas a",
+            "a i8, b bool: a",
             b"1,true,y,x",
             2,
             "a,\nthe field of row 1 and column 0 does not fit",
         ),
         (
-            "col a i8\ncol b bool\nget a\nas a",
+            "a i8, b bool: a",
             b"1,true,2",
             2,
             "a,\nthe fields are not those of whole rows",
         ),
         (
-            "col a i8\ncol b bool\nget a\nas a",
+            "a i8, b bool: a",
             b"1,true",
             2,
             "a,\nthe fields are not those of whole rows",

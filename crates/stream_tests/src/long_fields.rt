@@ -3,9 +3,9 @@
 use crate::cases::{Case, ends, is_case, plain};
 use std::alloc::{AllocError, Global};
 
-const SUM: &str = "col a i8\ncol b i8\nget a\nget b\ncall +\nas sum\n";
+const SUM: &str = "a i8, b i8: a + b as sum";
 
-const TEXT: &str = "col t utf8\nget t\nas t\n";
+const TEXT: &str = "t utf8: t";
 
 /// A case whose fields have 8 bytes at most, and whose reader fails behind the input.
 fn narrow<'a>(expression: &'a str, input: &'a str) -> Case<'a> {

@@ -2,11 +2,15 @@
 
 use crate::asking::{Asked, answers_so, asks, declared, ends_so, rows_where};
 use crate::cases::{Case, ends, gives, plain};
+use rowfn_batches::Format;
 
 /// The same, with truth values in any spelling.
 fn any<'a>(asked: Asked<'a>) -> Asked<'a> {
     Asked {
-        any_truths: true,
+        format: Format {
+            any_truths: true,
+            ..asked.format
+        },
         ..asked
     }
 }
@@ -39,12 +43,12 @@ fn a_null_is_no_truth_value(rt: HostRuntime) {
     let lines = Case {
         null: "f",
         any_truths: true,
-        ..plain("col b bool?\nget b\nas b\n", "b\nt\nf\n\"f\"\n0\n")
+        ..plain("b bool?: b", "b\nt\nf\n\"f\"\n0\n")
     };
     assert!(rt; gives(rt, lines, "b\ntrue\nf\nfalse\nfalse\n"));
     let none = Case {
         any_truths: true,
-        ..plain("col b bool\nget b\nas b\n", "b\nt\n\"\"\n")
+        ..plain("b bool: b", "b\nt\n\"\"\n")
     };
     assert!(rt; ends(rt, none, "b\ntrue\n", 2, "row 2, column b: \"\" is no bool"));
 }
