@@ -69,7 +69,7 @@ fn fields_are_separated_by_the_delimiter(rt: HostRuntime) {
 }
 
 #[test]
-fn texts_are_quoted_where_needed(rt: HostRuntime) {
+fn texts_and_truth_values_are_quoted_where_needed(rt: HostRuntime) {
     const CASES: &[(Form, &str, &str, &str)] = &[
         (
             Form::Plain,
@@ -92,10 +92,6 @@ fn texts_are_quoted_where_needed(rt: HostRuntime) {
         ),
     ];
     assert!(rt; each_gives(rt, CASES));
-}
-
-#[test]
-fn truth_values_are_quoted_where_needed(rt: HostRuntime) {
     let truth = "b bool: b";
     let named = Case {
         null: "true",
@@ -110,7 +106,7 @@ fn truth_values_are_quoted_where_needed(rt: HostRuntime) {
 }
 
 #[test]
-fn null_is_the_empty_field_without_quotes(rt: HostRuntime) {
+fn null_is_the_empty_field_or_another_text_without_quotes(rt: HostRuntime) {
     const CASES: &[(Form, &str, &str, &str)] = &[
         (
             Form::Headless,
@@ -132,10 +128,6 @@ fn null_is_the_empty_field_without_quotes(rt: HostRuntime) {
         ),
     ];
     assert!(rt; each_gives(rt, CASES));
-}
-
-#[test]
-fn null_may_be_another_text(rt: HostRuntime) {
     let na = Case {
         null: "NA",
         ..plain(NULLABLE, "t\nNA\n\"NA\"\n\"\"\nNAN\n")

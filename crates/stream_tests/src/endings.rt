@@ -7,7 +7,7 @@ const SUM: &str = "a i8, b i8: a + b as sum";
 const TEXT: &str = "t utf8: t";
 
 #[test]
-fn a_fault_ends_the_stream_at_its_row(rt: HostRuntime) {
+fn a_fault_that_no_rule_drops_ends_the_stream_at_its_row(rt: HostRuntime) {
     const CASES: &[(Form, &str, &str, &str, u8, &str)] = &[
         (
             Form::Plain,
@@ -51,6 +51,10 @@ fn a_fault_ends_the_stream_at_its_row(rt: HostRuntime) {
         ),
     ];
     assert!(rt; each_ends(rt, CASES));
+    let expression = "a i64, b i64, c i64, d i64: (false and a / b = 1) or c / d > 1 as x";
+    let input = "a,b,c,d\n1,1,1,1\n1,0,1,1\n1,1,1,0\n";
+    let told = "row 3: E7 Arithmetic.Div";
+    assert!(rt; ends(rt, plain(expression, input), "x\nfalse\nfalse\n", 1, told));
 }
 
 #[test]
@@ -211,7 +215,25 @@ fn missing_columns_other_widths_and_open_quotes_end_the_stream(rt: HostRuntime) 
 }
 
 #[test]
-fn a_row_that_would_be_lost_is_told(rt: HostRuntime) {
+fn two_answers_of_one_name_and_rows_that_would_be_lost_are_refused(rt: HostRuntime) {
+    const TWICE: &[(Form, &str, &str, &str, u8, &str)] = &[
+        (
+            Form::Plain,
+            "a i8: a as x, a as y, 1 as x",
+            "a\n1\n",
+            "",
+            4,
+            "two answers are named x: expected another name for one, by as",
+        ),
+        (
+            Form::Headless,
+            "a bool: a, a",
+            "true\n",
+            "",
+            4,
+            "two answers are named a: expected another name for one, by as",
+        ),
+    ];
     const CASES: &[(Form, &str, &str, &str, u8, &str)] = &[
         (
             Form::Plain,
@@ -247,6 +269,7 @@ fn a_row_that_would_be_lost_is_told(rt: HostRuntime) {
         ..plain(nullable, "n\n1\nNA\n")
     };
     assert!(rt; ends(rt, named, "n\n1\nNA\n", 0, ""));
+    assert!(rt; each_ends(rt, TWICE));
 }
 
 #[test]
@@ -262,35 +285,4 @@ fn a_line_without_a_byte_is_one_field(rt: HostRuntime) {
         ..plain(TEXT, "t\na\n\n")
     };
     assert!(rt; ends(rt, text, "t\na\n", 2, "row 2, column t: null is no utf8"));
-}
-
-#[test]
-fn two_answers_of_one_name_are_told(rt: HostRuntime) {
-    const CASES: &[(Form, &str, &str, &str, u8, &str)] = &[
-        (
-            Form::Plain,
-            "a i8: a as x, a as y, 1 as x",
-            "a\n1\n",
-            "",
-            4,
-            "two answers are named x: expected another name for one, by as",
-        ),
-        (
-            Form::Headless,
-            "a bool: a, a",
-            "true\n",
-            "",
-            4,
-            "two answers are named a: expected another name for one, by as",
-        ),
-    ];
-    assert!(rt; each_ends(rt, CASES));
-}
-
-#[test]
-fn a_fault_that_rules_drop_ends_no_batch(rt: HostRuntime) {
-    let expression = "a i64, b i64, c i64, d i64: (false and a / b = 1) or c / d > 1 as x";
-    let input = "a,b,c,d\n1,1,1,1\n1,0,1,1\n1,1,1,0\n";
-    let told = "row 3: E7 Arithmetic.Div";
-    assert!(rt; ends(rt, plain(expression, input), "x\nfalse\nfalse\n", 1, told));
 }

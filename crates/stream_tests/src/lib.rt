@@ -21,6 +21,8 @@ mod fields;
 #[cfg(test)]
 mod flushing;
 #[cfg(test)]
+mod formats;
+#[cfg(test)]
 mod inference;
 #[cfg(test)]
 mod long_fields;

@@ -238,6 +238,22 @@ fn columns_and_conditions_are_words(rt: HostRuntime) {
 
 #[test]
 fn how_fields_are_written_is_an_option(rt: HostRuntime) {
+    const CASES: &[(&str, ErrorKind)] = &[
+        ("p --delimiter ;; f", ErrorKind::InvalidValue),
+        ("p --delimiter \" f", ErrorKind::InvalidValue),
+        ("p --delimiter π f", ErrorKind::InvalidValue),
+        ("p --header --no-header f", ErrorKind::ArgumentConflict),
+        ("p --null a,b f", ErrorKind::InvalidValue),
+        ("p --null a;b --delimiter ; f", ErrorKind::InvalidValue),
+        ("p --null \" f", ErrorKind::InvalidValue),
+        ("p --null a\nb f", ErrorKind::InvalidValue),
+        ("p --null \u{feff} f", ErrorKind::InvalidValue),
+        ("p --null NA --null #1 --comment # f", ErrorKind::InvalidValue),
+        ("p --comment , f", ErrorKind::InvalidValue),
+        ("p --ragged cut f", ErrorKind::InvalidValue),
+        ("p --blank-lines none f", ErrorKind::InvalidValue),
+        ("p --bool yes f", ErrorKind::InvalidValue),
+    ];
     const SAID: &[(&str, &str)] = &[
         ("p --delimiter ; f", "59 true '' 2048 Answer false text f"),
         ("p -d \\t f", "9 true '' 2048 Answer false text f"),
@@ -281,53 +297,7 @@ fn how_fields_are_written_is_an_option(rt: HostRuntime) {
         ("p --bool plain f", "44 true '' 2048 Answer false text f"),
     ];
     assert!(rt; each_says(rt, SAID));
-}
-
-#[test]
-fn wrong_ways_to_write_fields_are_refused(rt: HostRuntime) {
-    const CASES: &[(&str, ErrorKind)] = &[
-        ("p --delimiter ;; f", ErrorKind::InvalidValue),
-        ("p --delimiter \" f", ErrorKind::InvalidValue),
-        ("p --delimiter π f", ErrorKind::InvalidValue),
-        ("p --header --no-header f", ErrorKind::ArgumentConflict),
-        ("p --null a,b f", ErrorKind::InvalidValue),
-        ("p --null a;b --delimiter ; f", ErrorKind::InvalidValue),
-        ("p --null \" f", ErrorKind::InvalidValue),
-        ("p --null a\nb f", ErrorKind::InvalidValue),
-        ("p --null \u{feff} f", ErrorKind::InvalidValue),
-        ("p --null NA --null #1 --comment # f", ErrorKind::InvalidValue),
-        ("p --comment , f", ErrorKind::InvalidValue),
-        ("p --ragged cut f", ErrorKind::InvalidValue),
-        ("p --blank-lines none f", ErrorKind::InvalidValue),
-        ("p --bool yes f", ErrorKind::InvalidValue),
-    ];
     assert!(rt; are_refused(rt, CASES));
-}
-
-#[test]
-fn what_bad_rows_do_is_an_option(rt: HostRuntime) {
-    const SAID: &[(&str, &str)] = &[
-        (
-            "p --errors skip f",
-            "44 true '' 2048 Answer false skips text f",
-        ),
-        ("p --errors stop f", "44 true '' 2048 Answer false text f"),
-        (
-            "p --errors skip --errors-to e.csv f r.csv",
-            "44 true '' 2048 Answer false skips errors to e.csv text f from r.csv",
-        ),
-        (
-            "p --errors-to e.csv f",
-            "44 true '' 2048 Answer false errors to e.csv text f",
-        ),
-    ];
-    const REFUSED: &[(&str, ErrorKind)] = &[
-        ("p --errors pass f", ErrorKind::InvalidValue),
-        ("p --errors-to r.csv f r.csv", ErrorKind::ArgumentConflict),
-    ];
-    assert!(rt; each_says(rt, SAID));
-    assert!(rt; are_refused(rt, REFUSED));
-    assert!(rt; ends_with(rt, "p --errors pass f", 64));
 }
 
 /// The status with which such words end the program; 0 where they give options.
@@ -381,7 +351,26 @@ fn wrong_words_have_a_status_of_their_own(rt: HostRuntime) {
 }
 
 #[test]
-fn what_is_done_is_an_option(rt: HostRuntime) {
+fn what_is_done_with_rows_and_bad_rows_is_an_option(rt: HostRuntime) {
+    const SKIPPED: &[(&str, &str)] = &[
+        (
+            "p --errors skip f",
+            "44 true '' 2048 Answer false skips text f",
+        ),
+        ("p --errors stop f", "44 true '' 2048 Answer false text f"),
+        (
+            "p --errors skip --errors-to e.csv f r.csv",
+            "44 true '' 2048 Answer false skips errors to e.csv text f from r.csv",
+        ),
+        (
+            "p --errors-to e.csv f",
+            "44 true '' 2048 Answer false errors to e.csv text f",
+        ),
+    ];
+    const CONFLICTS: &[(&str, ErrorKind)] = &[
+        ("p --errors pass f", ErrorKind::InvalidValue),
+        ("p --errors-to r.csv f r.csv", ErrorKind::ArgumentConflict),
+    ];
     const SAID: &[(&str, &str)] = &[
         ("p --explain f", "44 true '' 2048 Explain false text f"),
         ("p --summary f", "44 true '' 2048 Answer true text f"),
@@ -412,4 +401,7 @@ fn what_is_done_is_an_option(rt: HostRuntime) {
     ];
     assert!(rt; each_says(rt, SAID));
     assert!(rt; are_refused(rt, REFUSED));
+    assert!(rt; each_says(rt, SKIPPED));
+    assert!(rt; are_refused(rt, CONFLICTS));
+    assert!(rt; ends_with(rt, "p --errors pass f", 64));
 }

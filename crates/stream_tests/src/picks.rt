@@ -29,6 +29,9 @@ fn rows_in_which_the_answer_is_true_are_written_byte_for_byte(rt: HostRuntime) {
         (Form::Pick, ": true", "a\n1\n5\n", "a\n1\n5\n"),
     ];
     assert!(rt; each_gives(rt, CASES));
+    let input = "a\r\n1\r\n2\r\nx\r\n3\r\n";
+    let told = "row 3, column a: \"x\" is no i64?";
+    assert!(rt; ends(rt, pick(SMALL, input), "a\r\n1\r\n2\r\n", 2, told));
 }
 
 #[test]
@@ -63,11 +66,4 @@ fn ends_of_lines_go_with_their_rows(rt: HostRuntime) {
         )
     };
     assert!(rt; gives(rt, missing, "a\r\n\r\n\r\n\r\n"));
-}
-
-#[test]
-fn rows_before_an_error_are_picked(rt: HostRuntime) {
-    let input = "a\r\n1\r\n2\r\nx\r\n3\r\n";
-    let told = "row 3, column a: \"x\" is no i64?";
-    assert!(rt; ends(rt, pick(SMALL, input), "a\r\n1\r\n2\r\n", 2, told));
 }
