@@ -27,12 +27,7 @@ fn answers_are_written_under_their_names_with_columns_in_any_order(rt: HostRunti
             "a,\"'x, y'\"\n1,\"x, y\"\n",
         ),
         (Form::Plain, SUM, "x,b,y,a\nu,2,v,1\n,4,,3\n", "sum\n3\n7\n"),
-        (
-            Form::Plain,
-            ": true as t",
-            "a,b\n1,2\n",
-            "t\ntrue\n",
-        ),
+        (Form::Plain, ": true as t", "a,b\n1,2\n", "t\ntrue\n"),
     ];
     assert!(rt; each_gives(rt, CASES));
 }

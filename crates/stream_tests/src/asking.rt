@@ -221,7 +221,14 @@ pub fn ask_once(
     let query = query_of(alloc, asked, &settings, &mut reader)?;
     let passed = match told {
         Some(told) => pass_on(alloc, &settings, &query, reader, sink, told),
-        None => pass(alloc, &settings, &query, reader, sink, &mut RefusedRows::End),
+        None => pass(
+            alloc,
+            &settings,
+            &query,
+            reader,
+            sink,
+            &mut RefusedRows::End,
+        ),
     };
     match passed {
         Ok(_) => Ok(()),

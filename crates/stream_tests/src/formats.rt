@@ -21,12 +21,7 @@ fn without_a_header_columns_are_c1_and_c2(rt: HostRuntime) {
 fn a_condition_reads_a_column_by_its_place(rt: HostRuntime) {
     const CASES: &[(Texts, &str)] = &[
         (
-            (
-                "3 as y i64",
-                "y as z, a",
-                "y > 3",
-                "a,b,c\n1,2,3\n4,5,6\n",
-            ),
+            ("3 as y i64", "y as z, a", "y > 3", "a,b,c\n1,2,3\n4,5,6\n"),
             "z,a\n6,4\n",
         ),
         (

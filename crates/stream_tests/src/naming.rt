@@ -15,12 +15,7 @@ fn names_in_quotes_are_any_text(rt: HostRuntime) {
             "unit price,\"a \"\"b\"\"\"\n1,2\n3,4\n",
             "\"sum, all\",plain\n3,1\n7,3\n",
         ),
-        (
-            Form::Plain,
-            "\"\" i8: \"\"",
-            ",a\n1,2\n",
-            "\"\"\n1\n",
-        ),
+        (Form::Plain, "\"\" i8: \"\"", ",a\n1,2\n", "\"\"\n1\n"),
     ];
     const PRINTED: &[(&str, &[u8], usize, &str)] = &[
         ("\"a\" i8: a as \"b\"", b"1", 1, "b,\n1,\n"),

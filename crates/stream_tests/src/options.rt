@@ -159,10 +159,7 @@ fn are_refused(rt: HostRuntime, cases: &[(&str, ErrorKind)]) -> bool {
 fn the_expression_and_the_file_of_the_rows_are_the_first_words(rt: HostRuntime) {
     const SAID: &[(&str, &str)] = &[
         ("p a|+|b", "44 true '' 2048 Answer false text a + b"),
-        (
-            "p -f sum.txt",
-            "44 true '' 2048 Answer false file sum.txt",
-        ),
+        ("p -f sum.txt", "44 true '' 2048 Answer false file sum.txt"),
         (
             "p a goods.csv",
             "44 true '' 2048 Answer false text a from goods.csv",
@@ -248,7 +245,10 @@ fn how_fields_are_written_is_an_option(rt: HostRuntime) {
         ("p --null \" f", ErrorKind::InvalidValue),
         ("p --null a\nb f", ErrorKind::InvalidValue),
         ("p --null \u{feff} f", ErrorKind::InvalidValue),
-        ("p --null NA --null #1 --comment # f", ErrorKind::InvalidValue),
+        (
+            "p --null NA --null #1 --comment # f",
+            ErrorKind::InvalidValue,
+        ),
         ("p --comment , f", ErrorKind::InvalidValue),
         ("p --ragged cut f", ErrorKind::InvalidValue),
         ("p --blank-lines none f", ErrorKind::InvalidValue),

@@ -60,10 +60,7 @@ fn ends_of_lines_go_with_their_rows(rt: HostRuntime) {
     assert!(rt; gives(rt, headless, "1\r\n2\r\n"));
     let missing = Case {
         blank_rows: true,
-        ..pick(
-            "a i64?: a is null",
-            "a\r\n1\r\n\r\n2\r\n\r\n\r\n",
-        )
+        ..pick("a i64?: a is null", "a\r\n1\r\n\r\n2\r\n\r\n\r\n")
     };
     assert!(rt; gives(rt, missing, "a\r\n\r\n\r\n\r\n"));
 }

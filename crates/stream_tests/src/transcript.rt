@@ -103,12 +103,7 @@ fn push_rows(
 
 /// What is printed of an expression over that many rows: its header, and its answers or why there
 /// are none.
-fn transcript(
-    alloc: Global,
-    text: &str,
-    fields: &[u8],
-    row_count: usize,
-) -> VortexResult<Vec<u8>> {
+fn transcript(alloc: Global, text: &str, fields: &[u8], row_count: usize) -> VortexResult<Vec<u8>> {
     let fields = fields_of(alloc, fields)?;
     let mut out = Vec::new(alloc);
     if let Some(question) = read_asked(alloc, text) {
