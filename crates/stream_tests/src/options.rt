@@ -172,10 +172,6 @@ fn the_expression_and_the_file_of_the_rows_are_the_first_words(rt: HostRuntime) 
             "p -f sum.txt goods.csv",
             "44 true '' 2048 Answer false file sum.txt from goods.csv",
         ),
-        (
-            "p --input goods.csv -f sum.txt",
-            "44 true '' 2048 Answer false file sum.txt from goods.csv",
-        ),
         ("p a -", "44 true '' 2048 Answer false text a"),
         (
             "p --where b --input goods.csv",
@@ -285,10 +281,6 @@ fn how_fields_are_written_is_an_option(rt: HostRuntime) {
         (
             "p --blank-lines null f",
             "44 true '' 2048 Answer false blank rows text f",
-        ),
-        (
-            "p --blank-lines skip f",
-            "44 true '' 2048 Answer false text f",
         ),
         (
             "p --bool any f",
