@@ -2,44 +2,32 @@
 
 use crate::cases::{Case, Form, counts, each_gives, gives, headless, plain};
 
-const SUM: &str = "col a i64\ncol b i64\nget a\nget b\ncall +\nas sum\n";
+const SUM: &str = "a i64, b i64: a + b as sum";
 
-const TEXT: &str = "col t utf8\nget t\nas t\n";
+const TEXT: &str = "t utf8: t";
 
-const NULLABLE: &str = "col t utf8?\nget t\nas t\n";
+const NULLABLE: &str = "t utf8?: t";
 
-const NUMBER: &str = "col n i32?\nget n\nas n\n";
+const NUMBER: &str = "n i32?: n";
 
 #[test]
-fn answers_are_written_under_their_names(rt: HostRuntime) {
+fn answers_are_written_under_their_names_with_columns_in_any_order(rt: HostRuntime) {
     const CASES: &[(Form, &str, &str, &str)] = &[
         (Form::Plain, SUM, "a,b\n1,2\n3,4\n", "sum\n3\n7\n"),
         (
             Form::Plain,
-            "col a i64\nget a\nlit i64 1\ncall +\nas next\nget a\n",
+            "a i64: a + 1 as next, a",
             "a\n1\n",
-            "next,$.a\n2,1\n",
+            "next,a\n2,1\n",
         ),
         (
             Form::Plain,
-            "col a i64\nget a\nlit utf8 \"x, y\"\n",
+            "a i64: a, 'x, y'",
             "a\n1\n",
-            "$.a,\"\"\"x, y\"\"\"\n1,\"x, y\"\n",
+            "a,\"'x, y'\"\n1,\"x, y\"\n",
         ),
-    ];
-    assert!(rt; each_gives(rt, CASES));
-}
-
-#[test]
-fn columns_stand_in_any_order_among_others(rt: HostRuntime) {
-    const CASES: &[(Form, &str, &str, &str)] = &[
         (Form::Plain, SUM, "x,b,y,a\nu,2,v,1\n,4,,3\n", "sum\n3\n7\n"),
-        (
-            Form::Plain,
-            "lit bool true\nas t\n",
-            "a,b\n1,2\n",
-            "t\ntrue\n",
-        ),
+        (Form::Plain, ": true as t", "a,b\n1,2\n", "t\ntrue\n"),
     ];
     assert!(rt; each_gives(rt, CASES));
 }
@@ -47,6 +35,12 @@ fn columns_stand_in_any_order_among_others(rt: HostRuntime) {
 #[test]
 fn without_a_header_columns_are_the_declared_ones(rt: HostRuntime) {
     const CASES: &[(Form, &str, &str, &str)] = &[
+        (
+            Form::Headless,
+            "a bool, b u8?, c i64, d utf8: a, b, c, d",
+            "true,255,-9223372036854775808,x\nfalse,,9223372036854775807,y\n",
+            "true,255,-9223372036854775808,x\nfalse,,9223372036854775807,y\n",
+        ),
         (Form::Headless, SUM, "1,2\n3,4\n", "3\n7\n"),
         (Form::Headless, SUM, "", ""),
         (Form::Plain, SUM, "a,b\n", "sum\n"),
@@ -55,8 +49,8 @@ fn without_a_header_columns_are_the_declared_ones(rt: HostRuntime) {
 }
 
 #[test]
-fn fields_are_parted_by_the_delimiter(rt: HostRuntime) {
-    let expression = "col a utf8\ncol b utf8\nget a\nget b\n";
+fn fields_are_separated_by_the_delimiter(rt: HostRuntime) {
+    let expression = "a utf8, b utf8: a, b";
     let tabs = Case {
         delimiter: b'\t',
         ..headless(expression, "x,y\tz\n\"p\tq\"\t;\n")
@@ -70,7 +64,7 @@ fn fields_are_parted_by_the_delimiter(rt: HostRuntime) {
 }
 
 #[test]
-fn texts_are_quoted_where_needed(rt: HostRuntime) {
+fn texts_and_truth_values_are_quoted_where_needed(rt: HostRuntime) {
     const CASES: &[(Form, &str, &str, &str)] = &[
         (
             Form::Plain,
@@ -79,13 +73,6 @@ fn texts_are_quoted_where_needed(rt: HostRuntime) {
             "t\na\n\"a,b\"\n\"a\"\"b\"\n\"a\nb\"\n\"a\r\nb\"\n\"a\"\"b\"\n a \n",
         ),
         (Form::Plain, TEXT, "t\nπ\n", "t\nπ\n"),
-    ];
-    assert!(rt; each_gives(rt, CASES));
-}
-
-#[test]
-fn texts_that_others_mistake_are_quoted(rt: HostRuntime) {
-    const CASES: &[(Form, &str, &str, &str)] = &[
         (
             Form::Plain,
             TEXT,
@@ -100,11 +87,7 @@ fn texts_that_others_mistake_are_quoted(rt: HostRuntime) {
         ),
     ];
     assert!(rt; each_gives(rt, CASES));
-}
-
-#[test]
-fn truth_values_are_quoted_where_needed(rt: HostRuntime) {
-    let truth = "col b bool\nget b\n";
+    let truth = "b bool: b";
     let named = Case {
         null: "true",
         ..headless(truth, "\"true\"\nfalse\n")
@@ -118,32 +101,28 @@ fn truth_values_are_quoted_where_needed(rt: HostRuntime) {
 }
 
 #[test]
-fn null_is_the_empty_field_without_quotes(rt: HostRuntime) {
+fn null_is_the_empty_field_or_another_text_without_quotes(rt: HostRuntime) {
     const CASES: &[(Form, &str, &str, &str)] = &[
         (
             Form::Headless,
-            "col t utf8?\ncol n i32?\nget t\nget n\n",
+            "t utf8?, n i32?: t, n",
             "a,1\n\"\",2\n,3\nb,\n,\n",
             "a,1\n\"\",2\n,3\nb,\n,\n",
         ),
         (
             Form::Headless,
-            "col t utf8?\ncol n i32?\nget t\nget n\n",
+            "t utf8?, n i32?: t, n",
             "\"\",\n\"\",1\n",
             "\"\",\n\"\",1\n",
         ),
         (
             Form::Headless,
-            "col t utf8?\ncol n i32?\nget t\nget n\n",
+            "t utf8?, n i32?: t, n",
             "\"a,\"\"\",\n,\"1\"\n",
             "\"a,\"\"\",\n,1\n",
         ),
     ];
     assert!(rt; each_gives(rt, CASES));
-}
-
-#[test]
-fn null_may_be_another_text(rt: HostRuntime) {
     let na = Case {
         null: "NA",
         ..plain(NULLABLE, "t\nNA\n\"NA\"\n\"\"\nNAN\n")
@@ -215,17 +194,10 @@ fn lines_end_in_any_way(rt: HostRuntime) {
 fn rows_are_counted(rt: HostRuntime) {
     assert!(rt; counts(rt, plain(SUM, "a,b\n1,2\n3,4\n5,6\n"), 3, 3));
     assert!(rt; counts(rt, plain(SUM, "a,b\n"), 0, 0));
-    let small = "col a i64\nget a\nlit i64 4\ncall <\n";
+    let small = "a i64: a < 4";
     let picked = Case {
         picks_rows: true,
         ..plain(small, "a\n1\n5\n3\n9\n4\n")
     };
     assert!(rt; counts(rt, picked, 5, 2));
-}
-
-#[test]
-fn each_kind_flows_through(rt: HostRuntime) {
-    let four = "col a bool\ncol b u8?\ncol c i64\ncol d utf8\nget a\nget b\nget c\nget d\n";
-    let rows = "true,255,-9223372036854775808,x\nfalse,,9223372036854775807,y\n";
-    assert!(rt; gives(rt, headless(four, rows), rows));
 }

@@ -2,11 +2,10 @@
 
 use crate::cases::{BATCHES, STEPS, ended_so, is_case};
 use crate::pipes::{Drips, Sink};
-use crate::programs::{Placed, placed};
+use crate::programs::asked as asked_by;
 use fixtures::same;
 use rowfn_batches::{Format, Refusals, RefusedRows, Settings, StreamError, Summary, run};
-use rowfn_queries::{Again, Query, Words, read_query};
-use rowfn_scripts::Expression;
+use rowfn_queries::{Again, Query, Question, Words, read_query};
 use std::alloc::Global;
 
 /// What is asked, and of which rows.
@@ -15,12 +14,24 @@ pub struct Asked<'a> {
     pub words: Words<'a>,
     pub input: &'a str,
     pub appends: bool,
-    pub any_truths: bool,
+    pub format: Format<'a>,
     pub rows_before: u64,
     pub max_field: usize,
     /// Whether reading fails behind the input.
     pub fails: bool,
 }
+
+/// Commas between fields, and empty fields for null.
+pub const COMMAS: Format<'static> = Format {
+    delimiter: b',',
+    output_delimiter: b',',
+    null: b"",
+    more_nulls: &[],
+    comment: None,
+    fits: false,
+    blank_rows: false,
+    any_truths: false,
+};
 
 /// Answers of rows, whose columns take their types from the rows.
 pub fn asks<'a>(answers: &'a str, input: &'a str) -> Asked<'a> {
@@ -34,7 +45,7 @@ pub fn asks<'a>(answers: &'a str, input: &'a str) -> Asked<'a> {
         },
         input,
         appends: false,
-        any_truths: false,
+        format: COMMAS,
         rows_before: 0,
         max_field: usize::MAX,
         fails: false,
@@ -104,16 +115,7 @@ fn asked_of(texts: Texts) -> Asked<'static> {
 
 fn settings_of<'a>(asked: &Asked<'a>, batch: (usize, u64)) -> Settings<'a> {
     Settings {
-        format: Format {
-            delimiter: b',',
-            output_delimiter: b',',
-            null: b"",
-            more_nulls: &[],
-            comment: None,
-            fits: false,
-            blank_rows: false,
-            any_truths: asked.any_truths,
-        },
+        format: asked.format,
         header: asked.words.header,
         batch: batch.0,
         batch_bytes: batch.1,
@@ -126,65 +128,50 @@ fn settings_of<'a>(asked: &Asked<'a>, batch: (usize, u64)) -> Settings<'a> {
     }
 }
 
-/// A program of an expression, if there is one.
-fn placed_if(alloc: Global, expression: Option<Expression>) -> Result<Option<Placed>, StreamError> {
-    let Some(expression) = expression else {
-        return Ok(None);
-    };
-    match placed(alloc, expression, false) {
-        Some(placed) => Ok(Some(placed)),
-        None => Err(StreamError::OutOfMemory),
-    }
-}
-
 /// Runs a stream of answers, under a condition if there is one.
 fn run_answers(
     alloc: Global,
     settings: &Settings<'_>,
-    asked: (&Placed, Option<&Placed>),
+    questions: (&Question, Option<&Question>),
     reader: Again<Drips<'_>>,
     sink: &mut Sink,
     refused: &mut RefusedRows<&mut Sink>,
 ) -> Result<Summary, StreamError> {
-    let answers = asked.0.asked();
-    match asked.1 {
-        Some(condition) => {
-            let condition = condition.asked();
-            let condition = Some(&condition);
-            run(alloc, settings, &answers, condition, reader, sink, refused)
-        }
-        None => run(alloc, settings, &answers, None, reader, sink, refused),
-    }
+    let (answers, condition) = questions;
+    let condition = condition.map(|condition| asked_by(condition));
+    run(
+        alloc,
+        settings,
+        &asked_by(answers),
+        condition.as_ref(),
+        reader,
+        sink,
+        refused,
+    )
 }
 
 /// Runs a stream of a query.
 fn pass(
     alloc: Global,
     settings: &Settings<'_>,
-    query: Query,
+    query: &Query,
     reader: Again<Drips<'_>>,
     sink: &mut Sink,
     refused: &mut RefusedRows<&mut Sink>,
 ) -> Result<Summary, StreamError> {
-    let answers = placed_if(alloc, query.answers)?;
-    let condition = placed_if(alloc, query.condition)?;
-    match (&answers, &condition) {
-        (Some(answers), condition) => {
-            let asked = (answers, condition.as_ref());
-            run_answers(alloc, settings, asked, reader, sink, refused)
-        }
-        (None, Some(condition)) => {
-            run_answers(alloc, settings, (condition, None), reader, sink, refused)
-        }
-        (None, None) => Err(StreamError::OutOfMemory),
-    }
+    let questions = match (&query.answers, &query.condition) {
+        (Some(answers), condition) => (answers, condition.as_ref()),
+        (None, Some(condition)) => (condition, None),
+        (None, None) => return Err(StreamError::OutOfMemory),
+    };
+    run_answers(alloc, settings, questions, reader, sink, refused)
 }
 
 /// The same; rows that are refused are reported and skipped.
 fn pass_on(
     alloc: Global,
     settings: &Settings<'_>,
-    query: Query,
+    query: &Query,
     reader: Again<Drips<'_>>,
     sink: &mut Sink,
     told: &mut Sink,
@@ -233,8 +220,15 @@ pub fn ask_once(
     let mut reader = Again::new(alloc, drips);
     let query = query_of(alloc, asked, &settings, &mut reader)?;
     let passed = match told {
-        Some(told) => pass_on(alloc, &settings, query, reader, sink, told),
-        None => pass(alloc, &settings, query, reader, sink, &mut RefusedRows::End),
+        Some(told) => pass_on(alloc, &settings, &query, reader, sink, told),
+        None => pass(
+            alloc,
+            &settings,
+            &query,
+            reader,
+            sink,
+            &mut RefusedRows::End,
+        ),
     };
     match passed {
         Ok(_) => Ok(()),

@@ -1,13 +1,13 @@
 //! Questions to streams.
 
 use crate::pipes::{Drips, Sink};
-use crate::programs::{Placed, placed, read_lines};
+use crate::programs::{asked, read_asked, read_over};
 use fixtures::{same, same_text};
 use rowfn_batches::{Format, RefusedRows, Settings, StreamError, Summary, run};
-use rowfn_queries::read_condition;
+use rowfn_queries::Question;
 use std::alloc::Global;
 
-/// An expression, an input, and how it is read.
+/// Columns and an expression, an input, and how it is read.
 #[derive(Clone, Copy)]
 pub struct Case<'a> {
     pub expression: &'a str,
@@ -114,17 +114,16 @@ pub fn settings_of<'a>(case: &Case<'a>, batch: (usize, u64)) -> Settings<'a> {
 }
 
 /// The condition of a case, over the columns of its expression.
-fn condition_of(
-    alloc: Global,
-    case: &Case<'_>,
-    answers: &Placed,
-) -> Result<Option<Placed>, StreamError> {
+fn condition_of(alloc: Global, case: &Case<'_>) -> Result<Option<Question>, StreamError> {
     let Some(text) = case.condition else {
         return Ok(None);
     };
-    match read_condition(alloc, &answers.program.scope, &answers.places, text) {
-        Ok(condition) => Ok(placed(alloc, condition, false)),
-        Err(_) => Err(StreamError::OutOfMemory),
+    let Some((columns, _)) = case.expression.split_once(": ") else {
+        return Err(StreamError::OutOfMemory);
+    };
+    match read_over(alloc, columns, text) {
+        Some(condition) => Ok(Some(condition)),
+        None => Err(StreamError::OutOfMemory),
     }
 }
 
@@ -137,34 +136,26 @@ pub fn run_case(
     sink: &mut Sink,
 ) -> Result<Summary, StreamError> {
     let settings = settings_of(case, batch);
-    let Some(answers) = read_lines(alloc, case.expression, case.picks_rows) else {
+    let Some(answers) = read_asked(alloc, case.expression) else {
         return Err(StreamError::OutOfMemory);
     };
-    let condition = condition_of(alloc, case, &answers)?;
+    let condition = condition_of(alloc, case)?;
     let reader = Drips {
         text: case.input,
         step,
         interrupted: false,
         fails: case.fails,
     };
-    let mut refused = RefusedRows::<Sink>::End;
-    let asked = answers.asked();
-    match &condition {
-        Some(condition) => {
-            let condition = condition.asked();
-            let condition = Some(&condition);
-            run(
-                alloc,
-                &settings,
-                &asked,
-                condition,
-                reader,
-                sink,
-                &mut refused,
-            )
-        }
-        None => run(alloc, &settings, &asked, None, reader, sink, &mut refused),
-    }
+    let condition = condition.as_ref().map(|condition| asked(condition));
+    run(
+        alloc,
+        &settings,
+        &asked(&answers),
+        condition.as_ref(),
+        reader,
+        sink,
+        &mut RefusedRows::<Sink>::End,
+    )
 }
 
 /// Whether that was written, and that text told with that status, if anything was.

@@ -1,13 +1,13 @@
 //! How streams end that are not read to the end.
 
-use crate::cases::{Case, Form, each_ends, ends, pick, plain};
+use crate::cases::{Case, Form, each_ends, ends, plain};
 
-const SUM: &str = "col a i8\ncol b i8\nget a\nget b\ncall +\nas sum\n";
+const SUM: &str = "a i8, b i8: a + b as sum";
 
-const TEXT: &str = "col t utf8\nget t\nas t\n";
+const TEXT: &str = "t utf8: t";
 
 #[test]
-fn a_fault_is_told_by_its_row(rt: HostRuntime) {
+fn a_fault_that_no_rule_drops_ends_the_stream_at_its_row(rt: HostRuntime) {
     const CASES: &[(Form, &str, &str, &str, u8, &str)] = &[
         (
             Form::Plain,
@@ -19,19 +19,12 @@ fn a_fault_is_told_by_its_row(rt: HostRuntime) {
         ),
         (
             Form::Headless,
-            "col a i8\nlit i8 10\nget a\ncall /\n",
+            "a i8: 10 / a",
             "0\n1\n",
             "",
             1,
             "row 1: E7 Arithmetic.Div",
         ),
-    ];
-    assert!(rt; each_ends(rt, CASES));
-}
-
-#[test]
-fn a_fault_before_another_error_is_told(rt: HostRuntime) {
-    const CASES: &[(Form, &str, &str, &str, u8, &str)] = &[
         (
             Form::Headless,
             SUM,
@@ -58,6 +51,10 @@ fn a_fault_before_another_error_is_told(rt: HostRuntime) {
         ),
     ];
     assert!(rt; each_ends(rt, CASES));
+    let expression = "a i64, b i64, c i64, d i64: (false and a / b = 1) or c / d > 1 as x";
+    let input = "a,b,c,d\n1,1,1,1\n1,0,1,1\n1,1,1,0\n";
+    let told = "row 3: E7 Arithmetic.Div";
+    assert!(rt; ends(rt, plain(expression, input), "x\nfalse\nfalse\n", 1, told));
 }
 
 #[test]
@@ -103,13 +100,6 @@ fn a_field_that_does_not_fit_is_told(rt: HostRuntime) {
             2,
             "row 1, column t: null is no utf8",
         ),
-    ];
-    assert!(rt; each_ends(rt, CASES));
-}
-
-#[test]
-fn of_fields_that_do_not_fit_the_leftmost_is_told(rt: HostRuntime) {
-    const CASES: &[(Form, &str, &str, &str, u8, &str)] = &[
         (
             Form::Plain,
             SUM,
@@ -136,10 +126,6 @@ fn of_fields_that_do_not_fit_the_leftmost_is_told(rt: HostRuntime) {
         ),
     ];
     assert!(rt; each_ends(rt, CASES));
-}
-
-#[test]
-fn text_that_is_no_utf8_is_told(rt: HostRuntime) {
     let told = "row 2, column t: \"a\\xff b\\x22\" is no utf8";
     let broken = Case {
         input: b"t\nok\n\"a\xff b\"\"\"\n",
@@ -149,7 +135,7 @@ fn text_that_is_no_utf8_is_told(rt: HostRuntime) {
 }
 
 #[test]
-fn a_missing_column_is_told(rt: HostRuntime) {
+fn missing_columns_other_widths_and_open_quotes_end_the_stream(rt: HostRuntime) {
     const CASES: &[(Form, &str, &str, &str, u8, &str)] = &[
         (
             Form::Plain,
@@ -168,13 +154,6 @@ fn a_missing_column_is_told(rt: HostRuntime) {
             2,
             "header: column a stands twice",
         ),
-    ];
-    assert!(rt; each_ends(rt, CASES));
-}
-
-#[test]
-fn a_row_of_another_width_is_told(rt: HostRuntime) {
-    const CASES: &[(Form, &str, &str, &str, u8, &str)] = &[
         (
             Form::Plain,
             SUM,
@@ -191,13 +170,6 @@ fn a_row_of_another_width_is_told(rt: HostRuntime) {
             2,
             "row 2: 3 fields where 2 are wanted",
         ),
-    ];
-    assert!(rt; each_ends(rt, CASES));
-}
-
-#[test]
-fn a_quote_that_is_not_closed_is_told(rt: HostRuntime) {
-    const CASES: &[(Form, &str, &str, &str, u8, &str)] = &[
         (
             Form::Plain,
             TEXT,
@@ -243,35 +215,29 @@ fn a_quote_that_is_not_closed_is_told(rt: HostRuntime) {
 }
 
 #[test]
-fn a_wrong_expression_is_told_by_its_line(rt: HostRuntime) {
-    const CASES: &[(Form, &str, &str, &str, u8, &str)] = &[
+fn two_answers_of_one_name_and_rows_that_would_be_lost_are_refused(rt: HostRuntime) {
+    const TWICE: &[(Form, &str, &str, &str, u8, &str)] = &[
         (
             Form::Plain,
-            "col a i8\nget\n",
+            "a i8: a as x, a as y, 1 as x",
             "a\n1\n",
             "",
             4,
-            "line 2: expected get and the name of a column, in quotes unless it is of letters, \
-                digits and _",
+            "two answers are named x: expected another name for one, by as",
         ),
         (
-            Form::Pick,
-            "col a i8\nget a\nas n\n",
-            "a\n1\n",
+            Form::Headless,
+            "a bool: a, a",
+            "true\n",
             "",
             4,
-            "--pick: n is no truth value",
+            "two answers are named a: expected another name for one, by as",
         ),
     ];
-    assert!(rt; each_ends(rt, CASES));
-}
-
-#[test]
-fn a_row_that_would_be_lost_is_told(rt: HostRuntime) {
     const CASES: &[(Form, &str, &str, &str, u8, &str)] = &[
         (
             Form::Plain,
-            "col n i32?\nget n\nas n\n",
+            "n i32?: n",
             "n\n1\n",
             "",
             4,
@@ -280,7 +246,7 @@ fn a_row_that_would_be_lost_is_told(rt: HostRuntime) {
         ),
         (
             Form::Headless,
-            "col n i32?\nget n\nas n\n",
+            "n i32?: n",
             "1\n",
             "",
             4,
@@ -289,20 +255,21 @@ fn a_row_that_would_be_lost_is_told(rt: HostRuntime) {
         ),
         (
             Form::Plain,
-            "col n i32?\nget n\nas n\nlit i8 1\nas one\n",
+            "n i32?: n, 1 as one",
             "n,m\n1,2\n,3\n",
             "n,one\n1,1\n,1\n",
             0,
             "",
         ),
     ];
-    let nullable = "col n i32?\nget n\nas n\n";
+    let nullable = "n i32?: n";
     assert!(rt; each_ends(rt, CASES));
     let named = Case {
         null: "NA",
         ..plain(nullable, "n\n1\nNA\n")
     };
     assert!(rt; ends(rt, named, "n\n1\nNA\n", 0, ""));
+    assert!(rt; each_ends(rt, TWICE));
 }
 
 #[test]
@@ -318,35 +285,4 @@ fn a_line_without_a_byte_is_one_field(rt: HostRuntime) {
         ..plain(TEXT, "t\na\n\n")
     };
     assert!(rt; ends(rt, text, "t\na\n", 2, "row 2, column t: null is no utf8"));
-}
-
-#[test]
-fn two_answers_of_one_name_are_told(rt: HostRuntime) {
-    const CASES: &[(Form, &str, &str, &str, u8, &str)] = &[
-        (
-            Form::Plain,
-            "col a i8\nget a\nas x\nget a\nas y\nlit i8 1\nas x\n",
-            "a\n1\n",
-            "",
-            4,
-            "two answers are named x: expected another name for one, by as",
-        ),
-        (
-            Form::Headless,
-            "col a bool\nget a\nget a\n",
-            "true\n",
-            "",
-            4,
-            "two answers are named $.a: expected another name for one, by as",
-        ),
-        (
-            Form::Pick,
-            "col a bool\nget a\nget a\n",
-            "a\ntrue\nfalse\n",
-            "a\ntrue\n",
-            0,
-            "",
-        ),
-    ];
-    assert!(rt; each_ends(rt, CASES));
 }

@@ -1,12 +1,12 @@
 //! What is told of an expression.
 
-use crate::programs::read_lines;
+use crate::programs::read_asked;
 use fixtures::same;
 use rowfn_batches::explain;
 
 fn explains(rt: HostRuntime, expression: &str, wanted: &str) -> bool {
     let alloc = rt.alloc();
-    match read_lines(alloc, expression, false) {
+    match read_asked(alloc, expression) {
         Some(answers) => match explain(alloc, &answers.program) {
             Ok(text) => same(rt, text.as_str(), wanted),
             Err(_) => false,
@@ -22,7 +22,7 @@ const WANTED: &str = "known
   optimized: not (a is not null and b is not null)
     printed vortex.not((is_not_null($.a) and is_not_null($.b)))
     type bool, weight 8
-$.a
+a
   tree: a
     printed $.a
     type i32?, weight 1
@@ -30,7 +30,6 @@ $.a
 
 #[test]
 fn each_answer_is_told(rt: HostRuntime) {
-    let expression =
-        "col a i32?\ncol b i32?\nget a\nget b\ncall +\ncall is_null\nas known\nget a\n";
+    let expression = "a i32?, b i32?: a + b is null as known, a";
     assert!(rt; explains(rt, expression, WANTED));
 }

@@ -6,7 +6,7 @@ use crate::transcript::{each_prints, prints};
 /// Whether a column of that type has these fields and prints them so.
 fn has(rt: HostRuntime, dtype: &str, fields: &[u8], row_count: usize, out: &str) -> bool {
     let alloc = rt.alloc();
-    match format!(in alloc; "col a {dtype}\nget a\nas a") {
+    match format!(in alloc; "a {dtype}: a") {
         Ok(text) => match format!(in alloc; "a,\n{out}") {
             Ok(out) => prints(rt, text.as_str(), fields, row_count, out.as_str()),
             Err(_) => false,
@@ -45,30 +45,15 @@ fn each_misfits(rt: HostRuntime, cases: &[(&str, &[u8], usize, usize)]) -> bool 
 }
 
 #[test]
-fn integers_reach_their_ends(rt: HostRuntime) {
+fn fields_become_cells_of_their_types(rt: HostRuntime) {
     const CASES: &[(&str, &[u8], usize, &str)] = &[
         ("i8", b"-128,127", 2, "-128,\n127,\n"),
-        ("i16", b"-32768,32767", 2, "-32768,\n32767,\n"),
-        (
-            "i32",
-            b"-2147483648,2147483647",
-            2,
-            "-2147483648,\n2147483647,\n",
-        ),
         (
             "i64",
             b"-9223372036854775808,9223372036854775807",
             2,
             "-9223372036854775808,\n9223372036854775807,\n",
         ),
-    ];
-    assert!(rt; each_has(rt, CASES));
-}
-
-#[test]
-fn unsigned_integers_reach_their_ends(rt: HostRuntime) {
-    const CASES: &[(&str, &[u8], usize, &str)] = &[
-        ("u8", b"0,255", 2, "0,\n255,\n"),
         ("u16", b"-0,65535", 2, "0,\n65535,\n"),
         ("u32", b"007,4294967295", 2, "7,\n4294967295,\n"),
         (
@@ -77,12 +62,18 @@ fn unsigned_integers_reach_their_ends(rt: HostRuntime) {
             2,
             "0,\n18446744073709551615,\n",
         ),
+        ("bool", b"true,false", 2, "true,\nfalse,\n"),
+        ("utf8", b"a \"b\",,null", 3, "a \"b\",\n,\nnull,\n"),
+        ("utf8", b"caf\xC3\xA9", 1, "caf\u{e9},\n"),
+        ("i32?", b"~,1,~", 3, "~,\n1,\n~,\n"),
+        ("utf8?", b"~,null", 2, "~,\nnull,\n"),
+        ("bool?", b"~", 1, "~,\n"),
     ];
     assert!(rt; each_has(rt, CASES));
 }
 
 #[test]
-fn fields_behind_the_ends_do_not_fit(rt: HostRuntime) {
+fn the_first_field_that_does_not_fit_is_reported(rt: HostRuntime) {
     const CASES: &[(&str, &[u8], usize, usize)] = &[
         ("i8", b"-128,128", 2, 1),
         ("u8", b"-1,0", 2, 0),
@@ -91,93 +82,35 @@ fn fields_behind_the_ends_do_not_fit(rt: HostRuntime) {
         ("i32", b"1, 2", 2, 1),
         ("i32", b"+1", 1, 0),
         ("i32", b",1", 2, 0),
-    ];
-    assert!(rt; each_misfits(rt, CASES));
-}
-
-#[test]
-fn truth_values_and_texts_fit(rt: HostRuntime) {
-    const HAD: &[(&str, &[u8], usize, &str)] = &[
-        ("bool", b"true,false", 2, "true,\nfalse,\n"),
-        ("utf8", b"a \"b\",,null", 3, "a \"b\",\n,\nnull,\n"),
-        ("utf8", b"caf\xC3\xA9", 1, "caf\u{e9},\n"),
-    ];
-    const MISFITS: &[(&str, &[u8], usize, usize)] = &[
         ("bool", b"true,True", 2, 1),
-        ("bool", b"1", 1, 0),
-    ];
-    assert!(rt; each_has(rt, HAD));
-    assert!(rt; each_misfits(rt, MISFITS));
-}
-
-#[test]
-fn null_fields_stand_in_nullable_columns(rt: HostRuntime) {
-    const HAD: &[(&str, &[u8], usize, &str)] = &[
-        ("i32?", b"~,1,~", 3, "~,\n1,\n~,\n"),
-        ("utf8?", b"~,null", 2, "~,\nnull,\n"),
-        ("bool?", b"~", 1, "~,\n"),
-    ];
-    const MISFITS: &[(&str, &[u8], usize, usize)] = &[
         ("i32", b"1,~", 2, 1),
         ("utf8", b"~", 1, 0),
         ("i32?", b"null", 1, 0),
         ("bool?", b"~,null", 2, 1),
-    ];
-    assert!(rt; each_has(rt, HAD));
-    assert!(rt; each_misfits(rt, MISFITS));
-}
-
-#[test]
-fn bytes_that_are_no_text_do_not_fit(rt: HostRuntime) {
-    const CASES: &[(&str, &[u8], usize, usize)] = &[
-        ("utf8", b"a,\xFF", 2, 1),
+        ("utf8", b"abcdefgh,abcdefg\xFF", 2, 1),
         ("utf8?", b"\xC3", 1, 0),
         ("i32", b"1\xFF", 1, 0),
-        ("bool?", b"\xFF", 1, 0),
     ];
-    assert!(rt; each_misfits(rt, CASES));
-}
-
-#[test]
-fn letters_and_wrong_bytes_are_seen_at_each_place(rt: HostRuntime) {
-    const CASES: &[(&str, &[u8], usize, usize)] = &[
-        ("utf8", b"abcdefgh,abcdefg\xFF", 2, 1),
-        ("utf8", b"\xFFbcdefghi", 1, 0),
-        ("utf8", b"abcdefghijklmno\xFFq", 1, 0),
-    ];
-    let letters = "abcdefgh\u{e9},\u{e9},abcdefghijklmnopqrstuvw\u{3c0}xyz";
-    let printed = "abcdefgh\u{e9},\n\u{e9},\nabcdefghijklmnopqrstuvw\u{3c0}xyz,\n";
-    assert!(rt; has(rt, "utf8", letters.as_bytes(), 3, printed));
-    assert!(rt; each_misfits(rt, CASES));
-}
-
-#[test]
-fn the_first_misfit_goes_row_by_row(rt: HostRuntime) {
-    const CASES: &[(&str, &[u8], usize, &str)] = &[
+    const TWO: &[(&str, &[u8], usize, &str)] = &[
         (
-            "col a i8\ncol b bool\nget a\nas a",
+            "a i8, b bool: a",
             b"1,x,y,true",
             2,
             "a,\nthe field of row 0 and column 1 does not fit",
         ),
         (
-            "col a i8\ncol b bool\nget a\nas a",
+            "a i8, b bool: a",
             b"1,true,y,x",
             2,
             "a,\nthe field of row 1 and column 0 does not fit",
         ),
         (
-            "col a i8\ncol b bool\nget a\nas a",
+            "a i8, b bool: a",
             b"1,true,2",
             2,
             "a,\nthe fields are not those of whole rows",
         ),
-        (
-            "col a i8\ncol b bool\nget a\nas a",
-            b"1,true",
-            2,
-            "a,\nthe fields are not those of whole rows",
-        ),
     ];
-    assert!(rt; each_prints(rt, CASES));
+    assert!(rt; each_misfits(rt, CASES));
+    assert!(rt; each_prints(rt, TWO));
 }

@@ -2,7 +2,7 @@
 
 use crate::cases::{Case, plain, settings_of};
 use crate::pipes::Sink;
-use crate::programs::read_lines;
+use crate::programs::{asked, read_asked};
 use rowfn_batches::{RefusedRows, run};
 use std::alloc::Global;
 use std::cell::Cell;
@@ -69,16 +69,15 @@ fn is_heard(alloc: Global, case: &Case<'_>, parts: &[(&str, usize)]) -> bool {
         written: &written,
     };
     let mut listener = Listener { written: &written };
-    let Some(answers) = read_lines(alloc, case.expression, false) else {
+    let Some(answers) = read_asked(alloc, case.expression) else {
         return false;
     };
     let settings = settings_of(case, (1000, 1000));
     let mut refused = RefusedRows::<Sink>::End;
-    let asked = answers.asked();
     run(
         alloc,
         &settings,
-        &asked,
+        &asked(&answers),
         None,
         reader,
         &mut listener,
@@ -87,7 +86,7 @@ fn is_heard(alloc: Global, case: &Case<'_>, parts: &[(&str, usize)]) -> bool {
     .is_ok()
 }
 
-const SUM: &str = "col a i64\ncol b i64\nget a\nget b\ncall +\nas sum\n";
+const SUM: &str = "a i64, b i64: a + b as sum";
 
 #[test]
 fn what_is_there_is_answered_before_more_is_read(rt: HostRuntime) {

@@ -54,13 +54,6 @@ fn a_column_has_the_first_type_that_its_fields_fit(rt: HostRuntime) {
         ("1,x,~", "[utf8?]"),
         ("~,~", "[utf8?]"),
         ("", "[utf8]"),
-    ];
-    assert!(rt; each_has_type(rt, CASES));
-}
-
-#[test]
-fn a_column_of_numbers_has_their_decimal_texts(rt: HostRuntime) {
-    const CASES: &[(&str, &str)] = &[
         ("0,10,-5", "[i64]"),
         ("1,02134", "[utf8]"),
         ("00", "[utf8]"),
@@ -80,12 +73,8 @@ fn a_column_of_numbers_has_their_decimal_texts(rt: HostRuntime) {
 }
 
 #[test]
-fn no_rows_make_texts(rt: HostRuntime) {
+fn only_columns_that_are_named_take_types(rt: HostRuntime) {
     assert!(rt; answers_so(rt, asks("a, a like 'x%' as x", "a,b\n"), "a,x\n"));
-}
-
-#[test]
-fn columns_that_are_not_named_have_no_type(rt: HostRuntime) {
     let input = "a,b,a b,b\n1,x,\"3\",y\n2,\"y\nz\",4,y\n";
     assert!(rt; answers_so(rt, asks("a * \"a b\" as n, a", input), "n,a\n3,1\n8,2\n"));
     let told = "header: column b stands twice";
@@ -135,14 +124,7 @@ fn is_true_of(rt: HostRuntime, count: usize, condition: &str, status: u8, told: 
 }
 
 #[test]
-fn types_are_those_of_the_first_rows(rt: HostRuntime) {
-    assert!(rt; is_true_of(rt, SAMPLED_ROWS - 1, "a = 'y'", 0, ""));
-    let told = "row 8193, column a: \"x\" is no i64";
-    assert!(rt; is_true_of(rt, SAMPLED_ROWS, "a > 5", 2, told));
-}
-
-#[test]
-fn reading_may_fail_in_the_first_rows(rt: HostRuntime) {
+fn types_are_those_of_the_first_rows_which_may_fail(rt: HostRuntime) {
     let cut = Asked {
         fails: true,
         ..asks("a + 1 as b", "a\n1\n2\n3")
@@ -153,10 +135,13 @@ fn reading_may_fail_in_the_first_rows(rt: HostRuntime) {
         ..asks("a as b", "a")
     };
     assert!(rt; ends_so(rt, header, "", 3, "reading: connection reset"));
+    assert!(rt; is_true_of(rt, SAMPLED_ROWS - 1, "a = 'y'", 0, ""));
+    let told = "row 8193, column a: \"x\" is no i64";
+    assert!(rt; is_true_of(rt, SAMPLED_ROWS, "a > 5", 2, told));
 }
 
 #[test]
-fn a_header_that_is_none_is_told(rt: HostRuntime) {
+fn a_header_or_row_that_is_none_ends_the_first_rows(rt: HostRuntime) {
     const CASES: &[(Texts, &str, u8, &str)] = &[
         (("", "a", "", ""), "", 2, "header: the input is empty"),
         (
@@ -173,10 +158,6 @@ fn a_header_that_is_none_is_told(rt: HostRuntime) {
     };
     let told = "header: a field has more bytes than the 2 of --max-field";
     assert!(rt; ends_so(rt, long, "", 2, told));
-}
-
-#[test]
-fn a_row_that_is_none_ends_the_first_rows(rt: HostRuntime) {
     let wide = asks("a + 1 as b", "a\n1\n2,3\nx\n");
     assert!(rt; ends_so(rt, wide, "b\n2\n", 2, "row 2: 2 fields where 1 are wanted"));
     let open = asks("a + 1 as b", "a\n1\n\"2\n");

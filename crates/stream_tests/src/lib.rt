@@ -1,4 +1,4 @@
-//! Tests of rows that flow: what is read of the lines of an expression and of fields, what a batch
+//! Tests of rows that flow: what is read of fields, what a batch
 //! answers, what is written, how a stream ends, and the words that call it.
 #![tactic(auto)]
 
@@ -17,11 +17,11 @@ mod endings;
 #[cfg(test)]
 mod explained;
 #[cfg(test)]
-mod expressions;
-#[cfg(test)]
 mod fields;
 #[cfg(test)]
 mod flushing;
+#[cfg(test)]
+mod formats;
 #[cfg(test)]
 mod inference;
 #[cfg(test)]

@@ -3,9 +3,9 @@
 use crate::cases::{Case, ends, is_case, plain};
 use std::alloc::{AllocError, Global};
 
-const SUM: &str = "col a i8\ncol b i8\nget a\nget b\ncall +\nas sum\n";
+const SUM: &str = "a i8, b i8: a + b as sum";
 
-const TEXT: &str = "col t utf8\nget t\nas t\n";
+const TEXT: &str = "t utf8: t";
 
 /// A case whose fields have 8 bytes at most, and whose reader fails behind the input.
 fn narrow<'a>(expression: &'a str, input: &'a str) -> Case<'a> {
@@ -17,7 +17,8 @@ fn narrow<'a>(expression: &'a str, input: &'a str) -> Case<'a> {
 }
 
 #[test]
-fn a_field_that_is_too_long_is_told(rt: HostRuntime) {
+fn a_field_that_is_too_long_is_reported_by_its_beginning(rt: HostRuntime) {
+    const CASES: &[(&str, usize, &str)] = &[("x", 80, ""), ("x", 81, ".."), ("π", 200, "..")];
     let told = "row 2: a field has more bytes than the 8 of --max-field";
     assert!(rt;
         ends(
@@ -44,6 +45,7 @@ fn a_field_that_is_too_long_is_told(rt: HostRuntime) {
     );
     let told = "header: a field has more bytes than the 8 of --max-field";
     assert!(rt; ends(rt, narrow(TEXT, "t,\"123456789\n"), "", 2, told));
+    assert!(rt; each_tells_beginning(rt, CASES));
 }
 
 /// A text of so many letters.
@@ -77,12 +79,6 @@ fn each_tells_beginning(rt: HostRuntime, cases: &[(&str, usize, &str)]) -> bool 
         }
     }
     true
-}
-
-#[test]
-fn of_a_long_field_the_beginning_is_told(rt: HostRuntime) {
-    const CASES: &[(&str, usize, &str)] = &[("x", 80, ""), ("x", 81, ".."), ("π", 200, "..")];
-    assert!(rt; each_tells_beginning(rt, CASES));
 }
 
 #[test]

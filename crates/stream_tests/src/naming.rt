@@ -3,8 +3,8 @@
 use crate::cases::{Case, Form, each_ends, each_gives, ends, gives, headless, pick, plain};
 use crate::transcript::each_prints;
 
-const PRICES: &str = "col \"unit price\" i64\ncol \"a \"\"b\"\"\" i64\nget \"unit price\"\nget \
-                      \"a \"\"b\"\"\"\ncall +\nas \"sum, all\"\nget \"unit price\"\nas plain\n";
+const PRICES: &str = "\"unit price\" i64, \"a \"\"b\"\"\" i64: \"unit price\" + \"a \"\"b\"\"\" \
+                      as \"sum, all\", \"unit price\" as plain";
 
 #[test]
 fn names_in_quotes_are_any_text(rt: HostRuntime) {
@@ -15,16 +15,11 @@ fn names_in_quotes_are_any_text(rt: HostRuntime) {
             "unit price,\"a \"\"b\"\"\"\n1,2\n3,4\n",
             "\"sum, all\",plain\n3,1\n7,3\n",
         ),
-        (
-            Form::Plain,
-            "col \"\" i8\n get  \"\"  \nas \"\"\n",
-            ",a\n1,2\n",
-            "\"\"\n1\n",
-        ),
+        (Form::Plain, "\"\" i8: \"\"", ",a\n1,2\n", "\"\"\n1\n"),
     ];
     const PRINTED: &[(&str, &[u8], usize, &str)] = &[
-        ("col \"a\" i8\nget a\nas \"b\"\n", b"1", 1, "b,\n1,\n"),
-        ("col \"π\" i8\nget \"π\"\n", b"1", 1, "$.π,\n1,\n"),
+        ("\"a\" i8: a as \"b\"", b"1", 1, "b,\n1,\n"),
+        ("\"π\" i8: \"π\"", b"1", 1, "π,\n1,\n"),
     ];
     assert!(rt; each_gives(rt, GIVEN));
     let told = "header: column unit price is missing";
@@ -32,7 +27,7 @@ fn names_in_quotes_are_any_text(rt: HostRuntime) {
     assert!(rt; each_prints(rt, PRINTED));
 }
 
-const THIRD: &str = "col 3 as price i64\ncol name utf8\nget price\nas p\nget name\nas n\n";
+const THIRD: &str = "3 as price i64, name utf8: price as p, name as n";
 
 #[test]
 fn columns_stand_at_the_places_that_are_said(rt: HostRuntime) {
@@ -45,13 +40,13 @@ fn columns_stand_at_the_places_that_are_said(rt: HostRuntime) {
         ),
         (
             Form::Plain,
-            "col 2 as \"unit price\" i64\nget \"unit price\"\nas \"unit price\"\n",
+            "2 as \"unit price\" i64: \"unit price\"",
             "a,a\n1,2\n",
             "unit price\n2\n",
         ),
         (
             Form::Plain,
-            "col 1 as x i64\ncol 1 as y utf8\nget x\nas x\nget y\nas y\n",
+            "1 as x i64, 1 as y utf8: x, y",
             "a\n07\n",
             "x,y\n7,07\n",
         ),
@@ -77,12 +72,12 @@ fn where_so<'a>(case: Case<'a>, condition: &'a str) -> Case<'a> {
 
 #[test]
 fn a_condition_reads_columns_where_they_stand(rt: HostRuntime) {
-    let third = "col 3 as y i64\nget y\nas y\n";
+    let third = "3 as y i64: y";
     let rows = "1,2,3\n4,5,6\n3,3,9\n";
     assert!(rt; gives(rt, where_so(headless(third, rows), "y = 3"), "3\n"));
     let headed = "a,b,c\n1,2,3\n4,5,6\n3,3,9\n";
     assert!(rt; gives(rt, where_so(plain(third, headed), "y = 3"), "y\n3\n"));
-    let both = "col 3 as y i64\ncol b i64\nget b\nas b\nget y\nas y\n";
+    let both = "3 as y i64, b i64: b, y";
     assert!(rt;
         gives(
             rt,
@@ -108,14 +103,14 @@ fn without_a_header_the_first_row_tells_how_many_fields_there_are(rt: HostRuntim
     const GIVEN: &[(Form, &str, &str, &str)] = &[
         (
             Form::Headless,
-            "col 3 as price i64\nget price\n",
+            "3 as price i64: price",
             "a,b,1,c\n,,2,\n",
             "1\n2\n",
         ),
-        (Form::Headless, "col 3 as price i64\nget price\n", "", ""),
+        (Form::Headless, "3 as price i64: price", "", ""),
         (
             Form::Headless,
-            "col 2 as b i64\ncol a i64\nget a\nas a\nget b\nas b\n",
+            "2 as b i64, a i64: a, b",
             "1,2,3\n",
             "2,2\n",
         ),
@@ -123,7 +118,7 @@ fn without_a_header_the_first_row_tells_how_many_fields_there_are(rt: HostRuntim
     const ENDED: &[(Form, &str, &str, &str, u8, &str)] = &[
         (
             Form::Headless,
-            "col 3 as price i64\nget price\n",
+            "3 as price i64: price",
             "a,b,1,c\n,,2\n",
             "1\n",
             2,
@@ -131,7 +126,7 @@ fn without_a_header_the_first_row_tells_how_many_fields_there_are(rt: HostRuntim
         ),
         (
             Form::Headless,
-            "col 3 as price i64\nget price\n",
+            "3 as price i64: price",
             "a,b\n",
             "",
             2,
@@ -140,31 +135,10 @@ fn without_a_header_the_first_row_tells_how_many_fields_there_are(rt: HostRuntim
     ];
     assert!(rt; each_gives(rt, GIVEN));
     assert!(rt; each_ends(rt, ENDED));
-    let picked = "col 2 as b bool\nget b\n";
+    let picked = "2 as b bool: b";
     let headless = Case {
         header: false,
         ..pick(picked, "1,true\n2,false\n3,true\n")
     };
     assert!(rt; gives(rt, headless, "1,true\n3,true\n"));
-}
-
-#[test]
-fn marks_and_returns_of_files_are_passed_over(rt: HostRuntime) {
-    const CASES: &[(Form, &str, &str, &str)] = &[
-        (
-            Form::Plain,
-            "\u{feff}col a i8\r\n# a comment\r\n\r\nget a\r\nas b\r\n",
-            "a\n1\n",
-            "b\n1\n",
-        ),
-        (
-            Form::Plain,
-            "lit utf8 \"a\rb\"\r\nas t\r\n",
-            "x\n1\n",
-            "t\n\"a\rb\"\n",
-        ),
-    ];
-    assert!(rt; each_gives(rt, CASES));
-    let told = "line 4: expected a tree, which get, lit or call makes";
-    assert!(rt; ends(rt, plain("col a i8\r\n\r\n\r\n", ""), "", 4, told));
 }

@@ -5,6 +5,7 @@ use clap::error::ErrorKind;
 use fixtures::same;
 use rowfn_options::{Options, Source, read_options, status};
 use std::alloc::{AllocError, Global};
+use std::str;
 
 /// A line's words; a bar stands for a space within a word.
 fn words_of(alloc: Global, line: &str) -> Result<Vec<String>, AllocError> {
@@ -35,14 +36,35 @@ fn push_source(text: &mut String, source: &Source<'_>) -> Result<(), AllocError>
     }
 }
 
+/// How fields are written, where that is not as usual.
+fn push_format(alloc: Global, text: &mut String, options: &Options<'_>) -> Result<(), AllocError> {
+    if options.output_delimiter != options.delimiter {
+        text.push_str(format!(in alloc; " output {}", options.output_delimiter)?.as_str())?;
+    }
+    if let Some(byte) = options.comment {
+        text.push_str(format!(in alloc; " comment {byte}")?.as_str())?;
+    }
+    if options.fits {
+        text.push_str(" fits")?;
+    }
+    for null in &options.more_nulls {
+        push_word(text, "null", str::from_utf8(*null).ok())?;
+    }
+    if options.blank_rows {
+        text.push_str(" blank rows")?;
+    }
+    if options.any_truths {
+        text.push_str(" any truths")?;
+    }
+    Ok(())
+}
+
 /// What options say, in a line.
 fn described(alloc: Global, options: &Options<'_>) -> Result<String, AllocError> {
     let Options {
         delimiter,
         header,
         null,
-        blank_rows,
-        any_truths,
         batch,
         batch_bytes,
         flushes,
@@ -62,12 +84,7 @@ fn described(alloc: Global, options: &Options<'_>) -> Result<String, AllocError>
         ..
     } = options;
     let mut text = format!(in alloc; "{delimiter} {header} '{null}' {batch} {action:?} {summary}")?;
-    if *blank_rows {
-        text.push_str(" blank rows")?;
-    }
-    if *any_truths {
-        text.push_str(" any truths")?;
-    }
+    push_format(alloc, &mut text, options)?;
     if *progress {
         text.push_str(" progress")?;
     }
@@ -139,29 +156,10 @@ fn are_refused(rt: HostRuntime, cases: &[(&str, ErrorKind)]) -> bool {
 }
 
 #[test]
-fn the_expression_is_the_first_word_or_lines(rt: HostRuntime) {
+fn the_expression_and_the_file_of_the_rows_are_the_first_words(rt: HostRuntime) {
     const SAID: &[(&str, &str)] = &[
         ("p a|+|b", "44 true '' 2048 Answer false text a + b"),
-        (
-            "p -f sum.rows",
-            "44 true '' 2048 Answer false file sum.rows",
-        ),
-        (
-            "p -e get|a -e get|b",
-            "44 true '' 2048 Answer false line get a line get b",
-        ),
-    ];
-    const REFUSED: &[(&str, ErrorKind)] = &[
-        ("p", ErrorKind::MissingRequiredArgument),
-        ("p -e get|a -f sum.rows", ErrorKind::ArgumentConflict),
-    ];
-    assert!(rt; each_says(rt, SAID));
-    assert!(rt; are_refused(rt, REFUSED));
-}
-
-#[test]
-fn what_follows_is_the_file_of_the_rows(rt: HostRuntime) {
-    const SAID: &[(&str, &str)] = &[
+        ("p -f sum.txt", "44 true '' 2048 Answer false file sum.txt"),
         (
             "p a goods.csv",
             "44 true '' 2048 Answer false text a from goods.csv",
@@ -171,16 +169,8 @@ fn what_follows_is_the_file_of_the_rows(rt: HostRuntime) {
             "44 true '' 2048 Answer false text a from goods.csv",
         ),
         (
-            "p -e get|a goods.csv",
-            "44 true '' 2048 Answer false line get a from goods.csv",
-        ),
-        (
-            "p --input goods.csv -e get|a",
-            "44 true '' 2048 Answer false line get a from goods.csv",
-        ),
-        (
-            "p -f sum.rows goods.csv",
-            "44 true '' 2048 Answer false file sum.rows from goods.csv",
+            "p -f sum.txt goods.csv",
+            "44 true '' 2048 Answer false file sum.txt from goods.csv",
         ),
         ("p a -", "44 true '' 2048 Answer false text a"),
         (
@@ -189,21 +179,27 @@ fn what_follows_is_the_file_of_the_rows(rt: HostRuntime) {
         ),
     ];
     const REFUSED: &[(&str, ErrorKind)] = &[
+        ("p", ErrorKind::MissingRequiredArgument),
         ("p a b c", ErrorKind::UnknownArgument),
-        ("p -e get|a b c", ErrorKind::ArgumentConflict),
+        ("p -f f b c", ErrorKind::ArgumentConflict),
         ("p a b --input c", ErrorKind::ArgumentConflict),
-        ("p -e get|a b --input c", ErrorKind::ArgumentConflict),
+        ("p -f f b --input c", ErrorKind::ArgumentConflict),
+        ("p -e get|a", ErrorKind::UnknownArgument),
     ];
     assert!(rt; each_says(rt, SAID));
     assert!(rt; are_refused(rt, REFUSED));
 }
 
 #[test]
-fn columns_and_conditions_are_told(rt: HostRuntime) {
+fn columns_and_conditions_are_words(rt: HostRuntime) {
     const SAID: &[(&str, &str)] = &[
         (
             "p a --columns a|i32? --where a|>|1",
             "44 true '' 2048 Answer false columns a i32? where a > 1 text a",
+        ),
+        (
+            "p -f f --columns a|i32",
+            "44 true '' 2048 Answer false columns a i32 file f",
         ),
         (
             "p a --no-infer",
@@ -220,102 +216,80 @@ fn columns_and_conditions_are_told(rt: HostRuntime) {
     ];
     const REFUSED: &[(&str, ErrorKind)] = &[
         ("p a --first-row 0", ErrorKind::ValueValidation),
-        ("p -e get|a --columns a|i32", ErrorKind::ArgumentConflict),
-        ("p -f f --columns a|i32", ErrorKind::ArgumentConflict),
-        ("p a --pick --where a", ErrorKind::ArgumentConflict),
-        ("p a --pick --append", ErrorKind::ArgumentConflict),
+        (
+            "p --where a --output-delimiter ;",
+            ErrorKind::ArgumentConflict,
+        ),
+        (
+            "p a --append --output-delimiter ;",
+            ErrorKind::ArgumentConflict,
+        ),
     ];
     assert!(rt; each_says(rt, SAID));
     assert!(rt; are_refused(rt, REFUSED));
 }
 
 #[test]
-fn fields_are_told(rt: HostRuntime) {
-    const SAID: &[(&str, &str)] = &[
-        ("p --delimiter ; f", "59 true '' 2048 Answer false text f"),
-        ("p -d \\t f", "9 true '' 2048 Answer false text f"),
-        ("p --no-header f", "44 false '' 2048 Answer false text f"),
-        ("p --header f", "44 true '' 2048 Answer false text f"),
-        ("p -n NA f", "44 true 'NA' 2048 Answer false text f"),
-        ("p --null= f", "44 true '' 2048 Answer false text f"),
-    ];
-    const REFUSED: &[(&str, ErrorKind)] = &[
+fn how_fields_are_written_is_an_option(rt: HostRuntime) {
+    const CASES: &[(&str, ErrorKind)] = &[
         ("p --delimiter ;; f", ErrorKind::InvalidValue),
         ("p --delimiter \" f", ErrorKind::InvalidValue),
         ("p --delimiter π f", ErrorKind::InvalidValue),
         ("p --header --no-header f", ErrorKind::ArgumentConflict),
-    ];
-    assert!(rt; each_says(rt, SAID));
-    assert!(rt; are_refused(rt, REFUSED));
-}
-
-#[test]
-fn a_text_for_null_stands_bare(rt: HostRuntime) {
-    const CASES: &[(&str, ErrorKind)] = &[
         ("p --null a,b f", ErrorKind::InvalidValue),
         ("p --null a;b --delimiter ; f", ErrorKind::InvalidValue),
         ("p --null \" f", ErrorKind::InvalidValue),
         ("p --null a\nb f", ErrorKind::InvalidValue),
         ("p --null \u{feff} f", ErrorKind::InvalidValue),
+        (
+            "p --null NA --null #1 --comment # f",
+            ErrorKind::InvalidValue,
+        ),
+        ("p --comment , f", ErrorKind::InvalidValue),
+        ("p --ragged cut f", ErrorKind::InvalidValue),
+        ("p --blank-lines none f", ErrorKind::InvalidValue),
+        ("p --bool yes f", ErrorKind::InvalidValue),
     ];
-    assert!(rt; are_refused(rt, CASES));
-    let told = "59 true 'a,b' 2048 Answer false text f";
-    assert!(rt; says(rt, "p --null a,b --delimiter ; f", told));
-}
-
-#[test]
-fn lines_without_a_byte_are_told(rt: HostRuntime) {
-    const CASES: &[(&str, &str)] = &[
+    const SAID: &[(&str, &str)] = &[
+        ("p --delimiter ; f", "59 true '' 2048 Answer false text f"),
+        ("p -d \\t f", "9 true '' 2048 Answer false text f"),
+        (
+            "p -d ; --output-delimiter , f",
+            "59 true '' 2048 Answer false output 44 text f",
+        ),
+        (
+            "p --comment # f",
+            "44 true '' 2048 Answer false comment 35 text f",
+        ),
+        (
+            "p --ragged fit f",
+            "44 true '' 2048 Answer false fits text f",
+        ),
+        ("p --ragged refuse f", "44 true '' 2048 Answer false text f"),
+        (
+            "p --null NA --null - f",
+            "44 true 'NA' 2048 Answer false null - text f",
+        ),
+        ("p --no-header f", "44 false '' 2048 Answer false text f"),
+        ("p --header f", "44 true '' 2048 Answer false text f"),
+        ("p -n NA f", "44 true 'NA' 2048 Answer false text f"),
+        ("p --null= f", "44 true '' 2048 Answer false text f"),
+        (
+            "p --null a,b --delimiter ; f",
+            "59 true 'a,b' 2048 Answer false text f",
+        ),
         (
             "p --blank-lines null f",
             "44 true '' 2048 Answer false blank rows text f",
         ),
-        (
-            "p --blank-lines skip f",
-            "44 true '' 2048 Answer false text f",
-        ),
-    ];
-    assert!(rt; each_says(rt, CASES));
-    assert!(rt; is_refused(rt, "p --blank-lines none f", ErrorKind::InvalidValue));
-}
-
-#[test]
-fn spellings_of_truth_values_are_told(rt: HostRuntime) {
-    const CASES: &[(&str, &str)] = &[
         (
             "p --bool any f",
             "44 true '' 2048 Answer false any truths text f",
         ),
         ("p --bool plain f", "44 true '' 2048 Answer false text f"),
     ];
-    assert!(rt; each_says(rt, CASES));
-    assert!(rt; is_refused(rt, "p --bool yes f", ErrorKind::InvalidValue));
-}
-
-#[test]
-fn what_refused_rows_do_is_told(rt: HostRuntime) {
-    const SAID: &[(&str, &str)] = &[
-        (
-            "p --errors skip f",
-            "44 true '' 2048 Answer false skips text f",
-        ),
-        ("p --errors stop f", "44 true '' 2048 Answer false text f"),
-        (
-            "p --errors skip --errors-to e.csv f r.csv",
-            "44 true '' 2048 Answer false skips errors to e.csv text f from r.csv",
-        ),
-        (
-            "p --errors-to e.csv f",
-            "44 true '' 2048 Answer false errors to e.csv text f",
-        ),
-    ];
-    const REFUSED: &[(&str, ErrorKind)] = &[
-        ("p --errors pass f", ErrorKind::InvalidValue),
-        ("p --errors-to r.csv f r.csv", ErrorKind::ArgumentConflict),
-    ];
     assert!(rt; each_says(rt, SAID));
-    assert!(rt; are_refused(rt, REFUSED));
-    assert!(rt; ends_with(rt, "p --errors pass f", 64));
+    assert!(rt; are_refused(rt, CASES));
 }
 
 /// The status with which such words end the program; 0 where they give options.
@@ -340,18 +314,6 @@ fn each_ends_with(rt: HostRuntime, cases: &[(&str, u8)]) -> bool {
     true
 }
 
-#[test]
-fn wrong_words_have_a_status_of_their_own(rt: HostRuntime) {
-    const CASES: &[(&str, u8)] = &[
-        ("p --other f", 64),
-        ("p --delimiter ;; f", 64),
-        ("p", 64),
-        ("p --help", 0),
-        ("p --version", 0),
-    ];
-    assert!(rt; each_ends_with(rt, CASES));
-}
-
 /// Whether the words are refused, and that is printed.
 fn is_printed(rt: HostRuntime, line: &str, wanted: &str) -> bool {
     let alloc = rt.alloc();
@@ -368,14 +330,40 @@ fn is_printed(rt: HostRuntime, line: &str, wanted: &str) -> bool {
 }
 
 #[test]
-fn the_version_is_printed_with_the_name(rt: HostRuntime) {
+fn wrong_words_have_a_status_of_their_own(rt: HostRuntime) {
+    const CASES: &[(&str, u8)] = &[
+        ("p --other f", 64),
+        ("p --delimiter ;; f", 64),
+        ("p", 64),
+        ("p --help", 0),
+        ("p --version", 0),
+    ];
+    assert!(rt; each_ends_with(rt, CASES));
     assert!(rt; is_printed(rt, "p --version", "rowfn_stream 0.1.0"));
 }
 
 #[test]
-fn what_is_done_is_told(rt: HostRuntime) {
+fn what_is_done_with_rows_and_bad_rows_is_an_option(rt: HostRuntime) {
+    const SKIPPED: &[(&str, &str)] = &[
+        (
+            "p --errors skip f",
+            "44 true '' 2048 Answer false skips text f",
+        ),
+        ("p --errors stop f", "44 true '' 2048 Answer false text f"),
+        (
+            "p --errors skip --errors-to e.csv f r.csv",
+            "44 true '' 2048 Answer false skips errors to e.csv text f from r.csv",
+        ),
+        (
+            "p --errors-to e.csv f",
+            "44 true '' 2048 Answer false errors to e.csv text f",
+        ),
+    ];
+    const CONFLICTS: &[(&str, ErrorKind)] = &[
+        ("p --errors pass f", ErrorKind::InvalidValue),
+        ("p --errors-to r.csv f r.csv", ErrorKind::ArgumentConflict),
+    ];
     const SAID: &[(&str, &str)] = &[
-        ("p --pick f", "44 true '' 2048 Pick false text f"),
         ("p --explain f", "44 true '' 2048 Explain false text f"),
         ("p --summary f", "44 true '' 2048 Answer true text f"),
         (
@@ -398,11 +386,14 @@ fn what_is_done_is_told(rt: HostRuntime) {
         ("p --batch x f", ErrorKind::ValueValidation),
         ("p --batch-bytes 0 f", ErrorKind::ValueValidation),
         ("p --max-field 0 f", ErrorKind::ValueValidation),
-        ("p --pick --explain f", ErrorKind::ArgumentConflict),
+        ("p a --pick", ErrorKind::UnknownArgument),
         ("p --other f", ErrorKind::UnknownArgument),
         ("p --help", ErrorKind::DisplayHelp),
         ("p --version", ErrorKind::DisplayVersion),
     ];
     assert!(rt; each_says(rt, SAID));
     assert!(rt; are_refused(rt, REFUSED));
+    assert!(rt; each_says(rt, SKIPPED));
+    assert!(rt; are_refused(rt, CONFLICTS));
+    assert!(rt; ends_with(rt, "p --errors pass f", 64));
 }

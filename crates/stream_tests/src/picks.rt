@@ -2,10 +2,10 @@
 
 use crate::cases::{Case, Form, each_gives, ends, gives, pick};
 
-const SMALL: &str = "col a i64?\nget a\nlit i64 4\ncall <\n";
+const SMALL: &str = "a i64?: a < 4";
 
 #[test]
-fn rows_are_picked_byte_for_byte(rt: HostRuntime) {
+fn rows_in_which_the_answer_is_true_are_written_byte_for_byte(rt: HostRuntime) {
     const CASES: &[(Form, &str, &str, &str)] = &[
         (
             Form::Pick,
@@ -19,29 +19,19 @@ fn rows_are_picked_byte_for_byte(rt: HostRuntime) {
             "x,a\n\"u\nv\",1\n\"w\n\",9\n,2\n",
             "x,a\n\"u\nv\",1\n,2\n",
         ),
-    ];
-    assert!(rt; each_gives(rt, CASES));
-}
-
-#[test]
-fn a_row_is_picked_where_the_top_is_true(rt: HostRuntime) {
-    const CASES: &[(Form, &str, &str, &str)] = &[
         (
             Form::Pick,
             SMALL,
             "a,x\n1,u\n,v\n5,w\n3,x\n",
             "a,x\n1,u\n3,x\n",
         ),
-        (
-            Form::Pick,
-            "col a i64?\nget a\nget a\nlit i64 4\ncall <\nas small\n",
-            "a\n1\n5\n3\n",
-            "a\n1\n3\n",
-        ),
-        (Form::Pick, "lit bool? null\n", "a\n1\n5\n", "a\n"),
-        (Form::Pick, "lit bool true\n", "a\n1\n5\n", "a\n1\n5\n"),
+        (Form::Pick, ": null::bool?", "a\n1\n5\n", "a\n"),
+        (Form::Pick, ": true", "a\n1\n5\n", "a\n1\n5\n"),
     ];
     assert!(rt; each_gives(rt, CASES));
+    let input = "a\r\n1\r\n2\r\nx\r\n3\r\n";
+    let told = "row 3, column a: \"x\" is no i64?";
+    assert!(rt; ends(rt, pick(SMALL, input), "a\r\n1\r\n2\r\n", 2, told));
 }
 
 #[test]
@@ -68,23 +58,9 @@ fn ends_of_lines_go_with_their_rows(rt: HostRuntime) {
         ..pick(SMALL, "\u{feff}1\r\n9\r\n\r\n2\r\n")
     };
     assert!(rt; gives(rt, headless, "1\r\n2\r\n"));
-}
-
-#[test]
-fn lines_without_a_byte_are_picked(rt: HostRuntime) {
     let missing = Case {
         blank_rows: true,
-        ..pick(
-            "col a i64?\nget a\ncall is_null\n",
-            "a\r\n1\r\n\r\n2\r\n\r\n\r\n",
-        )
+        ..pick("a i64?: a is null", "a\r\n1\r\n\r\n2\r\n\r\n\r\n")
     };
     assert!(rt; gives(rt, missing, "a\r\n\r\n\r\n\r\n"));
-}
-
-#[test]
-fn rows_before_an_error_are_picked(rt: HostRuntime) {
-    let input = "a\r\n1\r\n2\r\nx\r\n3\r\n";
-    let told = "row 3, column a: \"x\" is no i64?";
-    assert!(rt; ends(rt, pick(SMALL, input), "a\r\n1\r\n2\r\n", 2, told));
 }

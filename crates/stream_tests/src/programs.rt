@@ -1,62 +1,37 @@
-//! Programs of lines of expressions.
-ghost use Rattle.vortex_program.specs.Programs.{AreOptimized};
+//! Questions of texts: `price i32, 3 as stock i32?: price * stock as worth`.
 
 use rowfn_batches::Asked;
-use rowfn_scripts::{Expression, read_expression};
+use rowfn_queries::{Declared, Question, read_scope};
 use std::alloc::Global;
-use vortex_program::{Answer, Program};
+use vortex_program::Program;
 
-/// A program, and where its columns are.
-#[derive(Drop)]
-pub struct Placed {
-    pub program: Program,
-    pub places: Vec<Option<usize>>,
-    pub ghost optimized: { ∥ AreOptimized program.written.items program.optimized.items ∥₁ },
-}
-
-impl Placed {
-    /// What it asks.
-    pub fn asked(&self) -> Asked<'_> {
-        Asked {
-            program: &self.program,
-            places: &self.places,
-        }
+/// A question, as a stream takes it.
+pub fn asked(question: &Question) -> Asked<'_> {
+    Asked {
+        program: &question.program,
+        places: &question.places,
     }
 }
 
-/// The last answer alone.
-fn last_alone(alloc: Global, mut answers: Vec<Answer>) -> Option<Vec<Answer>> {
-    let mut last = Vec::new(alloc);
-    if let Some(answer) = answers.pop() {
-        if last.push(answer).is_err() {
-            return None;
-        }
+/// The columns that a text declares; none for an empty text.
+fn declared_in(alloc: Global, text: &str) -> Option<Declared> {
+    if text.is_empty() {
+        return Some(Declared::none(alloc));
     }
-    Some(last)
+    read_scope(alloc, text).ok()
 }
 
-/// The program of an expression; of its last answer where rows are picked.
-pub fn placed(alloc: Global, expression: Expression, picks_rows: bool) -> Option<Placed> {
-    let Expression {
-        columns,
-        places,
-        answers,
-    } = expression;
-    let answers = if picks_rows {
-        last_alone(alloc, answers)?
-    } else {
-        answers
-    };
-    match Program::of(alloc, columns, answers) {
-        Ok(program) => Some(Placed { program, places }),
+/// The question of a text over the columns that another text declares.
+pub fn read_over(alloc: Global, columns: &str, text: &str) -> Option<Question> {
+    let Declared { columns, places } = declared_in(alloc, columns)?;
+    match Program::read(alloc, columns, text) {
+        Ok(program) => Some(Question { program, places }),
         Err(_) => None,
     }
 }
 
-/// The program that lines are.
-pub fn read_lines(alloc: Global, text: &str, picks_rows: bool) -> Option<Placed> {
-    match read_expression(alloc, text.as_bytes()) {
-        Ok(expression) => placed(alloc, expression, picks_rows),
-        Err(_) => None,
-    }
+/// The question of columns and an expression, with a colon and a blank between.
+pub fn read_asked(alloc: Global, text: &str) -> Option<Question> {
+    let (columns, expression) = text.split_once(": ")?;
+    read_over(alloc, columns, expression)
 }

@@ -10,37 +10,7 @@ const GOODS: &str = "name,price,stock\nnut,3,7\nbolt,120,\nnail,5,0\n";
 const TYPES: &str = "price i32, stock i32?";
 
 #[test]
-fn answers_have_names(rt: HostRuntime) {
-    const CASES: &[(Texts, &str)] = &[
-        (
-            (
-                TYPES,
-                "price * stock as worth, price > 100 as dear",
-                "",
-                GOODS,
-            ),
-            "worth,dear\n21,false\n,true\n0,false\n",
-        ),
-        (
-            ("", "price * stock as worth, price > 100 as dear", "", GOODS),
-            "worth,dear\n21,false\n,true\n0,false\n",
-        ),
-    ];
-    assert!(rt; each_answers(rt, CASES));
-}
-
-#[test]
-fn an_answer_without_a_name_has_its_columns_or_its_text(rt: HostRuntime) {
-    let output = "name,price + 1\nnut,4\nbolt,121\nnail,6\n";
-    assert!(rt; answers_so(rt, asks("name, price+1", GOODS), output));
-    let quoted = asks("\"unit price\"", "unit price\n3\n");
-    assert!(rt; answers_so(rt, quoted, "unit price\n3\n"));
-    let twice = "two answers are named price: expected another name for one, by as";
-    assert!(rt; ends_so(rt, asks("price, price", GOODS), "", 4, twice));
-}
-
-#[test]
-fn the_first_examples_answer_so(rt: HostRuntime) {
+fn answers_have_their_names_or_their_texts(rt: HostRuntime) {
     const CASES: &[(Texts, &str)] = &[
         (
             (
@@ -69,6 +39,12 @@ fn the_first_examples_answer_so(rt: HostRuntime) {
     let answers = "price * stock as worth, price > 100 as dear";
     let taken = answers_where("stock is not null", answers, input);
     assert!(rt; answers_so(rt, taken, "worth,dear\n21,false\n"));
+    let output = "name,price + 1\nnut,4\nbolt,121\nnail,6\n";
+    assert!(rt; answers_so(rt, asks("name, price+1", GOODS), output));
+    let quoted = asks("\"unit price\"", "unit price\n3\n");
+    assert!(rt; answers_so(rt, quoted, "unit price\n3\n"));
+    let twice = "two answers are named price: expected another name for one, by as";
+    assert!(rt; ends_so(rt, asks("price, price", GOODS), "", 4, twice));
 }
 
 #[test]
@@ -94,7 +70,31 @@ fn columns_are_declared(rt: HostRuntime) {
 }
 
 #[test]
-fn texts_that_are_refused_are_told_by_their_place(rt: HostRuntime) {
+fn texts_that_are_refused_are_reported_by_their_place(rt: HostRuntime) {
+    const SCOPES: &[(&str, &str)] = &[
+        (
+            "a int",
+            "--columns: line 1, column 3: no type \"int\"; types are bool, utf8, i8, i16, i32, \
+                i64, u8, u16, u32 and u64, with ? where they have null",
+        ),
+        (
+            "a",
+            "--columns: line 1, column 2: found the end, expected a type behind the name, \
+                as i64 or utf8?",
+        ),
+        (
+            "a i8 b i8",
+            "--columns: line 1, column 6: found \"b\", expected a comma or the end",
+        ),
+        (
+            "a i8,",
+            "--columns: line 1, column 6: found the end, expected the name of a column",
+        ),
+        (
+            "a i8, a i16",
+            "--columns: line 1, column 7: column \"a\" is declared twice",
+        ),
+    ];
     const CASES: &[(Texts, &str, u8, &str)] = &[
         (
             ("", "prcie", "", GOODS),
@@ -136,6 +136,7 @@ fn texts_that_are_refused_are_told_by_their_place(rt: HostRuntime) {
         ),
     ];
     assert!(rt; each_ends_so(rt, CASES));
+    assert!(rt; are_no_scopes(rt, SCOPES));
 }
 
 /// Whether columns that are declared are refused so.
@@ -154,36 +155,7 @@ fn are_no_scopes(rt: HostRuntime, cases: &[(&str, &str)]) -> bool {
 }
 
 #[test]
-fn columns_that_are_refused_are_told_by_their_place(rt: HostRuntime) {
-    const CASES: &[(&str, &str)] = &[
-        (
-            "a int",
-            "--columns: line 1, column 3: no type \"int\"; types are bool, utf8, i8, i16, i32, \
-                i64, u8, u16, u32 and u64, with ? where they have null",
-        ),
-        (
-            "a",
-            "--columns: line 1, column 2: found the end, expected a type behind the name, \
-                as i64 or utf8?",
-        ),
-        (
-            "a i8 b i8",
-            "--columns: line 1, column 6: found \"b\", expected a comma or the end",
-        ),
-        (
-            "a i8,",
-            "--columns: line 1, column 6: found the end, expected the name of a column",
-        ),
-        (
-            "a i8, a i16",
-            "--columns: line 1, column 7: column \"a\" is declared twice",
-        ),
-    ];
-    assert!(rt; are_no_scopes(rt, CASES));
-}
-
-#[test]
-fn rows_are_picked_by_a_condition(rt: HostRuntime) {
+fn a_condition_picks_rows_and_the_rows_of_answers(rt: HostRuntime) {
     const CASES: &[(Texts, &str)] = &[
         (
             ("", "", "stock is not null and name like 'n%'", GOODS),
@@ -192,10 +164,6 @@ fn rows_are_picked_by_a_condition(rt: HostRuntime) {
         (("", "", "stock > 0", GOODS), "name,price,stock\nnut,3,7\n"),
     ];
     assert!(rt; each_answers(rt, CASES));
-}
-
-#[test]
-fn answers_are_those_of_the_rows_picked(rt: HostRuntime) {
     let worth = answers_where("stock > 0", "name, price * stock as worth", GOODS);
     assert!(rt; answers_so(rt, worth, "name,worth\nnut,21\n"));
     // no quotient is asked where the condition is not true

@@ -105,18 +105,26 @@ fn push_names(out: &mut Vec<u8>, types: &[&str], delimiter: u8) -> Result<(), Al
     Ok(())
 }
 
-/// The lines that answer each column, and whether it is null where that is asked.
-fn expression_of(alloc: Global, types: &[&str], asks_nulls: bool) -> Result<String, AllocError> {
-    let mut lines = String::new(alloc);
-    for (place, dtype) in types.iter().enumerate() {
-        let line = format!(in alloc; "col c{place} {dtype}\nget c{place}\nas c{place}\n")?;
-        lines.push_str(line.as_str())?;
-        if asks_nulls {
-            let line = format!(in alloc; "get c{place}\ncall is_null\nas n{place}\n")?;
-            lines.push_str(line.as_str())?;
-        }
+/// The answers of a column: its value, and whether it is null where that is asked.
+fn answers_at(alloc: Global, place: usize, asks_nulls: bool) -> Result<String, AllocError> {
+    if asks_nulls {
+        format!(in alloc; "c{place}, c{place} is null as n{place}")
+    } else {
+        format!(in alloc; "c{place}")
     }
-    Ok(lines)
+}
+
+/// The columns, and the answers of each.
+fn expression_of(alloc: Global, types: &[&str], asks_nulls: bool) -> Result<String, AllocError> {
+    let (mut columns, mut answers) = (String::new(alloc), String::new(alloc));
+    for (place, dtype) in types.iter().enumerate() {
+        let comma = if place == 0 { "" } else { ", " };
+        let column = format!(in alloc; "{comma}c{place} {dtype}")?;
+        columns.push_str(column.as_str())?;
+        answers.push_str(comma)?;
+        answers.push_str(answers_at(alloc, place, asks_nulls)?.as_str())?;
+    }
+    format!(in alloc; "{columns}: {answers}")
 }
 
 /// A text for null in which the delimiter does not stand.

@@ -52,7 +52,7 @@ const SUM: &str = "a + b as sum";
 const TYPES: &str = "a i8, b i8";
 
 #[test]
-fn rows_that_are_refused_are_left_out(rt: HostRuntime) {
+fn bad_rows_are_left_out_and_reported_as_csv(rt: HostRuntime) {
     let input = "a,b\n1,2\nx,3\n3,4\n100,100\n5,\n,6\n7\n8,9,10\n11,12\n";
     let told = "row,column,reason,field\n2,a,is no i8,x\n4,,E7 Arithmetic.Add,\n5,b,is no i8,\n\
                 6,a,is no i8,\n7,,1 fields where 2 are wanted,\n8,,3 fields where 2 are wanted,\n";
@@ -62,10 +62,15 @@ fn rows_that_are_refused_are_left_out(rt: HostRuntime) {
     let input = "a,b\n1,0\n6,3\n";
     let told = "row,column,reason,field\n1,,E7 Arithmetic.Div,\n";
     assert!(rt; goes_on(rt, declared(TYPES, "a / b as q", input), "q\n2\n", told));
-}
-
-#[test]
-fn fields_are_told_as_csv(rt: HostRuntime) {
+    let told = "row,column,reason,field\n2,,a quote is not closed,\n";
+    assert!(rt;
+        goes_on(
+            rt,
+            declared(TYPES, SUM, "a,b\n1,2\n3,\"4\n5,6\n"),
+            "sum\n3\n",
+            told
+        )
+    );
     let input = "\"a,\"\"b\"\"\",b\n\"x,y\",1\n\"\",2\n\"a\"\"\nb\",3\nabc,4\n5,6\n";
     let told = "row,column,reason,field\n1,\"a,\"\"b\"\"\",is no i8,\"x,y\"\n\
                 2,\"a,\"\"b\"\"\",is no i8,\"\"\n3,\"a,\"\"b\"\"\",is no i8,\"a\"\"\nb\"\n\
@@ -117,36 +122,7 @@ fn is_cut(rt: HostRuntime) -> bool {
 }
 
 #[test]
-fn of_a_long_field_the_beginning_is_told(rt: HostRuntime) {
-    assert!(rt; is_cut(rt));
-}
-
-#[test]
-fn a_quote_that_is_not_closed_is_left_out(rt: HostRuntime) {
-    let told = "row,column,reason,field\n2,,a quote is not closed,\n";
-    assert!(rt;
-        goes_on(
-            rt,
-            declared(TYPES, SUM, "a,b\n1,2\n3,\"4\n5,6\n"),
-            "sum\n3\n",
-            told
-        )
-    );
-}
-
-#[test]
-fn a_field_that_is_too_long_ends_the_stream(rt: HostRuntime) {
-    let asked = Asked {
-        max_field: 4,
-        ..declared(TYPES, SUM, "a,b\n1,2\nx,3\n3,12345\n5,6\n")
-    };
-    let told = "row 3: a field has more bytes than the 4 of --max-field";
-    let refused = "row,column,reason,field\n2,a,is no i8,x\n";
-    assert!(rt; stops_behind(rt, asked, refused, ("sum\n3\n", 2, told)));
-}
-
-#[test]
-fn what_is_no_row_s_ends_the_stream(rt: HostRuntime) {
+fn errors_that_are_no_row_s_end_the_stream(rt: HostRuntime) {
     let missing = declared("c i8", "c", "a,b\n1,2\n");
     assert!(rt; stops_behind(rt, missing, "", ("", 2, "header: column c is missing")));
     let fails = Asked {
@@ -156,6 +132,13 @@ fn what_is_no_row_s_ends_the_stream(rt: HostRuntime) {
     let told = "reading: connection reset";
     let refused = "row,column,reason,field\n2,a,is no i8,x\n";
     assert!(rt; stops_behind(rt, fails, refused, ("sum\n3\n7\n", 3, told)));
+    let asked = Asked {
+        max_field: 4,
+        ..declared(TYPES, SUM, "a,b\n1,2\nx,3\n3,12345\n5,6\n")
+    };
+    let told = "row 3: a field has more bytes than the 4 of --max-field";
+    let refused = "row,column,reason,field\n2,a,is no i8,x\n";
+    assert!(rt; stops_behind(rt, asked, refused, ("sum\n3\n", 2, told)));
 }
 
 /// What is asked of rows of two columns in which a condition is true.
@@ -188,10 +171,6 @@ fn a_condition_refuses_rows_too(rt: HostRuntime) {
     let told = "row,column,reason,field\n2,,E7 Arithmetic.Div,\n4,b,is no i8,x\n\
                 6,,E7 Arithmetic.Div,\n";
     assert!(rt; goes_on(rt, asked, "q\n3\n3\n", told));
-}
-
-#[test]
-fn rows_are_picked_but_for_those_that_are_refused(rt: HostRuntime) {
     let input = "a,b\r\n6,2\r\n1,0\r\n8,4\n9,x\n\"9\",3";
     let told = "row,column,reason,field\n2,,E7 Arithmetic.Div,\n4,b,is no i8,x\n";
     let picked = asks_where("a / b > 2", None, input);
@@ -279,10 +258,11 @@ fn is_refused_often(rt: HostRuntime, count: usize, each: usize) -> bool {
 }
 
 #[test]
-fn many_rows_of_a_batch_may_be_refused(rt: HostRuntime) {
+fn many_rows_of_a_batch_and_long_fields_may_be_refused(rt: HostRuntime) {
     assert!(rt; is_refused_often(rt, 20000, 1));
     assert!(rt; is_refused_often(rt, 20000, 2));
     assert!(rt; is_refused_often(rt, 20000, 5000));
+    assert!(rt; is_cut(rt));
 }
 
 #[test]

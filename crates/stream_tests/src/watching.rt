@@ -2,7 +2,7 @@
 
 use crate::cases::{plain, settings_of};
 use crate::pipes::{Drips, Sink};
-use crate::programs::read_lines;
+use crate::programs::{asked, read_asked};
 use fixtures::same;
 use rowfn_batches::{RefusedRows, Settings, Watched, Watcher, run};
 use std::alloc::Global;
@@ -24,9 +24,9 @@ impl Watcher for Diary<'_> {
 /// How often a stream tells how far it came, by rows that are passed on one by one and reads of one
 /// byte, and what it tells last; and how many rows it counts in all.
 fn watched(alloc: Global, input: &str, every: u64) -> Option<((u64, u64, u64), u64)> {
-    let case = plain("col a i64\nget a\n", input);
+    let case = plain("a i64: a", input);
     let (last, rows) = (Cell::new((0, 0, 0)), Cell::new(0));
-    let answers = read_lines(alloc, case.expression, false)?;
+    let answers = read_asked(alloc, case.expression)?;
     let settings = Settings {
         rows_passed: Some(&rows),
         ..settings_of(&case, (1, 1000))
@@ -43,11 +43,10 @@ fn watched(alloc: Global, input: &str, every: u64) -> Option<((u64, u64, u64), u
         limit: usize::MAX,
     };
     let mut refused = RefusedRows::<Sink>::End;
-    let asked = answers.asked();
     match run(
         alloc,
         &settings,
-        &asked,
+        &asked(&answers),
         None,
         reader,
         &mut sink,

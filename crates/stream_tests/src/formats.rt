@@ -1,0 +1,71 @@
+//! Columns without names, places of columns, texts for null, comments, and records of any length.
+
+use crate::asking::{Asked, COMMAS, Texts, answers_so, asks, each_answers, ends_so};
+use rowfn_batches::Format;
+use rowfn_queries::Words;
+
+#[test]
+fn without_a_header_columns_are_c1_and_c2(rt: HostRuntime) {
+    let plain = asks("c2 + 1 as next, c1", "nut,3\nbolt,\n");
+    let headless = Asked {
+        words: Words {
+            header: false,
+            ..plain.words
+        },
+        ..plain
+    };
+    assert!(rt; answers_so(rt, headless, "4,nut\n,bolt\n"));
+}
+
+#[test]
+fn a_condition_reads_a_column_by_its_place(rt: HostRuntime) {
+    const CASES: &[(Texts, &str)] = &[
+        (
+            ("3 as y i64", "y as z, a", "y > 3", "a,b,c\n1,2,3\n4,5,6\n"),
+            "z,a\n6,4\n",
+        ),
+        (
+            ("2 as y i64?", "", "y is null", "a,a\n1,2\n4,\n"),
+            "a,a\n4,\n",
+        ),
+    ];
+    assert!(rt; each_answers(rt, CASES));
+}
+
+#[test]
+fn two_texts_are_null_and_comments_are_skipped(rt: HostRuntime) {
+    let more = [b"-".as_slice()];
+    let input = "# goods\nn,t\n1,-\nNA,\"-\"\n#2,x\n-,\"#y\"\n";
+    let asked = Asked {
+        format: Format {
+            null: b"NA",
+            more_nulls: &more,
+            comment: Some(b'#'),
+            ..COMMAS
+        },
+        ..asks("t, n", input)
+    };
+    assert!(rt; answers_so(rt, asked, "t,n\nNA,1\n\"-\",NA\n\"#y\",NA\n"));
+}
+
+/// The same, with records of any length.
+fn fitted<'a>(asked: Asked<'a>) -> Asked<'a> {
+    Asked {
+        format: Format {
+            fits: true,
+            ..asked.format
+        },
+        ..asked
+    }
+}
+
+#[test]
+fn short_and_long_records_fit(rt: HostRuntime) {
+    let asked = asks("a, b, c", "a,b,c\n1\n2,3,4,\n5,6,7\n");
+    assert!(rt; answers_so(rt, fitted(asked), "a,b,c\n1,,\n2,3,4\n5,6,7\n"));
+    let told = "row 1: 1 fields where 3 are wanted";
+    assert!(rt; ends_so(rt, asks("1 as x", "a,b,c\n1\n"), "x\n", 2, told));
+    let told = "row 2: 3 fields where 2 are wanted";
+    let full = asks("a, b", "a,b\n1,2\n3,4,5\n");
+    assert!(rt; ends_so(rt, fitted(full), "a,b\n1,2\n", 2, told));
+}
