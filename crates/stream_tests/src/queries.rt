@@ -88,7 +88,8 @@ fn texts_that_are_refused_are_reported_by_their_place(rt: HostRuntime) {
         ),
         (
             "a i8,",
-            "--columns: line 1, column 6: found the end, expected the name of a column",
+            "--columns: line 1, column 6: found the end, expected the name of a column, \
+                or its place and as",
         ),
         (
             "a i8, a i16",
