@@ -79,7 +79,7 @@ fn texts_that_are_refused_are_reported_by_their_place(rt: HostRuntime) {
         ),
         (
             "a",
-            "--columns: line 1, column 2: found the end, expected a type behind the name, \
+            "--columns: line 1, column 2: found the end, expected a type after the name, \
                 as i64 or utf8?",
         ),
         (
@@ -88,7 +88,8 @@ fn texts_that_are_refused_are_reported_by_their_place(rt: HostRuntime) {
         ),
         (
             "a i8,",
-            "--columns: line 1, column 6: found the end, expected the name of a column",
+            "--columns: line 1, column 6: found the end, expected the name of a column, \
+                or its place and as",
         ),
         (
             "a i8, a i16",
