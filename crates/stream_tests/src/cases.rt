@@ -127,6 +127,27 @@ fn condition_of(alloc: Global, case: &Case<'_>) -> Result<Option<Question>, Stre
     }
 }
 
+/// Runs a stream of answers under a condition, if there is one.
+fn run_questions(
+    alloc: Global,
+    settings: &Settings<'_>,
+    answers: &Question,
+    condition: Option<&Question>,
+    reader: Drips<'_>,
+    sink: &mut Sink,
+) -> Result<Summary, StreamError> {
+    let condition = condition.map(|condition| asked(condition));
+    run(
+        alloc,
+        settings,
+        &asked(answers),
+        condition.as_ref(),
+        reader,
+        sink,
+        &mut RefusedRows::<Sink>::End,
+    )
+}
+
 /// Runs a stream by batches of so many rows, or so many bytes of them, and reads of so many bytes.
 pub fn run_case(
     alloc: Global,
@@ -146,16 +167,7 @@ pub fn run_case(
         interrupted: false,
         fails: case.fails,
     };
-    let condition = condition.as_ref().map(|condition| asked(condition));
-    run(
-        alloc,
-        &settings,
-        &asked(&answers),
-        condition.as_ref(),
-        reader,
-        sink,
-        &mut RefusedRows::<Sink>::End,
-    )
+    run_questions(alloc, &settings, &answers, condition.as_ref(), reader, sink)
 }
 
 /// Whether that was written, and that text told with that status, if anything was.

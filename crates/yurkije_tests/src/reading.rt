@@ -6,11 +6,12 @@ use std::alloc::Global;
 use yurkije_columns::{ScopeError, ScopeFault, read_fields, scope_words};
 use yurkije_core::{Program, ProgramError, Told, program_words, read_program};
 
-/// The program of a text over the fields.
+/// The program of a text over the fields. Fields that are refused fail each test: none wants a text
+/// that is not UTF-8.
 pub fn program_of(alloc: Global, text: &[u8]) -> Result<Program, ProgramError> {
     match read_fields(alloc, &fields()) {
         Ok(scope) => read_program(alloc, scope, text),
-        Err(_) => Err(ProgramError::OutOfMemory),
+        Err(_) => Err(ProgramError::NotUtf8),
     }
 }
 
