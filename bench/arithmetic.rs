@@ -7,42 +7,43 @@ use crate::lanes::Lanes;
 
 type Answered<T> = Rows<Vec<T>>;
 
-/// What stands for division by one number: the product by an inverse, and a shift.
+/// A replacement for division by one number: the product with an inverse, and a shift.
 #[derive(Clone, Copy)]
 pub struct Inverse<T> {
     factor: T,
     shift: u32,
 }
 
-/// An integer type, with its operators in the forms that a loop is made vector code of, or not. A truth value beside an
-/// answer says that the type does not hold it.
+/// An integer type, with its operators in forms that become vector code, or not. A truth value with
+/// a result is whether the type does not hold it.
 pub trait Number: Lanes + Default + std::ops::BitOrAssign {
     fn sum(self, other: Self) -> (Self, bool);
-    /// The sum, and bits of which the first is set where the type does not hold it.
+    /// The sum, and bits of which the first is set if the type does not hold it.
     fn sum_by_signs(self, other: Self) -> (Self, Self);
     fn sum_by_saturation(self, other: Self) -> (Self, bool);
     fn checked_sum(self, other: Self) -> Option<Self>;
     fn product(self, other: Self) -> (Self, bool);
     fn product_by_width(self, other: Self) -> (Self, bool);
-    /// The product, and bits of which some are set where the type does not hold it.
+    /// The product, and bits of which some are set if the type does not hold it.
     fn product_by_halves(self, other: Self) -> (Self, Self);
     fn has_first_bit(self) -> bool;
     fn checked_product(self, other: Self) -> Option<Self>;
     fn quotient(self, other: Self) -> (Self, bool);
     fn checked_quotient(self, other: Self) -> Option<Self>;
-    /// By a float that holds each quotient closely enough; a number of 64 bits has one where both fit 53.
+    /// By a float that holds each quotient closely enough; a number of 64 bits has one if both fit
+    /// 53.
     fn quotient_by_float(self, other: Self) -> (Self, bool);
     /// The least and the greatest number whose product by a positive factor the type holds.
     fn bounds(factor: Self) -> (Self, Self);
     fn wrapping_product(self, other: Self) -> Self;
-    /// Of a divisor of at least two.
+    /// For a divisor of at least two.
     fn inverse(divisor: Self) -> Inverse<Self>;
     fn quotient_by_inverse(self, inverse: Inverse<Self>) -> Self;
-    /// Which bits stand where a number, or its complement where it is negative, has ones.
+    /// The bits where a number, or its complement if it is negative, has ones.
     fn size(self) -> u64;
 }
 
-/// What is the same for types with a sign and without.
+/// The same for types with a sign and without.
 macro_rules! common {
     ($t:ident, $wide:ident) => {
         #[inline(always)]
@@ -86,7 +87,8 @@ macro_rules! common {
         fn wrapping_product(self, other: $t) -> $t {
             self.wrapping_mul(other)
         }
-        /// The power of two from the divisor on, over it, less the part that every inverse has.
+        /// The power of two from the divisor on, divided by it, without the part that every inverse
+        /// has.
         fn inverse(divisor: $t) -> Inverse<$t> {
             let shift = (divisor as u64).next_power_of_two().trailing_zeros();
             let signed = u32::from($t::MIN != 0);
@@ -179,14 +181,14 @@ signed!(i64, i128, f64, i64);
 // SAFETY: no quotient passes the type
 unsigned!(u8, u16, |x, y| unsafe { (x as f32 / y as f32).to_int_unchecked::<i32>() } as u8);
 unsigned!(u16, u32, |x, y| unsafe { (x as f32 / y as f32).to_int_unchecked::<i32>() } as u16);
-// what a signed number does not hold is moved before it is told, and back
+// what a signed number does not hold is moved before it is tested, and back
 unsigned!(u32, u64, |x, y| {
     let floor = (x as f64 / y as f64).floor() - 2_147_483_648.0;
     (unsafe { floor.to_int_unchecked::<i32>() } as u32) ^ 1 << 31
 });
 unsigned!(u64, u128, |x, y| unsafe { (x as i64 as f64 / y as i64 as f64).to_int_unchecked::<i64>() } as u64);
 
-/// The answer, unless a row that is not null faults; where no row does, none is looked at again.
+/// The result, unless a row that is not null faults; if no row does, none is read again.
 fn unless_fault<T: Copy>(
     (left, right): &Pair<T>,
     values: Vec<T>,
@@ -236,7 +238,8 @@ pub fn joined_bits<T: Number>(
     unless_fault(pair, values, tells(bits), |x, y| tells(apply(x, y).1))
 }
 
-/// A loop that ends at the first row that faults; then all rows once more, as the fault may lie under a null.
+/// A loop that ends at the first row that faults; then all rows again, as the fault may be under a
+/// null.
 #[inline(always)]
 pub fn ending<T: Copy + Default>(pair: &Pair<T>, apply: impl Fn(T, T) -> Option<T>) -> Answered<T> {
     let len = pair.0.values.len();
@@ -272,7 +275,7 @@ pub fn divide_by_blocks<T: Number>(pair: &Pair<T>) -> Answered<T> {
     unless_fault(pair, values, fault, |x, y| x.quotient(y).1)
 }
 
-/// What is made of each row beside a constant.
+/// The result for each row and a constant.
 #[inline(always)]
 fn beside<T: Copy>((left, _): &Pair<T>, apply: impl Fn(T) -> (T, bool)) -> Answered<T> {
     let mut fault = false;

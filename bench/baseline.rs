@@ -1,4 +1,5 @@
-//! The same kernels in plain Rust, in several forms, and the program that times the project's calls beside the best of them.
+//! The same kernels in plain Rust, in several forms, and the program that times the project's calls
+//! against the best of them.
 
 mod arithmetic;
 mod bits;
@@ -23,7 +24,7 @@ use timing::{Case, Seen, counted, forms_alone, measured};
 
 const SEED: u64 = 88172645463325252;
 
-/// How long it takes to make, copy, execute and drop a chain of calls, on the stack that a program has.
+/// How long it takes to make, copy, execute and drop a chain of calls, with the stack of a program.
 fn deep() {
     for calls in [250_000, 500_000, 1_000_000] {
         let began = Instant::now();
@@ -32,7 +33,8 @@ fn deep() {
     }
 }
 
-/// So many calls of a case: of the project's, or of one of the forms. Without a count of calls, the names of the forms.
+/// That many calls of a case: of the project's, or of one of the forms. Without a count of calls,
+/// the names of the forms.
 fn count(words: &[String]) {
     let [name, rows, nulls, rest @ ..] = words else { panic!("count CASE ROWS NULLS [SIDE CALLS]") };
     let shape = Shape { rows: rows.parse().unwrap(), nulls: nulls.parse().unwrap() };
@@ -44,14 +46,15 @@ fn count(words: &[String]) {
     }
 }
 
-/// The numbers that a variable lists.
+/// The numbers in a variable.
 fn listed(variable: &str, others: &str) -> Vec<u64> {
     let words = std::env::var(variable).unwrap_or(others.into());
     words.split_whitespace().map(|word| word.parse().expect("a number")).collect()
 }
 
-/// A line of a cell, its parts behind tabs: the case, rows, nulls of a hundred, the ratio and its quartiles, nanoseconds a row of
-/// the project and of the best form, that form, bytes a row, and each form with its time over the best one's.
+/// A line of a cell, its parts after tabs: the case, rows, nulls of a hundred, the ratio and its
+/// quartiles, nanoseconds a row of the project and of the best form, that form, bytes a row, and
+/// each form with its time over the best one's.
 fn print_cell(name: &str, shape: &Shape, seen: &Seen) {
     let forms: Vec<String> = seen.forms.iter().map(|(name, time)| format!("{name} {time:.2}")).collect();
     let held = seen.held.map_or("-".into(), |held| format!("{:.1}", held as f64 / shape.rows as f64));
@@ -63,8 +66,8 @@ fn print_cell(name: &str, shape: &Shape, seen: &Seen) {
     );
 }
 
-/// A line for each cell. A word behind the program's name picks the cases whose names have it, and `!word` the others; `forms`
-/// leaves out the project's side.
+/// A line for each cell. A word after the program's name selects the cases whose names have it, and
+/// `!word` the others; `forms` leaves out the project's side.
 fn main() {
     let mut words = std::env::args().skip(1).peekable();
     if words.next_if_eq("count").is_some() {

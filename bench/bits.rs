@@ -3,7 +3,8 @@
 use crate::columns::{Bits, Bools, Rows, overlapping};
 use std::arch::x86_64::*;
 
-/// Lists of bits of one length, whose words are told together, written once into room that is not filled first.
+/// Lists of bits of one length, whose words are computed together, written once into an
+/// uninitialized buffer.
 #[inline(always)]
 pub fn filled<const M: usize>(
     len: usize,
@@ -26,14 +27,14 @@ pub fn filled<const M: usize>(
         }
     }
     answers.map(|mut words| {
-        // SAFETY: so many words were written above
+        // SAFETY: that many words were written above
         unsafe { words.set_len(count) };
         words.push(0);
         Bits { words, offset: 0, len }
     })
 }
 
-/// What a formula says of the words of lists of one length, where `read` reads word `k` of a list.
+/// The formula for the words of lists of one length, where `read` reads word `k` of a list.
 #[inline(always)]
 fn written<const N: usize, const M: usize, S: Copy>(
     len: usize,
@@ -45,7 +46,7 @@ fn written<const N: usize, const M: usize, S: Copy>(
     filled(len, said, || said(len / 64))
 }
 
-/// Whole words where all lists begin with one, else each by two words that overlap.
+/// Whole words if all lists begin with one, else each by two words that overlap.
 #[inline(always)]
 pub fn by_words<const N: usize, const M: usize>(
     lists: [&Bits; N],
@@ -61,7 +62,7 @@ pub fn by_words<const N: usize, const M: usize>(
     }
 }
 
-/// A word, and the byte behind it.
+/// A word, and the byte after it.
 #[inline(always)]
 fn by_bytes<const N: usize, const M: usize>(
     lists: [&Bits; N],
@@ -76,7 +77,7 @@ fn by_bytes<const N: usize, const M: usize>(
     written(len, sides, read, formula)
 }
 
-/// The same where it says one thing.
+/// The same for one formula.
 #[inline(always)]
 pub fn by_word<const N: usize>(lists: [&Bits; N], formula: impl Fn([u64; N]) -> u64) -> Bits {
     let [bits] = by_words(lists, |words| [formula(words)]);
@@ -91,7 +92,7 @@ pub fn both_valid(left: &Option<Bits>, right: &Option<Bits>) -> Option<Bits> {
     }
 }
 
-/// And of two words, and which rows it is not null in.
+/// And of two words, and the rows in which it is not null.
 #[inline(always)]
 pub fn and_words(a: u64, p: u64, b: u64, q: u64) -> [u64; 2] {
     [a & b, (p & q) | (p & !a) | (q & !b)]
@@ -109,7 +110,7 @@ pub fn and((left, right): &(Bools, Bools)) -> Bools {
     }
 }
 
-/// The same, each word read with the byte behind it.
+/// The same, each word read with the byte after it.
 pub fn and_by_bytes((left, right): &(Bools, Bools)) -> Bools {
     match (&left.valid, &right.valid) {
         (Some(p), Some(q)) => {
@@ -138,7 +139,7 @@ pub fn and_by_passes((left, right): &(Bools, Bools)) -> Bools {
 #[inline(always)]
 fn two_words(words: &[u64], shift: usize, k: usize) -> __m128i {
     assert!(k + 3 <= words.len());
-    // SAFETY: three words stand there
+    // SAFETY: there are three words
     unsafe {
         let (low, high) = (words.as_ptr().add(k), words.as_ptr().add(k + 1));
         let (low, high) = (_mm_loadu_si128(low.cast()), _mm_loadu_si128(high.cast()));
@@ -147,8 +148,8 @@ fn two_words(words: &[u64], shift: usize, k: usize) -> __m128i {
     }
 }
 
-/// The words that vectors of two words answer: one more word than there are rows for is read of each list, and so many are
-/// written that the last vector is whole.
+/// The words that vectors of two words give: one more word than there are rows for is read of each
+/// list, and enough are written to fill the last vector.
 #[inline(always)]
 fn by_vectors<const N: usize, const M: usize>(
     lists: [&Bits; N],
@@ -170,7 +171,7 @@ fn by_vectors<const N: usize, const M: usize>(
         }
     }
     answers.map(|mut words| {
-        // SAFETY: so many words were written above
+        // SAFETY: that many words were written above
         unsafe { words.set_len(count) };
         words.push(0);
         Bits { words, offset: 0, len }
@@ -198,7 +199,7 @@ pub fn and_by_vectors((left, right): &(Bools, Bools)) -> Bools {
     }
 }
 
-/// The words that an iterator over whole words answers.
+/// The words of an iterator over whole words.
 fn zipped(words: impl Iterator<Item = u64>, len: usize) -> Bits {
     let count = len.div_ceil(64);
     let mut room = Vec::with_capacity(count + 1);

@@ -1,4 +1,4 @@
-//! The cases of truth values, integers and nested values: what the project's call is timed beside.
+//! The cases of truth values, integers and nested values that the project's call is compared with.
 
 use crate::arithmetic::*;
 use crate::bits;
@@ -51,7 +51,7 @@ fn bool_cases(shape: &Shape, chance: &mut Chance) -> Vec<Case> {
     ]
 }
 
-/// `<` of columns of one type, and beside a constant.
+/// `<` of columns of one type, and with a constant.
 fn less_cases<T: Number + Exported + Low>(name: &str, shape: &Shape, chance: &mut Chance, constant: T, of: fn(u64) -> T) -> Vec<Case> {
     let pair = Rc::new((chance.rows(shape, of), chance.rows(shape, of)));
     vec![
@@ -72,7 +72,7 @@ fn less_cases<T: Number + Exported + Low>(name: &str, shape: &Shape, chance: &mu
     ]
 }
 
-/// Arithmetic of columns of one type: `of` makes a number of at most the size that it is handed beside chance.
+/// Arithmetic of columns of one type: `of` makes a random number of at most the given size.
 fn arithmetic_cases<T: Number + Exported + Low>(
     name: &str, shape: &Shape, chance: &mut Chance, [term, factor]: [u64; 2], of: fn(u64, u64) -> T,
 ) -> Vec<Case> {
@@ -124,7 +124,7 @@ fn division_cases<T: Number + Exported + Low>(
     ]
 }
 
-/// The cases of one type: numbers of either sign, where the type has both.
+/// The cases of one type: numbers of either sign, if the type has both.
 macro_rules! integers {
     ($t:ident, $below:expr, $size:expr, $divisor:expr, $shape:expr, $chance:expr) => {{
         let name = stringify!($t);
@@ -191,7 +191,7 @@ fn between_cases(shape: &Shape, chance: &mut Chance) -> Vec<Case> {
     ]
 }
 
-/// Without nulls the answer is a constant, and there is nothing to time.
+/// Without nulls the result is a constant, and there is nothing to time.
 fn null_cases(shape: &Shape, chance: &mut Chance) -> Vec<Case> {
     if shape.nulls == 0 {
         return vec![];
@@ -213,7 +213,8 @@ fn null_cases(shape: &Shape, chance: &mut Chance) -> Vec<Case> {
     ]
 }
 
-/// Records of two integers, of which the first decides in three rows of four, and lists; with nulls inside where nulls are.
+/// Records of two integers, of which the first decides in three rows of four, and lists; with inner
+/// nulls where nulls are.
 fn nested_cases(shape: &Shape, chance: &mut Chance) -> Vec<Case> {
     let mut cases = vec![];
     for has_nulls in [false, true] {
@@ -236,7 +237,7 @@ fn nested_cases(shape: &Shape, chance: &mut Chance) -> Vec<Case> {
     cases
 }
 
-/// The cases by groups, each of which is made when it is asked for, by chance of its own.
+/// The cases by groups, each made when it is needed, with its own random numbers.
 pub const GROUPS: [fn(&Shape, &mut Chance) -> Vec<Case>; 17] = [
     bool_cases,
     |shape, chance| integers!(i8, 10, 120, 50, shape, chance),

@@ -1,9 +1,9 @@
-//! Columns of chance.
+//! Random columns.
 
 use crate::columns::{Bits, Bools, Rows, Texts};
 use crate::nested::{Lists, Records};
 
-/// So many rows, of which so many of a hundred are null.
+/// That many rows, of which that many of a hundred are null.
 #[derive(Clone, Copy)]
 pub struct Shape {
     pub rows: usize,
@@ -25,13 +25,13 @@ const LINES: [&str; 12] = [
     "water, deionised and filtered", "carbon black, conductive, half compressed", "indium foil, 0.25 millimetres thick",
 ];
 
-/// Texts that are not ASCII, of 6 to 24 bytes: three have École past case, two begin with é.
+/// Texts that are not ASCII, of 6 to 24 bytes: three have École ignoring case, two begin with é.
 const NAMES: [&str; 12] = [
     "École normale", "Émile Zola", "l’école du soir", "grande ÉCOLE", "Straße", "Ångström", "naïveté", "été indien",
     "café crème", "Übergröße", "señor Peña", "déjà vu",
 ];
 
-/// How long texts are: each of so many bytes, or of none to forty.
+/// How long texts are: each of that many bytes, or of none to forty.
 #[derive(Clone, Copy)]
 pub enum Width {
     Fixed(usize),
@@ -69,7 +69,7 @@ impl Chance {
         Bits { words, offset, len }
     }
 
-    /// Which rows are not null, where any can be null.
+    /// Which rows are not null, if any can be null.
     fn valid(&mut self, shape: &Shape, offset: usize) -> Option<Bits> {
         (shape.nulls > 0).then(|| self.bits(offset, shape.rows, 100 - shape.nulls))
     }
@@ -83,13 +83,14 @@ impl Chance {
         Rows { values: self.bits(offset, shape.rows, 50), valid: self.valid(shape, offset) }
     }
 
-    /// So many integers, each one of four; a tenth of them null, where some can be.
+    /// That many integers, each one of four; a tenth of them null, if some can be.
     fn few(&mut self, count: usize, has_nulls: bool) -> Rows<Vec<i64>> {
         let values = (0..count).map(|_| self.below(4) as i64).collect();
         Rows { values, valid: has_nulls.then(|| self.bits(0, count, 90)) }
     }
 
-    /// Records of two integers; the first is one of four, and null in a tenth of the rows where some can be.
+    /// Records of two integers; the first is one of four, and null in a tenth of the rows if some
+    /// can be.
     pub fn records(&mut self, shape: &Shape, has_nulls: bool) -> Records {
         let first = self.few(shape.rows, has_nulls);
         let Rows { values: second, valid } = self.rows(shape, |x| x as i64);

@@ -1,6 +1,6 @@
-//! Columns in Rust: packed bits, lists, texts as strings and as views; and the numbers that tell answers apart.
+//! Columns in Rust: packed bits, lists, texts as strings and as views; and checksums of results.
 
-/// Bits from bit `offset` on, the least significant first. One more word stands behind them.
+/// Bits from bit `offset` on, the least significant first. One more word follows them.
 #[derive(Clone)]
 pub struct Bits {
     pub words: Vec<u64>,
@@ -10,7 +10,7 @@ pub struct Bits {
 
 impl Bits {
     pub fn bytes(&self) -> &[u8] {
-        // SAFETY: eight bytes a word, on a machine that stores the lowest first
+        // SAFETY: eight bytes a word, on a little-endian machine
         unsafe { std::slice::from_raw_parts(self.words.as_ptr().cast(), 8 * self.words.len()) }
     }
 
@@ -28,13 +28,13 @@ impl Bits {
     }
 }
 
-/// 64 bits that begin within a word, by that word and the one behind it; a shift of 64 is none.
+/// 64 bits that begin within a word, from that word and the one after it; a shift of 64 is none.
 #[inline(always)]
 pub fn overlapping(words: &[u64], shift: usize, k: usize) -> u64 {
     words[k] >> shift | words[k + 1] << 1 << (63 - shift)
 }
 
-/// Values, and which rows are not null, where any can be null.
+/// Values, and which rows are not null, if any can be null.
 #[derive(Clone)]
 pub struct Rows<V> {
     pub values: V,
@@ -48,8 +48,8 @@ pub type TextViews = Rows<Views>;
 
 // ---- texts as views
 
-/// 16 bytes for a text, as Arrow's and Umbra's: its length and its first four bytes, and then the eight that follow where it
-/// has no more than twelve (zeros past its end), else where it lies in the buffer.
+/// 16 bytes for a text, as Arrow's and Umbra's: its length and its first four bytes, then the eight
+/// that follow if it has no more than twelve (zeros past its end), else its offset in the buffer.
 #[derive(Clone, Copy, PartialEq, Eq)]
 #[repr(C)]
 pub struct View {
@@ -57,14 +57,14 @@ pub struct View {
     pub tail: u64,
 }
 
-/// The most bytes that lie in the view itself.
+/// The greatest size of an inlined text.
 pub const INLINE: usize = 12;
 
-/// How many empty views stand behind those of a column.
+/// How many empty views follow those of a column.
 const BEHIND: usize = 3;
 
 impl View {
-    /// The view of a text that lies in the buffer from `offset` on, if it is long.
+    /// The view of a text at `offset` of the buffer, if it is long.
     fn of(text: &[u8], offset: usize) -> View {
         let mut first = [0; INLINE];
         let count = text.len().min(INLINE);
@@ -80,7 +80,7 @@ impl View {
         self.head as u32 as usize
     }
 
-    /// The first four bytes, the first of them highest.
+    /// The first four bytes, big-endian.
     #[inline(always)]
     pub fn prefix(self) -> u32 {
         ((self.head >> 32) as u32).swap_bytes()
@@ -90,9 +90,9 @@ impl View {
 /// Texts of one buffer.
 #[derive(Clone)]
 pub struct Views {
-    /// Empty ones stand behind them, so that vectors can be read from any byte of a text.
+    /// Empty ones follow them, so that vectors can be read from any byte of a text.
     views: Vec<View>,
-    /// 32 more bytes stand behind the texts.
+    /// 32 more bytes follow the texts.
     pub buffer: Vec<u8>,
 }
 
@@ -110,7 +110,7 @@ impl Views {
         Views { views, buffer }
     }
 
-    /// The texts at these places, over a copy of the buffer.
+    /// The texts at these indices, over a copy of the buffer.
     pub fn at(&self, places: &[u32]) -> Views {
         let mut views = Vec::with_capacity(places.len() + BEHIND);
         views.extend(places.iter().map(|place| self.views[*place as usize]));
@@ -122,7 +122,7 @@ impl Views {
         &self.views[..self.views.len() - BEHIND]
     }
 
-    /// Where the bytes of one of the texts lie.
+    /// Where the bytes of one of the texts are.
     #[inline(always)]
     pub fn start(&self, view: &View) -> *const u8 {
         if view.len() <= INLINE {
@@ -134,7 +134,7 @@ impl Views {
 
     #[inline(always)]
     pub fn bytes<'a>(&'a self, view: &'a View) -> &'a [u8] {
-        // SAFETY: the view is one of these, and its bytes lie where it says
+        // SAFETY: the view is one of these, and its bytes are where it says
         unsafe { std::slice::from_raw_parts(self.start(view), view.len()) }
     }
 }
@@ -145,7 +145,7 @@ pub fn views_of(texts: &Texts) -> TextViews {
 
 // ---- checksums, as kernels/src/checksum.rt makes them
 
-/// What the checksum of a column is made of. What lies under a null does not count.
+/// The input of a column's checksum. Values under a null do not count.
 pub trait Answer {
     fn sum(&self) -> u64;
 }
@@ -164,7 +164,7 @@ impl Answer for Bools {
     }
 }
 
-/// The 64 bits that stand for an integer.
+/// The 64 bits of an integer.
 pub trait Low: Copy {
     fn low(self) -> u64;
 }

@@ -1,4 +1,4 @@
-//! Dictionaries: values that stand once, and a code for each row.
+//! Dictionaries: distinct values, and a code for each row.
 
 use crate::columns::{Answer, Bits, Bools, Rows, TextViews, Texts, Views};
 use std::rc::Rc;
@@ -39,7 +39,7 @@ pub fn gather_views(dictionary: &Dictionary<Views>) -> TextViews {
     Rows { values: values.at(codes), valid: valid_at(&dictionary.values.valid, codes) }
 }
 
-/// Answers of the values under the same codes.
+/// Results for the values under the same codes.
 pub struct PushedDown {
     values: Bools,
     codes: Rc<Vec<u32>>,
@@ -52,7 +52,7 @@ impl Answer for PushedDown {
     }
 }
 
-/// What a kernel says of the values, the codes being shared.
+/// A kernel's result for the values, with shared codes.
 pub fn pushed<V>(dictionary: &Dictionary<V>, kernel: impl Fn(&Rows<V>) -> Bools) -> PushedDown {
     PushedDown { values: kernel(&dictionary.values), codes: dictionary.codes.clone() }
 }

@@ -62,11 +62,12 @@ pub fn less_one_wide<T: Lanes>(pair: &Pair<T>, constant: T) -> Bools {
     compared_one(pair, |l| worded(l, word, |x| *x < constant))
 }
 
-// ---- Between, both bounds among what is allowed
+// ---- Between, with inclusive bounds
 
 type Bounded = (Ints, Ints, Ints);
 
-/// The words of the answer, and of the rows in which it is not null: a row beside one null bound can be false.
+/// The words of the result, and of the rows in which it is not null: a row with one null bound can
+/// be false.
 #[inline(always)]
 fn bounded_words([under, over]: [u64; 2], [p, q, r]: [u64; 3]) -> [u64; 2] {
     [!(under | over), p & ((q & r) | (q & under) | (r & over))]
@@ -94,7 +95,8 @@ fn block<T: Copy + Default>(rows: &[T], k: usize) -> [T; 64] {
     block
 }
 
-/// One pass, where `outside` says which of 64 rows fall below their lower bounds, and which pass the upper.
+/// One pass, where `outside` is which of 64 rows are below their lower bounds, and which above the
+/// upper.
 #[inline(always)]
 fn between_in_one_pass(
     (array, lower, upper): &Bounded,
@@ -144,7 +146,7 @@ pub fn between_by_wide_vectors(sides: &Bounded) -> Bools {
     })
 }
 
-/// Without nulls, what falls outside is joined before it is narrowed.
+/// Without nulls, the results are joined before they are narrowed.
 pub fn between_by_joined_vectors(sides: &Bounded) -> Bools {
     if sides.0.valid.is_some() {
         return between_by_vectors(sides);
@@ -173,7 +175,7 @@ pub fn between_constants(sides: &Bounded) -> Bools {
     tested_ints(&sides.0, |rows| tested_word(rows, test), test)
 }
 
-/// One comparison without sign.
+/// One unsigned comparison.
 pub fn between_constants_by_span(sides: &Bounded) -> Bools {
     let (low, high) = bounds(sides);
     let span = high.wrapping_sub(low) as u32;
@@ -213,7 +215,7 @@ pub fn between_constants_by_vector_spans(sides: &Bounded) -> Bools {
 
 type Sides = (Ints, Ints, Bools);
 
-/// What the tree says of 64 rows, and which of them it is not null in.
+/// The tree's result for 64 rows, and the rows in which it is not null.
 #[inline(always)]
 fn tree_words([below, p, above, q, c, r]: [u64; 6]) -> [u64; 2] {
     let [both, valid] = and_words(below, p, above, q);

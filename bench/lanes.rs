@@ -1,15 +1,17 @@
-//! 64 integers of each width compared by vectors: a mask a vector, and the bits of the masks as a word.
+//! 64 integers of each width compared by vectors: a mask a vector, and the bits of the masks as a
+//! word.
 
 use std::arch::x86_64::*;
 
-/// Vectors of one integer type. Those without sign are compared as signed ones whose first bit is turned.
+/// Vectors of one integer type. Unsigned ones are compared as signed ones with the first bit
+/// flipped.
 pub trait Lanes: Copy + Ord + 'static {
     fn load(rows: &[Self; 64], i: usize) -> __m128i;
     fn splat(value: Self) -> __m128i;
     fn greater(left: __m128i, right: __m128i) -> __m128i;
     /// The word of masks that are narrowed to bytes before their bits are taken.
     fn narrowed(mask: impl Fn(usize) -> __m128i) -> u64;
-    /// The word of masks whose bits are taken as they are.
+    /// The word of masks whose bits are taken unchanged.
     fn masked(mask: impl Fn(usize) -> __m128i) -> u64;
     #[cfg(target_feature = "avx2")]
     fn load_wide(rows: &[Self; 64], i: usize) -> __m256i;
@@ -26,7 +28,7 @@ macro_rules! lanes {
         impl Lanes for $t {
             #[inline(always)]
             fn load(rows: &[$t; 64], i: usize) -> __m128i {
-                // SAFETY: 16 bytes stand there
+                // SAFETY: there are 16 bytes
                 unsafe { _mm_xor_si128(_mm_loadu_si128(rows.as_ptr().cast::<__m128i>().add(i)), $set($turned as _)) }
             }
             #[inline(always)]
@@ -50,7 +52,7 @@ macro_rules! lanes {
             #[cfg(target_feature = "avx2")]
             #[inline(always)]
             fn load_wide(rows: &[$t; 64], i: usize) -> __m256i {
-                // SAFETY: 32 bytes stand there
+                // SAFETY: there are 32 bytes
                 unsafe {
                     let vector = _mm256_loadu_si256(rows.as_ptr().cast::<__m256i>().add(i));
                     _mm256_xor_si256(vector, $set_wide($turned as _))
@@ -86,7 +88,7 @@ lanes!(u32, 1u32 << 31, fours, fours_masked, wide_fours, _mm_set1_epi32, _mm256_
 lanes!(i64, 0i64, eights, eights_masked, wide_eights, _mm_set1_epi64x, _mm256_set1_epi64x, _mm_cmpgt_epi64, _mm256_cmpgt_epi64);
 lanes!(u64, 1u64 << 63, eights, eights_masked, wide_eights, _mm_set1_epi64x, _mm256_set1_epi64x, _mm_cmpgt_epi64, _mm256_cmpgt_epi64);
 
-/// Bits of so many parts, the first lowest.
+/// Bits of that many parts, the first lowest.
 #[inline(always)]
 fn joined(parts: usize, width: usize, part: impl Fn(usize) -> u64) -> u64 {
     (0..parts).fold(0, |word, i| word | part(i) << (width * i))
@@ -147,7 +149,7 @@ fn wide_bytes(mask: impl Fn(usize) -> __m256i) -> u64 {
     joined(2, 32, |i| u64::from(unsafe { _mm256_movemask_epi8(mask(i)) } as u32))
 }
 
-/// The two halves of each vector are packed beside those of the other, so that quarters change places.
+/// The two halves of each vector are packed next to those of the other, so quarters are exchanged.
 #[cfg(target_feature = "avx2")]
 #[inline(always)]
 fn wide_pairs(mask: impl Fn(usize) -> __m256i) -> u64 {

@@ -1,4 +1,5 @@
-//! Forms of LIKE and ILIKE: a walk over tokens, the library's calls for what a pattern comes to, and words of bytes.
+//! Forms of LIKE and ILIKE: a walk over tokens, the library's calls for simple patterns, and words
+//! of bytes.
 
 use crate::columns::{Bits, Bools, Rows, TextViews, Texts, View, Views};
 use crate::texts::{ByteRows, eight, of_string_column, of_view_column};
@@ -8,7 +9,7 @@ use std::str::Chars;
 
 // ---- the walk over tokens
 
-/// What a pattern asks at one place: any characters, one character, or that one.
+/// What a pattern asks for at one position: any characters, one character, or that one.
 #[derive(Clone, PartialEq)]
 pub enum Token {
     Any,
@@ -30,7 +31,7 @@ fn tokens_of(pattern: &str) -> Vec<Token> {
     tokens
 }
 
-/// One walk over a text, that goes back to its last `%` alone, to try one character further on.
+/// One walk over a text that backtracks only to its last `%`, one character later each time.
 #[inline(always)]
 fn matches(tokens: &[Token], text: &str, fold: impl Fn(char) -> char) -> bool {
     let (mut ahead, mut rest) = (tokens.iter(), text.chars());
@@ -62,7 +63,8 @@ fn matches(tokens: &[Token], text: &str, fold: impl Fn(char) -> char) -> bool {
     }
 }
 
-/// A character past case. For what is not ASCII the first of its small letters, which is near to simple folding alone.
+/// A character, ignoring case. For what is not ASCII the first of its lower-case letters, which is
+/// near to simple folding.
 fn folded(c: char) -> char {
     if c.is_ascii() { c.to_ascii_lowercase() } else { c.to_lowercase().next().unwrap_or(c) }
 }
@@ -77,9 +79,9 @@ pub fn folded_by_walk(texts: &Texts, pattern: &str) -> Bools {
     of_string_column(texts, |text| matches(&tokens, text, folded))
 }
 
-// ---- what a pattern comes to
+// ---- simple patterns
 
-/// A pattern without `_` that has `%` at its ends alone, or the parts between its `%`.
+/// A pattern without `_` that has `%` only at its ends, or the parts between its `%`.
 enum Plan {
     Equal(String),
     Prefix(String),
@@ -106,7 +108,7 @@ fn literal(part: &[Token]) -> Option<String> {
     part.iter().map(|token| if let Token::Char(c) = token { Some(*c) } else { None }).collect()
 }
 
-/// A place of a part in UTF-8: a byte, or a character of any length.
+/// The position of a part in UTF-8: a byte, or a character of any length.
 #[derive(Clone, Copy)]
 enum Place {
     Byte(u8),
@@ -164,7 +166,7 @@ fn is_inner(byte: u8) -> bool {
     byte & 0xc0 == 0x80
 }
 
-/// What stands behind a part that begins the text.
+/// What follows a part that begins the text.
 #[inline(always)]
 fn after<'a>(part: &[Place], text: &'a [u8]) -> Option<&'a [u8]> {
     let mut rest = text;
@@ -183,7 +185,7 @@ fn after<'a>(part: &[Place], text: &'a [u8]) -> Option<&'a [u8]> {
     Some(rest)
 }
 
-/// What stands before a part that ends the text.
+/// What comes before a part that ends the text.
 #[inline(always)]
 fn before<'a>(part: &[Place], text: &'a [u8]) -> Option<&'a [u8]> {
     let mut rest = text;
@@ -211,7 +213,7 @@ fn as_text(bytes: &[u8]) -> &str {
     unsafe { std::str::from_utf8_unchecked(bytes) }
 }
 
-/// By `str`'s calls; the parts of what is none of these by their bytes.
+/// By `str`'s calls; other patterns by the bytes of their parts.
 pub fn by_calls<T: ByteRows>(texts: &Rows<T>, pattern: &str) -> Bools {
     let rows = &texts.values;
     let values = match Plan::of(pattern) {
@@ -227,7 +229,7 @@ pub fn by_calls<T: ByteRows>(texts: &Rows<T>, pattern: &str) -> Bools {
     Rows { values, valid: texts.valid.clone() }
 }
 
-/// ILIKE where all is ASCII, by the library's calls past case; a text that is not by the walk.
+/// ILIKE if all is ASCII, by the library's case-insensitive calls; other texts by the walk.
 pub fn folded_by_calls<T: ByteRows>(texts: &Rows<T>, pattern: &str) -> Bools {
     let small: String = pattern.chars().map(folded).collect();
     let tokens = tokens_of(&small);
@@ -250,7 +252,7 @@ pub fn folded_by_calls<T: ByteRows>(texts: &Rows<T>, pattern: &str) -> Bools {
     Rows { values, valid: texts.valid.clone() }
 }
 
-/// Whether a text begins with these characters past case.
+/// Whether a text begins with these characters, ignoring case.
 fn begins_past_case(text: &str, own: &[char]) -> bool {
     let mut chars = text.chars();
     own.iter().all(|c| chars.next().map(folded) == Some(*c))
@@ -282,13 +284,14 @@ pub fn folded_by_small<T: ByteRows>(texts: &Rows<T>, pattern: &str) -> Bools {
 
 // ---- words of bytes
 
-/// Up to eight bytes as a number, the last of them lowest, and what of a number they take.
+/// Up to eight bytes as a number, big-endian, and the mask of that number.
 fn word_of(bytes: &[u8]) -> (u64, u64) {
     let word = bytes.iter().fold(0, |word, byte| word << 8 | u64::from(*byte));
     (word, u64::MAX >> (64 - 8 * bytes.len()))
 }
 
-/// Whether a text has those bytes, the last eight bytes seen being held in a number. No byte of UTF-8 is 0xff.
+/// Whether a text contains those bytes, with the last eight bytes held in a number. No byte of
+/// UTF-8 is 0xff.
 #[inline(always)]
 fn has_word(text: &[u8], (own, mask): (u64, u64), fold: impl Fn(u8) -> u8) -> bool {
     let mut word = u64::MAX;
@@ -322,7 +325,7 @@ pub fn by_words<T: ByteRows>(texts: &Rows<T>, pattern: &str) -> Bools {
     Rows { values, valid: texts.valid.clone() }
 }
 
-/// The same past case, where all is ASCII.
+/// The same, ignoring case, if all is ASCII.
 pub fn folded_by_words<T: ByteRows>(texts: &Rows<T>, pattern: &str) -> Bools {
     let small: String = pattern.chars().map(folded).collect();
     let tokens = tokens_of(&small);
@@ -382,7 +385,7 @@ impl Test {
     }
 }
 
-/// A pattern that is one of the last `KEPT` is not taken apart again.
+/// One of the last `KEPT` patterns is not compiled again.
 pub fn by_repeated<const KEPT: usize>((texts, patterns): &(TextViews, TextViews)) -> Bools {
     let (rows, others) = (&texts.values, &patterns.values);
     let len = rows.rows().len();
@@ -407,7 +410,7 @@ pub fn by_repeated<const KEPT: usize>((texts, patterns): &(TextViews, TextViews)
 
 // ---- words of views
 
-/// Whether up to eight bytes end a text, of which eight can be read that end where it does.
+/// Whether up to eight bytes end a text; eight bytes that end with it must be readable.
 #[inline(always)]
 fn ends_view(rows: &Views, view: &View, (own, mask): (u64, u64), count: usize) -> bool {
     let len = view.len();
@@ -415,13 +418,14 @@ fn ends_view(rows: &Views, view: &View, (own, mask): (u64, u64), count: usize) -
     len >= count && unsafe { rows.start(view).add(len).sub(8).cast::<u64>().read_unaligned().swap_bytes() & mask == own }
 }
 
-/// Sixteen places at a time, by the first and the last of the bytes that are sought; then by all of them.
+/// Sixteen positions at a time, by the first and the last of the searched bytes; then by all of
+/// them.
 #[inline(always)]
 fn has_bytes(rows: &Views, view: &View, own: &[u8], bytes: [__m128i; 2], word: (u64, u64)) -> bool {
     let (len, count, start) = (view.len(), own.len(), rows.start(view));
     let mut at = 0;
     while at + count <= len {
-        // SAFETY: bytes stand behind the views and behind the buffer, so that more than a text has can be read
+        // SAFETY: bytes follow the views and the buffer, so that more than a text has can be read
         let mut hits = unsafe {
             let first = _mm_cmpeq_epi8(_mm_loadu_si128(start.add(at).cast()), bytes[0]);
             let last = _mm_cmpeq_epi8(_mm_loadu_si128(start.add(at + count - 1).cast()), bytes[1]);

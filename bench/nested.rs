@@ -9,7 +9,7 @@ type Longs = Rows<Vec<i64>>;
 /// Records of two integers, a list for each field; only the first can be null.
 pub type Records = Rows<(Longs, Vec<i64>)>;
 
-/// Lists of integers, one behind another, and where each ends.
+/// Concatenated lists of integers, and where each ends.
 pub type Lists = Rows<(Longs, Vec<usize>)>;
 
 fn compared<V>((l, r): &(Rows<V>, Rows<V>), bits: impl Fn(&V, &V) -> Bits) -> Bools {
@@ -64,7 +64,7 @@ pub fn less_by_fields(pair: &(Records, Records)) -> Bools {
     })
 }
 
-/// The standard library's comparison of the slices of each row; with nulls, of lists of what can be null.
+/// The standard library's comparison of the slices of each row; with nulls, of lists of options.
 pub fn less_by_slices(pair: &(Lists, Lists)) -> Bools {
     compared(pair, |(left, ends), (right, others)| {
         let range = |ends: &[usize], i: usize| if i == 0 { 0 } else { ends[i - 1] }..ends[i];
@@ -78,7 +78,7 @@ pub fn less_by_slices(pair: &(Lists, Lists)) -> Bools {
     })
 }
 
-/// The same of arrays, whose length is known.
+/// The same for arrays of known length.
 pub fn less_by_arrays(pair: &(Lists, Lists)) -> Bools {
     compared(pair, |(left, _), (right, _)| {
         if left.valid.is_none() {

@@ -1,11 +1,12 @@
-//! The project's exported calls, over borrowed columns. Each asks `bench_next` how often to call, and answers a checksum.
+//! The project's exported calls, over borrowed columns. Each gets the number of calls from
+//! `bench_next`, and returns a checksum.
 
 use crate::columns::{Bits, Bools, Ints, Rows, Texts};
 use crate::dictionary::Dictionary;
 use crate::nested::{Lists, Records};
 use crate::timing::columns_begin;
 
-/// The calls by the numbers that they have in kernels/measured.rt.txt.
+/// The calls by their numbers in kernels/measured.rt.txt.
 pub const AND: u32 = 0;
 pub const NOT: u32 = 1;
 pub const LESS: u32 = 2;
@@ -15,7 +16,7 @@ pub const MUL: u32 = 5;
 pub const DIV: u32 = 6;
 pub const OR: u32 = 7;
 
-/// What stands on the right of a call of bools, as there.
+/// The right side of a call of bools, as there.
 pub const COLUMN: u32 = 0;
 pub const TRUE: u32 = 1;
 pub const FALSE: u32 = 2;
@@ -107,7 +108,7 @@ pub fn deep(calls: usize) -> u64 {
     unsafe { bench_deep(calls) }
 }
 
-/// A call of bools beside a column or a constant.
+/// A call of bools with a column or a constant.
 pub fn bools((l, r): &(Bools, Bools), call: u32, constant: u32) -> u64 {
     let (lv, rv) = (bytes_of(&l.valid), bytes_of(&r.valid));
     let (lb, rb) = (l.values.bytes(), r.values.bytes());
@@ -237,12 +238,12 @@ pub fn lists((l, r): &(Lists, Lists)) -> u64 {
     }
 }
 
-/// Texts beside one pattern.
+/// Texts and one pattern.
 pub fn like(texts: &Texts, pattern: &str, case_insensitive: bool) -> u64 {
     like_patterns(texts, pattern, &[], case_insensitive)
 }
 
-/// Texts beside a column of patterns, that stand one after another.
+/// Texts and a column of concatenated patterns.
 pub fn like_repeated(texts: &Texts, patterns: &Texts) -> u64 {
     like_patterns(texts, &patterns.values.concat(), &lengths_of(patterns), false)
 }
@@ -257,8 +258,8 @@ fn like_patterns(texts: &Texts, patterns: &str, pattern_lengths: &[usize], case_
     }
 }
 
-/// What is done with a dictionary, as in kernels/dictionary.rt.txt: its rows are made, a function is run over its values, or
-/// over rows that were made before.
+/// The work with a dictionary, as in kernels/dictionary.rt.txt: its rows are made, a function is
+/// run over its values, or over rows that were made before.
 pub const DECODE: u32 = 0;
 pub const PUSH_DOWN: u32 = 1;
 pub const OVER_ROWS: u32 = 2;

@@ -106,7 +106,7 @@ fn text_between_case(shape: &Shape, chance: &mut Chance, width: Width) -> Case {
     ])
 }
 
-/// Words or lines beside one pattern; the last is a whole text.
+/// Words or lines and one pattern; the last is a whole text.
 fn like_cases_of(shape: &Shape, chance: &mut Chance, name: &str, are_long: bool) -> Vec<Case> {
     let texts = Rc::new(chance.words(shape, are_long));
     let views = Rc::new(views_of(&texts));
@@ -170,7 +170,7 @@ fn patterns_in_turn(shape: &Shape, name: &str, texts: &Rc<Texts>, whole: &str) -
     ])
 }
 
-/// A dictionary of so many values: its rows made, and a function over its values or its rows.
+/// A dictionary of that many values: its rows made, and a function over its values or its rows.
 fn int_dictionary_cases(shape: &Shape, chance: &mut Chance, count: usize) -> Vec<Case> {
     let values = chance.rows(&Shape { rows: count, ..*shape }, |x| x as i64);
     let dictionary = Rc::new(Dictionary { values, codes: Rc::new(chance.codes(shape, count)) });

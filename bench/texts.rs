@@ -38,11 +38,11 @@ pub fn less_texts_by_words(pair: &(Texts, Texts)) -> Bools {
 /// Eight bytes of a text that has them.
 #[inline(always)]
 pub fn eight(bytes: &[u8], at: usize) -> u64 {
-    // SAFETY: the callers see that `at + 8` is at most the length
+    // SAFETY: callers check that `at + 8` is at most the length
     unsafe { bytes.as_ptr().add(at).cast::<u64>().read_unaligned() }
 }
 
-/// By words of eight bytes; in place of a rest, the last eight once more.
+/// By words of eight bytes; instead of a remainder, the last eight again.
 #[inline(always)]
 pub fn are_same(left: &[u8], right: &[u8]) -> bool {
     let len = left.len();
@@ -55,7 +55,7 @@ pub fn are_same(left: &[u8], right: &[u8]) -> bool {
     (0..len / 8).all(|i| eight(left, 8 * i) == eight(right, 8 * i)) && eight(left, len - 8) == eight(right, len - 8)
 }
 
-/// The same; of words that differ, the first byte counts most.
+/// The same; of different words, the first byte counts most.
 #[inline(always)]
 pub fn order(left: &[u8], right: &[u8]) -> Ordering {
     let len = left.len().min(right.len());
@@ -84,7 +84,8 @@ pub fn of_view_column(texts: &TextViews, test: impl Fn(&View) -> bool) -> Bools 
     Rows { values: tested(texts.values.rows(), test), valid: texts.valid.clone() }
 }
 
-/// Whether texts of two columns are the same: by length and first four bytes, and then by what `tails` says of the rest.
+/// Whether texts of two columns are the same: by length and first four bytes, then by `tails` for
+/// the rest.
 #[inline(always)]
 fn same_views(columns: [&Views; 2], [x, y]: [&View; 2], same: impl Fn(&[u8], &[u8]) -> bool) -> bool {
     if x.head != y.head {
@@ -93,7 +94,7 @@ fn same_views(columns: [&Views; 2], [x, y]: [&View; 2], same: impl Fn(&[u8], &[u
     if x.len() <= INLINE { x.tail == y.tail } else { same(columns[0].bytes(x), columns[1].bytes(y)) }
 }
 
-/// By the first four bytes; then, where both lie in their views, by the other eight and the lengths.
+/// By the first four bytes; then, if both are inlined, by the other eight and the lengths.
 #[inline(always)]
 fn order_views(columns: [&Views; 2], [x, y]: [&View; 2], order: impl Fn(&[u8], &[u8]) -> Ordering) -> Ordering {
     let (first, other) = (x.prefix(), y.prefix());
@@ -107,7 +108,7 @@ fn order_views(columns: [&Views; 2], [x, y]: [&View; 2], order: impl Fn(&[u8], &
     order(columns[0].bytes(x), columns[1].bytes(y))
 }
 
-/// The 16 bytes of a text that lies in its view, as one number that orders it; without a branch.
+/// The 16 bytes of an inlined text, as one number with its order; without a branch.
 #[inline(always)]
 fn key(view: &View) -> u128 {
     u128::from(view.prefix()) << 96 | u128::from(view.tail.swap_bytes()) << 32 | view.len() as u128
@@ -152,7 +153,7 @@ pub fn equal_one_view(texts: &TextViews, constant: &str) -> Bools {
     of_view_column(texts, |x| same_views(columns, [x, own], are_same))
 }
 
-/// Both words of the view at once, where the constant lies in its view.
+/// Both words of the view at once, if the constant is inlined.
 pub fn equal_one_view_at_once(texts: &TextViews, constant: &str) -> Bools {
     if constant.len() > INLINE {
         return equal_one_view(texts, constant);
@@ -192,8 +193,8 @@ pub fn between_views_by_words(texts: &TextViews, lower: &str, upper: &str) -> Bo
 
 // ---- views by vectors
 
-/// How two long texts compare whose first four bytes are the same: the first of 16 bytes that differs tells. So many bytes
-/// stand behind each buffer that more than a text has can be read.
+/// How two long texts compare whose first four bytes are the same: the first different one of 16
+/// bytes decides. Enough bytes follow each buffer to read past a text.
 #[inline(always)]
 fn order_tails(columns: [&Views; 2], [x, y]: [&View; 2]) -> Ordering {
     let len = x.len().min(y.len());
@@ -213,7 +214,7 @@ fn order_tails(columns: [&Views; 2], [x, y]: [&View; 2]) -> Ordering {
     x.len().cmp(&y.len())
 }
 
-/// By the first four bytes, then by the other eight where both lie in their views, else by vectors.
+/// By the first four bytes, then by the other eight if both are inlined, else by vectors.
 #[inline(always)]
 fn order_by_vectors(columns: [&Views; 2], [x, y]: [&View; 2]) -> Ordering {
     let (first, other) = (x.prefix(), y.prefix());
@@ -261,7 +262,7 @@ pub fn between_views_by_vectors(texts: &TextViews, lower: &str, upper: &str) -> 
 
 // ---- rows of bytes, of either kind of column
 
-/// What a test says of the bytes of each row.
+/// A test's result for the bytes of each row.
 pub trait ByteRows {
     fn told(&self, test: impl Fn(&[u8]) -> bool) -> Bits;
 }

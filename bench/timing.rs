@@ -12,7 +12,7 @@ unsafe extern "C" {
     fn clock_gettime(clock: i32, time: *mut Time) -> i32;
 }
 
-/// What a clock of the C library tells.
+/// A clock of the C library.
 #[repr(C)]
 #[derive(Default)]
 struct Time {
@@ -20,10 +20,10 @@ struct Time {
     nanoseconds: i64,
 }
 
-/// The clock of the processor time of the thread that asks, on Linux.
+/// The clock of the calling thread's processor time, on Linux.
 const THREAD_TIME: i32 = 3;
 
-/// The processor time that this thread has taken: what others take meanwhile does not count.
+/// The processor time of this thread: what others take meanwhile does not count.
 fn thread_time() -> Duration {
     let mut time = Time::default();
     // SAFETY: it writes one time there
@@ -31,7 +31,7 @@ fn thread_time() -> Duration {
     Duration::new(time.seconds as u64, time.nanoseconds as u32)
 }
 
-/// What the C library tells of its memory, in its order.
+/// The C library's memory statistics, in its order.
 #[repr(C)]
 struct Allocated {
     _arena: [usize; 4],
@@ -41,9 +41,9 @@ struct Allocated {
     _kept: [usize; 2],
 }
 
-/// How many bytes were asked for and not given back.
+/// How many bytes were allocated and not freed.
 fn bytes_in_use() -> usize {
-    // SAFETY: it takes nothing, and answers by value
+    // SAFETY: it takes nothing, and returns by value
     let told = unsafe { mallinfo2() };
     told.in_use + told.mapped
 }
@@ -53,12 +53,12 @@ thread_local! {
     static HELD: Cell<Option<usize>> = const { Cell::new(None) };
 }
 
-/// What is taken from now on, until the first call is timed, are the project's columns.
+/// Allocations from now on, until the first call is timed, are the project's columns.
 pub fn columns_begin() {
     BEFORE.set(Some(bytes_in_use()));
 }
 
-/// One way to do it in Rust, over columns that are there.
+/// One way to do it in Rust, over existing columns.
 pub struct Form {
     pub name: &'static str,
     calls: Box<dyn Fn(usize)>,
@@ -75,8 +75,8 @@ pub fn form<I: 'static, A: Answer>(name: &'static str, input: &Rc<I>, kernel: im
     Form { name, calls: Box::new(calls), sum: Box::new(move || again().sum()) }
 }
 
-/// The project's call, which makes its columns, makes the call as often as `bench_next` asks for, and answers a checksum; and
-/// the forms in Rust.
+/// The project's call, which makes its columns, makes the call as often as `bench_next` asks for,
+/// and returns a checksum; and the forms in Rust.
 pub struct Case {
     pub name: String,
     pub ours: Box<dyn Fn() -> u64>,
@@ -84,7 +84,7 @@ pub struct Case {
 }
 
 impl Case {
-    /// Whether all forms answer the same; which.
+    /// Whether all forms agree, and which do not.
     pub fn sum(&self) -> u64 {
         let sums: Vec<u64> = self.forms.iter().map(|form| (form.sum)()).collect();
         for (form, sum) in self.forms.iter().zip(&sums) {
@@ -97,7 +97,7 @@ impl Case {
 /// Calls that are long enough for a good measure, and short enough to find the processor idle.
 const LONG_ENOUGH: Duration = Duration::from_millis(3);
 
-/// How many calls a turn makes, and what one call took in each turn that counts.
+/// How many calls a turn makes, and the time of one call in each turn that counts.
 struct Series {
     repeat: usize,
     times: Vec<f64>,
@@ -106,7 +106,7 @@ struct Series {
 impl Series {
     const NONE: Series = Series { repeat: 1, times: Vec::new() };
 
-    /// Whether there were enough calls for their time to count; if not, turns are to make twice as many.
+    /// Whether there were enough calls for their time to count; if not, turns make twice as many.
     fn counts(&mut self, time: Duration) -> bool {
         let is_enough = time >= LONG_ENOUGH;
         if is_enough {
@@ -119,7 +119,7 @@ impl Series {
     }
 }
 
-/// The least quarter, the middle and the greatest quarter of what was seen.
+/// The lower quartile, the median and the upper quartile of the samples.
 #[derive(Clone, Copy)]
 pub struct Quartiles {
     pub low: f64,
@@ -136,7 +136,7 @@ impl Quartiles {
     }
 }
 
-/// The sides take turns: the project's calls, and then those of each form.
+/// The sides take turns: the project's calls, then those of each form.
 struct Turns {
     forms: Vec<Form>,
     rounds_left: usize,
@@ -162,7 +162,7 @@ impl Turns {
         }
     }
 
-    /// What the project's calls took that ended now, and how many it is to make next.
+    /// The time of the project's calls that ended now, and how many it makes next.
     fn next(&mut self, now: Duration) -> usize {
         if let Some(began) = self.began.take()
             && self.ours.counts(now - began)
@@ -178,7 +178,7 @@ thread_local! {
     static COUNTED: Cell<Option<usize>> = const { Cell::new(None) };
 }
 
-/// So many calls of one side, for a tool that counts their instructions.
+/// That many calls of one side, for a tool that counts their instructions.
 pub fn counted(case: Case, form: Option<usize>, calls: usize) {
     match form {
         Some(at) => (case.forms[at].calls)(calls),
@@ -189,8 +189,8 @@ pub fn counted(case: Case, form: Option<usize>, calls: usize) {
     }
 }
 
-/// The project's side asks between its calls how many to make next; none ends it. So its columns are made once, and no clock
-/// runs while they are made.
+/// The project's side asks between its calls how many to make next; none ends it. So its columns
+/// are made once, and not timed.
 #[unsafe(no_mangle)]
 extern "C" fn bench_next() -> usize {
     let now = thread_time();
@@ -209,8 +209,9 @@ extern "C" fn bench_next() -> usize {
     })
 }
 
-/// The project's time over that of the best form in the turns of one round each, which form that is, and the median time of
-/// each form over that of the best; how many bytes its columns hold, where that was asked for.
+/// The project's time over that of the best form in the turns of one round each, which form that
+/// is, and the median time of each form over that of the best; how many bytes its columns hold, if
+/// that was requested.
 pub struct Seen {
     pub held: Option<usize>,
     pub ratio: Quartiles,
@@ -222,7 +223,8 @@ pub struct Seen {
 }
 
 pub fn measured(case: Case, rounds: usize) -> Seen {
-    // memory that earlier cases freed is joined, so that the project's texts lie as they would in a new process
+    // memory that earlier cases freed is joined, so that the project's texts are placed as in a new
+    // process
     unsafe { malloc_trim(0) };
     let sum = case.sum();
     let rust = case.forms.iter().map(|_| Series::NONE).collect();
@@ -240,14 +242,15 @@ fn seen(turns: Turns) -> Seen {
     for (_, time) in &mut forms {
         *time /= least;
     }
-    // the last turns of both sides are pairs: where a side began anew with more calls, its earlier ones are gone
+    // the last turns of both sides are pairs: a side that began again with more calls has lost its
+    // earlier ones
     let pairs = turns.ours.times.iter().rev().zip(turns.rust[at].times.iter().rev());
     let ratio = Quartiles::of(pairs.map(|(ours, rust)| ours / rust));
     let ours = Quartiles::of(turns.ours.times.iter().copied()).median;
     Seen { held: HELD.take(), ratio, ours, rust: least, best, forms }
 }
 
-/// The forms alone: the time of each over that of the best.
+/// Only the forms: the time of each over that of the best.
 pub fn forms_alone(case: Case, rounds: usize) -> Seen {
     case.sum();
     let rust = case.forms.iter().map(|_| Series::NONE).collect();

@@ -1,4 +1,4 @@
-//! Answers of 64 rows as a word: by a product, and by vectors of x86-64-v2.
+//! Results of 64 rows as a word: by a product, and by vectors of x86-64-v2.
 
 use crate::columns::Bits;
 use std::arch::x86_64::*;
@@ -14,7 +14,7 @@ pub fn packed(told: &[bool; 64]) -> u64 {
     word
 }
 
-/// Bits of whole words, and of the rows behind them.
+/// Bits of whole words, and of the remaining rows.
 #[inline(always)]
 fn bits_of(words: impl ExactSizeIterator<Item = u64>, rest: impl Iterator<Item = bool>, len: usize) -> Bits {
     let mut room = Vec::with_capacity(words.len() + 2);
@@ -24,14 +24,14 @@ fn bits_of(words: impl ExactSizeIterator<Item = u64>, rest: impl Iterator<Item =
     Bits { words: room, offset: 0, len }
 }
 
-/// One list: what `word` says of 64 rows, and `test` of a row of the rest.
+/// One list: `word` for 64 rows, and `test` for a remaining row.
 #[inline(always)]
 pub fn worded<T>(rows: &[T], word: impl Fn(&[T; 64]) -> u64, test: impl Fn(&T) -> bool) -> Bits {
     let (blocks, rest) = rows.as_chunks::<64>();
     bits_of(blocks.iter().map(word), rest.iter().map(test), rows.len())
 }
 
-/// The same of two lists.
+/// The same for two lists.
 #[inline(always)]
 pub fn worded_pairs<T>(
     left: &[T],
@@ -44,7 +44,7 @@ pub fn worded_pairs<T>(
     bits_of(words, rest.iter().zip(other).map(|(l, r)| test(l, r)), left.len())
 }
 
-/// What a test says of each row, packed by the product.
+/// A test's result for each row, packed by the product.
 #[inline(always)]
 pub fn tested<T>(rows: &[T], test: impl Fn(&T) -> bool) -> Bits {
     worded(rows, |rows| tested_word(rows, &test), &test)
@@ -59,7 +59,7 @@ pub fn tested_word<T>(rows: &[T; 64], test: impl Fn(&T) -> bool) -> u64 {
     packed(&told)
 }
 
-/// The same of each pair.
+/// The same for each pair.
 #[inline(always)]
 pub fn tested_pairs<T>(left: &[T], right: &[T], test: impl Fn(&T, &T) -> bool) -> Bits {
     let word = |left: &[T; 64], right: &[T; 64]| {
@@ -99,7 +99,7 @@ pub fn or_four(left: __m128i, right: __m128i) -> __m128i {
     unsafe { _mm_or_si128(left, right) }
 }
 
-/// Whether `left - low`, as a number without sign, is at most the span.
+/// Whether `left - low`, unsigned, is at most the span.
 #[inline(always)]
 pub fn within_four(rows: __m128i, low: __m128i, span: __m128i) -> __m128i {
     // SAFETY: SSE 4.1

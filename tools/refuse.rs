@@ -1,9 +1,10 @@
-//! Memory that is refused: a library that is loaded before a program (`LD_PRELOAD`), and stands before the C library's malloc and
-//! realloc, the two calls by which programs of this repository take memory. Allocations are counted from 1, in the order
-//! in which they are asked for.
+//! Failing allocations: a library that is loaded before a program (`LD_PRELOAD`) and wraps the C
+//! library's malloc and realloc, the two calls by which programs of this repository allocate.
+//! Allocations are counted from 1, in the order of the calls.
 //!
-//! Three numbers in the environment say what is refused: `REFUSE_FIRST` and `REFUSE_LAST`, the first allocation that is and
-//! the last, and `REFUSE_TOLD`, a file's number, on which a byte is written at each refusal.
+//! Three numbers in the environment control it: `REFUSE_FIRST` and `REFUSE_LAST`, the first and the
+//! last allocation that fails, and `REFUSE_TOLD`, the number of a file to which a byte is written
+//! at each failure.
 #![no_std]
 
 use core::ffi::{CStr, c_char, c_int, c_void};
@@ -21,16 +22,16 @@ unsafe extern "C" {
 
 static ASKED: AtomicU64 = AtomicU64::new(0);
 
-/// The number of that name; 0 where there is none.
+/// The number of that name; 0 if there is none.
 fn number(name: &CStr) -> u64 {
-    // SAFETY: the name ends with a zero byte, and so does what the environment holds.
+    // SAFETY: the name ends with a zero byte, and so do the values of the environment.
     unsafe {
         let text = getenv(name.as_ptr());
         if text.is_null() { 0 } else { strtoull(text, null_mut(), 10) }
     }
 }
 
-/// Counts one more allocation, and tells whether it is refused.
+/// Counts one more allocation, and returns whether it fails.
 fn is_refused() -> bool {
     let asked = ASKED.fetch_add(1, Ordering::Relaxed) + 1;
     let refused = number(c"REFUSE_FIRST") <= asked && asked <= number(c"REFUSE_LAST");

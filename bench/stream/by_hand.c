@@ -1,7 +1,8 @@
-/* What C by hand takes for the work of `run`: rows of `i64?,i64?,utf8` in CSV from standard input, and for each of them whether
-   `a + b < 100 and s like '%nitr%'`, to standard output. Like the program that it is timed beside it reads fields in quotes,
-   tells an empty field from an empty text, and ends with 1 where a row has another width, a number does not fit or overflows, a
-   quote is not closed, or a text is no UTF-8. It knows its columns and its expression. */
+/* Hand-written C for the work of `run`: rows of `i64?,i64?,utf8` in CSV from standard input, and
+   for each of them whether `a + b < 100 and s like '%nitr%'`, to standard output. Like the
+   program that it is compared with it reads fields in quotes, distinguishes an empty field from
+   an empty text, and ends with 1 if a row has another width, a number does not fit or overflows,
+   a quote is not closed, or a text is no UTF-8. It knows its columns and its expression. */
 #define _GNU_SOURCE
 #include <stdint.h>
 #include <stdlib.h>
@@ -10,7 +11,7 @@
 
 enum { READ = 1 << 16, WRITTEN = 1 << 16 };
 
-static unsigned char *kept;            /* what was read and is not answered yet: `length` of `room` bytes */
+static unsigned char *kept;            /* bytes read and not processed yet: `length` of `room` */
 static size_t length, room;
 static char out[WRITTEN + 64];
 static size_t filled;
@@ -30,7 +31,7 @@ static void put(const char *text, size_t n) {
     if (filled >= WRITTEN) flush();
 }
 
-/* whole numbers in decimal digits; eight at a time where so many are there */
+/* whole numbers in decimal digits; eight at a time if there are so many */
 static int number(const unsigned char *p, size_t n, int64_t *value) {
     int minus = n && *p == '-';
     p += minus;
@@ -78,8 +79,8 @@ static int is_text(const unsigned char *p, size_t n) {
 
 struct field { unsigned char *start; size_t n; int quoted, doubled; };
 
-/* One record from a place on: its three fields. Answers the place behind it; nothing where it is not whole yet; ends the program
-   where it is no row. */
+/* One record from a position on: its three fields. Returns the position after it, or NULL if it
+   is incomplete; ends the program if it is no row. */
 static unsigned char *record(unsigned char *p, unsigned char *end, int ended, struct field f[3]) {
     for (int k = 0;; k++) {
         if (k == 3) exit(1);
@@ -104,7 +105,7 @@ static unsigned char *record(unsigned char *p, unsigned char *end, int ended, st
     }
 }
 
-/* Of two quotes that stand for one the second is taken off, in place. */
+/* Removes the second of two quotes that are one, in place. */
 static void undouble(struct field *f) {
     unsigned char *to = f->start;
     for (size_t i = 0; i < f->n; i++) {

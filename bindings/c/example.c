@@ -1,4 +1,5 @@
-/* A scan filter: the expression is read once, and run over batches that are borrowed where they lie. Compiles as C11 and as C++17:
+/* A scan filter: the expression is read once, and run over borrowed batches. Compiles as C11 and
+ * as C++17:
  *     cc example.c $(pkg-config --cflags --libs yurkije) -Wl,-rpath,$(pkg-config --variable=libdir yurkije) -o example && ./example
  * prints
  *     worth of row 0: 21
@@ -22,7 +23,7 @@ static struct yk_field field(const char *name, uint32_t kind, bool nullable) {
     return made;
 }
 
-/* Prints the answer `worth`: the caller makes room, and the library copies into it. */
+/* Prints the answer `worth`: the caller allocates, and the library copies. */
 static uint32_t print_worth(struct yk_answers *answers) {
     int64_t values[3];
     uint8_t validity[1];
@@ -61,7 +62,7 @@ int main(void) {
                          "bit";
     uint8_t stocks_valid[] = {0x5}; /* rows 0 and 2 are not null */
 
-    /* Handles are zeroed; the message has room of the caller's. */
+    /* Handles are zeroed; the caller owns the message buffer. */
     char message[200];
     struct yk_error error;
     struct yk_expression expression;
@@ -105,7 +106,7 @@ int main(void) {
     if (!status)
         status = print_chosen(&answers);
 
-    /* What was filled is freed, refused or not. */
+    /* Everything filled is freed, also after an error. */
     yk_answers_free(&answers);
     yk_expression_free(&expression);
     return status != YK_OK;

@@ -40,7 +40,7 @@ const struct layout *yk_layout_of_kind(uint32_t kind) {
     return NULL;
 }
 
-/* The name of a format that is not taken: the longest beginning that stands here. */
+/* The name of an unsupported format: the longest prefix that is listed here. */
 static const char *format_name(const char *format) {
     static const char *const names[][2] = {
         {"n", "null"},
@@ -78,7 +78,7 @@ void yk_reset(struct yk_error *error) {
     error->message = message;
 }
 
-/* Tells a refusal in words: as many whole characters as there is room for. */
+/* Writes the words of an error: as many whole characters as fit. */
 uint32_t yk_refuse(struct yk_error *error, uint32_t status, size_t column, const char *words, ...) {
     char text[400];
     va_list arguments;
@@ -103,7 +103,8 @@ uint32_t yk_refuse(struct yk_error *error, uint32_t status, size_t column, const
 
 uint32_t yk_refuse_memory(struct yk_error *error) { return yk_refuse(error, YK_OUT_OF_MEMORY, YK_NONE, "out of memory"); }
 
-/* Where a message tells that row: at its start, or else behind the name of a column, which may say anything. */
+/* Where a message names that row: at its start, or else after the name of a column, which may
+ * contain anything. */
 static char *find_row(char *words, const char *row) {
     size_t length = strlen(row);
     char *found = strncmp(words, row, length) == 0 ? words : NULL;
@@ -153,7 +154,7 @@ size_t yk_arrow_buffer_count(const struct ArrowSchema *schema, const struct Arro
     return (size_t)(array->n_buffers - 3);
 }
 
-/* What is wrong with an array before any buffer is looked into, or NULL. */
+/* What is wrong with an array, without reading any buffer, or NULL. */
 static const char *fault_of(const struct layout *layout, const struct ArrowArray *array) {
     if (array->length < 0 || array->offset < 0 || array->offset > INT64_MAX / 64 - array->length)
         return "its length or offset is out of range";
@@ -172,14 +173,14 @@ static const char *fault_of(const struct layout *layout, const struct ArrowArray
     return NULL;
 }
 
-/* The bytes that offsets name: up to the last one, which what is proved checks again. */
+/* The bytes that offsets refer to: up to the last one, which proved code checks again. */
 static struct yk_bytes data_up_to(const void *at, int64_t last) {
     if (!at || last <= 0)
         return (struct yk_bytes){NULL, 0};
     return (struct yk_bytes){at, (size_t)last};
 }
 
-/* Sets the buffers of texts by offsets. Of no rows the offsets may be missing. */
+/* Sets the buffers of texts by offsets. Without rows the offsets may be missing. */
 static void set_texts(const struct layout *layout, const struct ArrowArray *array, struct yk_column *column) {
     size_t end = column->offset + column->rows;
     if (column->rows == 0)
@@ -195,7 +196,7 @@ static void set_texts(const struct layout *layout, const struct ArrowArray *arra
     }
 }
 
-/* Sets the views and their buffers, whose lengths stand in the last one. */
+/* Sets the views and their buffers, whose lengths are in the last one. */
 static void set_views(const struct ArrowArray *array, struct yk_bytes *buffers, struct yk_column *column) {
     size_t count = (size_t)(array->n_buffers - 3);
     const int64_t *lengths = array->buffers[array->n_buffers - 1];
@@ -292,7 +293,8 @@ uint32_t yk_check_batch(const struct ArrowSchema *schema, const struct ArrowArra
 
 static bool is_word(char c) { return (c >= 'a' && c <= 'z') || (c >= 'A' && c <= 'Z') || (c >= '0' && c <= '9') || c == '_'; }
 
-/* Where the token at a place ends: a text or a name in quotes, a comment, a word, or one byte. */
+/* The end of the token at a position: a text or a name in quotes, a comment, a word, or one
+ * byte. */
 static size_t token_end(struct yk_text text, size_t at) {
     char first = text.at[at++];
     if (first == '\'' || first == '"') {
@@ -310,14 +312,14 @@ static size_t token_end(struct yk_text text, size_t at) {
     return at;
 }
 
-/* Whether the token at a place is that name, bare or in double quotes. */
+/* Whether the token at a position is that name, bare or in double quotes. */
 static bool is_name_at(struct yk_text text, size_t at, const char *name) {
     size_t end = token_end(text, at), quotes = text.at[at] == '"';
     size_t length = strlen(name);
     return end - at == length + 2 * quotes && memcmp(text.at + at + quotes, name, length) == 0;
 }
 
-/* Whether a text may read the column of that name. One with a quote in it always may. */
+/* Whether a text may read the column of that name. Always true for a name with a quote. */
 static bool is_named(struct yk_text text, const char *name) {
     if (strchr(name, '"'))
         return true;
@@ -327,7 +329,7 @@ static bool is_named(struct yk_text text, const char *name) {
     return false;
 }
 
-/* The fields of the columns that are of a format that is taken: all, or those that the text names. */
+/* The fields of the columns with a supported format: all, or those that the text names. */
 static size_t collect_fields(const struct ArrowSchema *schema, struct yk_text text, bool all, struct yk_field *fields) {
     struct yk_error unheard = {0};
     size_t count = 0;
@@ -339,7 +341,7 @@ static size_t collect_fields(const struct ArrowSchema *schema, struct yk_text te
     return count;
 }
 
-/* Refuses the column at the byte that was told, if it is there and of a format that is not taken. */
+/* Reports the column at the reported byte, if it exists and has an unsupported format. */
 static uint32_t refuse_untaken(const struct ArrowSchema *schema, struct yk_text text, struct yk_error *error) {
     struct yk_error told = *error;
     for (int64_t i = 0; i < schema->n_children; i++) {
@@ -352,7 +354,7 @@ static uint32_t refuse_untaken(const struct ArrowSchema *schema, struct yk_text 
     return YK_OK;
 }
 
-/* An expression over few columns is read again over all, so that what is told knows their names. */
+/* An expression over few columns is read again over all, so that the message knows their names. */
 uint32_t yk_arrow_expression_new(
     const char *text, size_t length, const struct ArrowSchema *schema, struct yk_expression *expression, struct yk_error *error) {
     struct yk_text words = {text, length};

@@ -18,7 +18,8 @@ static void release_schema(struct ArrowSchema *schema) {
     schema->release = NULL;
 }
 
-/* The name of an answer, which ends with a NUL and is the caller's; NULL where memory is refused. */
+/* The name of an answer, which ends with a NUL and belongs to the caller; NULL if an allocation
+ * fails. */
 static char *name_of_answer(struct yk_expression *expression, size_t answer) {
     char none[1];
     size_t length = 0;
@@ -49,7 +50,7 @@ static uint32_t fill_child(struct yk_expression *expression, size_t answer, stru
     return YK_OK;
 }
 
-/* Room for the children of a struct, zeroed. */
+/* Space for the children of a struct, zeroed. */
 static void *zeroed(size_t count, size_t size) {
     void *at = malloc(count * size + 1);
     if (at)
@@ -81,8 +82,8 @@ uint32_t yk_arrow_schema(struct yk_expression *expression, struct ArrowSchema *o
 
 /* Arrays */
 
-/* The buffers of one answer, of all its rows; `buffers` is what Arrow reads. Arrays that share them are
- * counted. */
+/* The buffers of one answer, of all its rows; `buffers` is what Arrow reads. Counts the arrays that
+ * share them. */
 struct held {
     atomic_size_t users;
     const void *buffers[3];
@@ -114,10 +115,10 @@ static void release_array(struct ArrowArray *array) {
     array->release = NULL;
 }
 
-/* Where the buffers of the struct itself lie: it has one, of validity, and no row of it is null. */
+/* The buffers of the struct itself: one, of validity, and none of its rows is null. */
 static const void *no_validity[1] = {NULL};
 
-/* Sets the buffers of an answer apart. False where memory is refused. */
+/* Allocates the buffers of an answer. False if an allocation fails. */
 static bool make_held(uint32_t kind, size_t rows, struct ArrowArray *array) {
     struct held *held = rows < SIZE_MAX / 32 ? zeroed(1, sizeof *held) : NULL;
     if (!held)
@@ -133,7 +134,7 @@ static bool make_held(uint32_t kind, size_t rows, struct ArrowArray *array) {
     return held->validity && held->values;
 }
 
-/* Makes room for so many bytes more. */
+/* Makes room for that many more bytes. */
 static bool grow(struct held *held, size_t more) {
     if (more <= held->data_room - held->data_length && held->data)
         return true;
@@ -146,7 +147,7 @@ static bool grow(struct held *held, size_t more) {
     return true;
 }
 
-/* The rooms of a batch that begins at that row, in the buffers of all rows. */
+/* The output buffers of a batch that begins at that row, within the buffers of all rows. */
 static struct yk_room room_at(struct held *held, uint32_t kind, size_t start, const struct yk_size *size) {
     struct yk_room room = {.kind = kind};
     uint8_t *values = held->values + (held->layout->width ? start * held->layout->width : start / 8);
@@ -168,13 +169,13 @@ static struct yk_room room_at(struct held *held, uint32_t kind, size_t start, co
     return room;
 }
 
-/* Puts the offsets of a batch behind those before it. */
+/* Appends the offsets of a batch to the earlier ones. */
 static void shift_offsets(struct yk_room *room, size_t by) {
     for (size_t i = 0; i < room->offsets32.length; i++)
         room->offsets32.at[i] += (int32_t)by;
 }
 
-/* Copies the answer of a batch behind those of the batches before it. */
+/* Appends the answer of a batch to those of earlier batches. */
 static uint32_t append(struct yk_answers *answers, size_t answer, uint32_t kind, size_t start, struct ArrowArray *array) {
     struct held *held = array->private_data;
     struct yk_size size = {0};
@@ -194,7 +195,7 @@ static uint32_t append(struct yk_answers *answers, size_t answer, uint32_t kind,
     return YK_OK;
 }
 
-/* Bits behind the rows, which are there and say nothing, count as set. */
+/* Bits after the rows, which exist and are arbitrary, count as set. */
 static int64_t count_nulls(const uint8_t *bits, size_t rows) {
     int64_t nulls = 0;
     for (size_t start = 0; start < rows; start += 64) {
@@ -207,7 +208,7 @@ static int64_t count_nulls(const uint8_t *bits, size_t rows) {
     return nulls;
 }
 
-/* Shows the buffers, the validity only where a row is null. */
+/* Sets the buffers for Arrow, the validity only if a row is null. */
 static void finish(struct ArrowArray *array) {
     struct held *held = array->private_data;
     array->null_count = count_nulls(held->validity, (size_t)array->length);
@@ -224,14 +225,15 @@ static struct yk_column slice(const struct yk_column *column, size_t start, size
     return part;
 }
 
-/* The columns from that row on, so many rows of each. */
+/* The columns from that row on, with that many rows. */
 static const struct yk_column *cut(const struct yk_column *columns, struct yk_column *parts, size_t count, size_t start, size_t rows) {
     for (size_t i = 0; i < count; i++)
         parts[i] = slice(&columns[i], start, rows);
     return parts;
 }
 
-/* Whether an answer is run as another tree than was read, or may be: memory to tell was refused. */
+/* Whether the tree of an answer that is run differs from the one that was read, or may: memory
+ * to know ran out. */
 static bool is_rewritten(struct yk_expression *expression) {
     size_t count = 0, length = 0, other = 0;
     bool same = yk_answer_count(expression, &count) == YK_OK;
@@ -247,9 +249,10 @@ static bool is_rewritten(struct yk_expression *expression) {
     return !same;
 }
 
-/* Runs a batch of columns whose rows begin there. What refuses it is told as a run of all rows tells it: a column that is wrong before a
- * row that faults, the first of either. So a row is told where no rule can have dropped a fault before it and the rest of the columns is
- * read; else all rows are run, which goes from row to row. */
+/* Runs a batch of columns whose rows begin there. Errors are those of a run of all rows: a
+ * column that is wrong before a row that faults, the first of either. So a row is reported if no
+ * rule can have dropped a fault before it and the rest of the columns is read; else all rows are
+ * run, row by row. */
 static uint32_t run_batch(struct yk_expression *expression, const struct yk_column *columns, struct yk_column *parts, size_t count,
     size_t rows, size_t start, size_t part, struct yk_answers *answers, struct yk_error *error) {
     struct yk_error ignored = {0};
@@ -275,8 +278,9 @@ static bool can_cut(const struct yk_column *columns, size_t count, size_t rows) 
     return true;
 }
 
-/* Room in the heap for what a batch copies, below a block that stays: what is freed behind each batch then never lies at the heap's end,
- * where the C library would give it back to the system, only to fetch it again for the next. NULL, where memory is refused, is no fault. */
+/* Heap space for a batch's copies, below a block that stays: memory freed after each batch is
+ * then never at the heap's end, where the C library would return it to the system, only to fetch
+ * it again for the next. NULL, after a failed allocation, is no error. */
 static void *make_hole(size_t columns) {
     void *blocks[12];
     size_t made = 0, wanted = columns + 2 < 12 ? columns + 2 : 12;
@@ -325,7 +329,7 @@ static uint32_t append_all(void *to, struct yk_answers *answers, size_t start, s
     return status;
 }
 
-/* Makes the children of a struct array of so many rows, with no values yet. */
+/* Makes the children of a struct array of that many rows, with no values yet. */
 static uint32_t make_children(struct yk_expression *expression, size_t count, size_t rows, struct collected *collected) {
     struct ArrowArray *out = collected->array;
     for (size_t i = 0; i < count; i++) {

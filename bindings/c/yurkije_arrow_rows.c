@@ -7,7 +7,7 @@
 #include <immintrin.h>
 #endif
 
-/* The rows of a batch that are true and not null, a bit each. Those behind the rows are not set. */
+/* The rows of a batch that are true and not null, a bit each. Bits after the rows are not set. */
 struct chosen {
     uint64_t words[YK_ARROW_BATCH / 64];
 };
@@ -25,7 +25,7 @@ static uint32_t choose(struct yk_answers *answers, size_t answer, size_t rows, s
     return status;
 }
 
-/* Where the numbers of a batch go, and how many there are so far. */
+/* The output for the numbers of a batch, and how many there are so far. */
 struct selection {
     size_t answer;
     uint64_t *numbers;

@@ -1,5 +1,5 @@
-/* Batches and streams of Arrow. Every function pointer of a stream stands here, in C: the library neither
- * calls nor is called through one. */
+/* Batches and streams of Arrow. All function pointers of streams are here, in C: the library
+ * neither calls nor is called through one. */
 #include "yurkije_arrow_shared.h"
 
 #include <errno.h>
@@ -7,7 +7,7 @@
 #include <stdlib.h>
 #include <string.h>
 
-/* The child of that name, -1 where there is none. */
+/* The child of that name, or -1 if there is none. */
 static int64_t child_named(const struct ArrowSchema *schema, const char *name, size_t length) {
     for (int64_t i = 0; i < schema->n_children; i++) {
         const char *other = schema->children[i]->name;
@@ -17,7 +17,8 @@ static int64_t child_named(const struct ArrowSchema *schema, const char *name, s
     return -1;
 }
 
-/* The columns of an expression in batches of one schema: their children, and room for what is borrowed. */
+/* The columns of an expression in batches of one schema: their children, and space for the
+ * borrowed ones. */
 struct places {
     size_t count;
     int64_t *children;
@@ -66,7 +67,7 @@ static uint32_t find_places(
     return status;
 }
 
-/* How many slices the views of a batch's columns take. */
+/* How many slices the views of a batch's columns need. */
 static size_t count_buffers(const struct places *places, const struct ArrowSchema *schema, const struct ArrowArray *batch) {
     size_t count = 0;
     for (size_t i = 0; i < places->count; i++)
@@ -89,7 +90,7 @@ static uint32_t borrow_columns(struct places *places, const struct ArrowSchema *
     return status;
 }
 
-/* Runs a batch that was checked. Rows are told from that number on. */
+/* Runs a checked batch. Rows are reported from that number on. */
 static uint32_t run_places(struct yk_expression *expression, struct places *places, const struct ArrowSchema *schema,
     const struct ArrowArray *batch, size_t first, struct ArrowArray *out, struct yk_error *error) {
     struct yk_bytes *buffers = malloc(count_buffers(places, schema, batch) * sizeof *buffers + 1);
@@ -118,7 +119,8 @@ uint32_t yk_arrow_run(struct yk_expression *expression, const struct ArrowSchema
     return status;
 }
 
-/* What stands behind a stream that comes out. No handle does: each call reads the text anew, so that each may be made by another thread. */
+/* The state of a stream that comes out. It has no handle: each call reads the text again, so
+ * that each may be made by another thread. */
 struct running {
     struct ArrowArrayStream in;
     struct ArrowSchema schema;
@@ -153,7 +155,7 @@ const struct yk_error *yk_arrow_stream_error(struct ArrowArrayStream *stream) {
     return &running->error;
 }
 
-/* The number of the C library that is nearest. */
+/* The nearest number of the C library. */
 static int errno_of(uint32_t status) {
     switch (status) {
     case YK_OK: return 0;
@@ -163,13 +165,13 @@ static int errno_of(uint32_t status) {
     }
 }
 
-/* Tells that the stream that came in ended with an error. */
+/* Reports that the stream that came in ended with an error. */
 static uint32_t refuse_stream(struct ArrowArrayStream *in, int code, struct yk_error *error) {
     const char *words = in->get_last_error ? in->get_last_error(in) : NULL;
     return yk_refuse(error, YK_STREAM_FAILED, YK_NONE, "the stream that came in: %.300s", words ? words : strerror(code));
 }
 
-/* Reads the text, and does with the expression what is asked: its schema, or its answers over a batch. */
+/* Reads the text, and gives the expression's schema, or its answers over a batch. */
 static uint32_t with_expression(
     struct running *running, struct ArrowSchema *schema, const struct ArrowArray *batch, struct ArrowArray *out) {
     struct yk_expression expression = {0};
@@ -208,7 +210,7 @@ static int stream_next(struct ArrowArrayStream *stream, struct ArrowArray *out) 
     return errno_of(status);
 }
 
-/* Takes the schema and the text of a stream that was taken, and reads them once. */
+/* Takes the schema and the text of a stream that was moved, and reads them once. */
 static uint32_t start(struct running *running, const char *text, size_t length, struct yk_error *error) {
     int code = running->in.get_schema(&running->in, &running->schema);
     if (code) {

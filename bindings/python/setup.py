@@ -1,4 +1,5 @@
-"""Installs the package over an installed library, where YURKIJE_PREFIX or pkg-config says, and keeps that place in `_prefix.py`."""
+"""Installs the package over an installed library, found by YURKIJE_PREFIX or pkg-config, and stores
+that path in `_prefix.py`."""
 import os
 import re
 import subprocess
@@ -9,7 +10,7 @@ from setuptools.command.build_py import build_py
 
 
 def prefix():
-    """Returns where the library is installed."""
+    """Returns the prefix of the installed library."""
     if "YURKIJE_PREFIX" in os.environ:
         return os.path.abspath(os.environ["YURKIJE_PREFIX"])
     try:
@@ -23,7 +24,7 @@ def prefix():
 
 
 def version(folder):
-    """Returns the version of the library that is installed there."""
+    """Returns the version of the library installed there."""
     with open(f"{folder}/lib/pkgconfig/yurkije.pc", encoding="utf-8") as file:
         return re.search(r"(?m)^Version: *(\S+)$", file.read())[1]
 

@@ -1,4 +1,4 @@
-//! Finds the installed library: where `YURKIJE_PREFIX` says, or else by pkg-config.
+//! Finds the installed library: in `YURKIJE_PREFIX`, else by pkg-config.
 use std::env;
 use std::process::{exit, Command};
 

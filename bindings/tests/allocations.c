@@ -1,5 +1,6 @@
-/* Each allocation refused in turn, and then with all behind it: a call answers E9 or as it does with memory, and nothing leaks.
- * malloc and its kin stand here, before the C library's, and count; they refuse by number. */
+/* Each allocation fails in turn, and then with all after it: a call returns E9 or its usual
+ * result, and nothing leaks. malloc and its kin are here, before the C library's, and count;
+ * they fail by number. */
 #include "check.h"
 
 #include <errno.h>
@@ -42,7 +43,7 @@ void free(void *at) {
     __libc_free(at);
 }
 
-/* A hash of what was told since it was reset. */
+/* A hash of the results since it was reset. */
 static uint64_t told;
 
 static void hash(const void *bytes, size_t length) {
@@ -50,7 +51,8 @@ static void hash(const void *bytes, size_t length) {
         told = (told ^ ((const uint8_t *)bytes)[i]) * 1099511628211u;
 }
 
-/* What is asked: reads an expression, runs it, and copies each answer out. Answers the first status that is not 0. */
+/* The work: reads an expression, runs it, and copies each answer out. Returns the first status
+ * that is not 0. */
 static const char text[] =
     "n * 2 as twice, t like '%o_t' and n > 1 as found, t, n between 2 and 7 or t ilike 'N%', cast(n > 3 as bool?), n is null";
 static const int64_t numbers[] = {1, 2, 3, 4};
@@ -169,7 +171,8 @@ static uint32_t arrow_calls(void) {
     return status;
 }
 
-/* Columns that are cut into batches: joined, selected, masked, and refused for the last row, as of which all rows are run again. */
+/* Columns that are cut into batches: joined, selected, masked, and an error for the last row,
+ * after which all rows are run again. */
 static uint32_t long_calls(void) {
     enum { rows = 2 * YK_ARROW_BATCH + 3 };
     static int64_t many[rows];
@@ -200,7 +203,7 @@ static uint32_t long_calls(void) {
     return status;
 }
 
-/* Refuses each allocation of what is asked, alone or with all behind it. */
+/* Fails each allocation of the work, alone or with all after it. */
 static void sweep(const char *name, uint32_t (*ask)(void), bool alone) {
     long count = 0, same = 0;
     told = 1;

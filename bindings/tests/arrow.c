@@ -23,7 +23,7 @@ static uint8_t views[4][16] = {{3, 0, 0, 0, 'n', 'u', 't'}, {32, 0, 0, 0, 'a', '
 static const void *of_i64[] = {valid, i64s}, *of_bools[] = {valid, bools}, *of_texts[] = {valid, ends, data};
 static const void *of_large[] = {valid, large_ends, data}, *of_views[] = {valid, views, data, lengths};
 
-/* A batch of the columns n (l), b (b), t (u), T (U), v (vu), and f (g), which is not taken. */
+/* A batch of the columns n (l), b (b), t (u), T (U), v (vu), and f (g), which is not supported. */
 static struct ArrowSchema schemas[6], *schema_children[6], batch_schema;
 static struct ArrowArray arrays[6], *children[6], batch;
 
@@ -46,7 +46,7 @@ static void make_batch(void) {
     batch.children = children;
 }
 
-/* Runs a text over the batch; what is refused is told. */
+/* Runs a text over the batch; errors are printed. */
 static uint32_t run(const char *text, struct ArrowSchema *schema, struct ArrowArray *out, struct yk_error *error) {
     struct yk_expression expression = {0};
     out->release = NULL;
@@ -67,7 +67,7 @@ static void release(struct ArrowSchema *schema, struct ArrowArray *out) {
         out->release(out);
 }
 
-/* Each format goes in, and the answers are as their schema says. */
+/* Each format goes in, and the answers match their schema. */
 static void formats(void) {
     struct ArrowSchema schema;
     struct ArrowArray out;
@@ -93,7 +93,7 @@ static void formats(void) {
         CHECK(offsets[0] == 0 && offsets[1] == 3 && offsets[2] == 35 && offsets[3] == 35 && offsets[4] == 37);
         CHECK(memcmp(out.children[i]->buffers[2], data, 37) == 0);
     }
-    /* a child that is moved out is released alone */
+    /* a child that is moved out is released separately */
     struct ArrowArray moved = *out.children[2];
     out.children[2]->release = NULL;
     release(&schema, &out);
@@ -142,7 +142,7 @@ static void views_under_nulls(void) {
     release(&schema, &out);
 }
 
-/* What is not taken is refused by its name, where an answer reads it, and else may be there. */
+/* An unsupported column is an error with its name if an answer reads it, and otherwise allowed. */
 static void untaken(void) {
     struct ArrowSchema schema;
     struct ArrowArray out;
@@ -179,7 +179,7 @@ static void untaken(void) {
     SAME(run("'f' = t and n", &schema, &out, &error), YK_TYPE_MISMATCH);
 }
 
-/* What is no batch of its schema. */
+/* Arrays that are no batch of their schema. */
 static void malformed(void) {
     struct ArrowSchema schema;
     struct ArrowArray out;
@@ -222,7 +222,7 @@ static void malformed(void) {
     release(&schema, &out);
 }
 
-/* A stream of the batch, so many times, and then an error or the end. */
+/* A stream of the batch, that many times, then an error or the end. */
 struct source {
     int left;
     bool fails;

@@ -68,10 +68,10 @@ static void refused_in_many_batches(void) {
     struct yk_column in[] = {{.kind = YK_I64, .rows = rows, .i64 = {a, rows}},
         {.kind = YK_I64, .rows = rows, .nullable = true, .i64 = {b, rows}, .validity = {valid, sizeof valid}}};
     memset(valid, 0xff, sizeof valid);
-    /* the tree that is run has lost a * 2, and the one that was written tells the row */
+    /* the tree that is run has lost a * 2, and no row faults for that */
     struct yk_expression expression = read_expression("a * 2 > 5 and false or b * 2 > 5", fields, 2);
     a[YK_ARROW_BATCH - 1] = b[2 * YK_ARROW_BATCH + 3] = INT64_MAX;
-    refused_alike(&expression, in, 2, rows, YK_ARROW_BATCH - 1);
+    refused_alike(&expression, in, 2, rows, 2 * YK_ARROW_BATCH + 3);
     a[YK_ARROW_BATCH - 1] = 0;
     refused_alike(&expression, in, 2, rows, 2 * YK_ARROW_BATCH + 3);
     /* a column that is wrong is told before a row that faults */

@@ -1,4 +1,5 @@
-/* The calls of yurkije.h as a C program makes them: every kind in and out, refusals with their places, and wrong use. */
+/* The calls of yurkije.h as a C program makes them: every kind in and out, errors with their
+ * places, and wrong use. */
 #include "check.h"
 
 static const int8_t i8s[] = {1, -128, 127};
@@ -44,7 +45,7 @@ static struct yk_column column(uint32_t kind) {
     return made;
 }
 
-/* The bytes of a number of that kind: 0 of bits and texts. */
+/* The bytes of a number of that kind: 0 for bits and texts. */
 static size_t width(uint32_t kind) {
     static const size_t widths[] = {0, 0, 1, 2, 4, 8, 1, 2, 4, 8};
     return kind < COUNT(widths) ? widths[kind] : 0;
@@ -67,7 +68,7 @@ static struct yk_room room_of(uint32_t kind, uint8_t *validity, void *values, in
     return room;
 }
 
-/* A column of each kind goes in and comes out as it was. */
+/* A column of each kind goes in and comes out unchanged. */
 static void each_kind(void) {
     for (uint32_t kind = YK_BOOL; kind <= YK_BINARY_VIEW; kind++) {
         struct yk_field fields[] = {field("x", kind, true)};
@@ -105,7 +106,7 @@ static void each_kind(void) {
     }
 }
 
-/* An expression tells its fields and its answers. */
+/* An expression returns its fields and its answers. */
 static void told(void) {
     struct yk_field fields[] = {field("price", YK_I32, false), field("unit price", YK_U8, true)};
     struct yk_expression expression = read_expression("price + 1 as more, \"unit price\", price < 2 and true", fields, 2);
@@ -137,7 +138,7 @@ static void told(void) {
     SAME(yk_abi_version(), YK_ABI_VERSION);
 }
 
-/* Texts that are refused tell where. */
+/* Errors of texts report where. */
 static void refused_texts(void) {
     static const struct {
         const char *text;
@@ -178,7 +179,7 @@ static void refused_texts(void) {
     SAME(error.column, 1);
 }
 
-/* Columns that are refused tell which, and the row. */
+/* Errors of columns report which, and the row. */
 static void refused_columns(void) {
     struct yk_field fields[] = {field("a", YK_I64, false), field("t", YK_UTF8, true)};
     struct yk_expression expression = read_expression("a + 1, t", fields, 2);
@@ -215,7 +216,7 @@ static void refused_columns(void) {
     yk_expression_free(&expression);
 }
 
-/* Wrong use that can be told is told. */
+/* Wrong use is reported where it can be detected. */
 static void wrong_use(void) {
     struct yk_expression expression = {0}, other;
     struct yk_answers answers = {0};

@@ -1,4 +1,5 @@
-/* What the tests in C share: questions that tell where they were answered no, and parts of the interface in few words. */
+/* Shared by the tests in C: checks that report where they failed, and parts of the interface in
+ * few words. */
 #ifndef CHECK_H
 #define CHECK_H
 
@@ -18,7 +19,7 @@ static int faults;
         }                                                                                                                                  \
     } while (0)
 
-/* The two values, where a status or a count is not as expected. */
+/* The two values, if a status or a count is not as expected. */
 #define SAME(value, expected)                                                                                                              \
     do {                                                                                                                                   \
         long long got_ = (long long)(value), want_ = (long long)(expected);                                                                \
@@ -45,7 +46,7 @@ static inline struct yk_field field(const char *name, uint32_t kind, bool nullab
 
 static inline bool bit(const uint8_t *bits, size_t i) { return bits[i / 8] >> i % 8 & 1; }
 
-/* Reads an expression that is none of the test's matter. */
+/* Reads an expression that the test is not about. */
 static inline struct yk_expression read_expression(const char *words, const struct yk_field *fields, size_t count) {
     struct yk_expression expression = {0};
     char told[300] = "";

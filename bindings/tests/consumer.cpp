@@ -1,4 +1,4 @@
-// A consumer in C++: handles that free themselves, and columns over vectors.
+// A C++ caller: handles that free themselves, and columns over vectors.
 #include <yurkije_arrow.h>
 
 #include <cstdio>

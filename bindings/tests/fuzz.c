@@ -1,6 +1,7 @@
-/* A fuzzer (libFuzzer): texts and columns from its bytes. Each slice that the library reads or writes ends where a page ends that nobody
- * may touch, so that a byte past its end is a fault, also in code that no sanitizer knows. What is answered is asked again over the same
- * rows at another offset and in another layout, and compared. */
+/* A fuzzer (libFuzzer): texts and columns from its bytes. Each slice that the library reads or
+ * writes ends before a page without access, so that a byte past its end is a fault, also in code
+ * that no sanitizer knows. Answers are computed again over the same rows at another offset and
+ * in another layout, and compared. */
 #define _DEFAULT_SOURCE
 #include "fuzz_texts.h"
 
@@ -142,7 +143,7 @@ static void make_column(struct fuzzed *made, const struct yk_field *field, struc
         set_offsets(made, given, items);
 }
 
-/* Rooms that end at pages of no access, of exactly the size that is told. */
+/* Output buffers that end at pages of no access, of exactly the required size. */
 static uint32_t copy_answer(struct yk_answers *answers, size_t answer, uint32_t kind, struct yk_room *room) {
     struct yk_size size = {0};
     uint32_t status = yk_answer_size(answers, answer, &size);
@@ -190,7 +191,7 @@ static bool same_row(const struct yk_room *a, size_t i, const struct yk_room *b,
            (length == 0 || memcmp(a->data.at + a->offsets32.at[i], b->data.at + b->offsets32.at[j], (size_t)length) == 0);
 }
 
-/* Runs the rows from `cut` on as a batch of their own, and compares each answer with the whole's. */
+/* Runs the rows from `cut` on as a separate batch, and compares each answer with the whole's. */
 static void again(struct yk_expression *expression, struct fuzzed *made, size_t count, size_t rows, size_t cut, struct yk_answers *whole,
     struct yk_error *error) {
     struct yk_column columns[most_columns];
@@ -219,14 +220,14 @@ static void again(struct yk_expression *expression, struct fuzzed *made, size_t 
     yk_answers_free(&part);
 }
 
-/* How many texts were expressions, and how many batches were answered. */
+/* How many texts were expressions, and how many batches had answers. */
 static unsigned long asked, readable, answered;
 
 __attribute__((destructor)) static void tell(void) {
     fprintf(stderr, "fuzz: %lu texts, %lu of them expressions, %lu batches answered and compared\n", asked, readable, answered);
 }
 
-/* What one input is read as: an expression over fields. */
+/* The meaning of one input: an expression over fields. */
 struct asking {
     struct yk_field fields[most_columns];
     size_t count;
@@ -235,7 +236,7 @@ struct asking {
     struct yk_error error;
 };
 
-/* An expression over fields of the input: a text that is well written, tokens, or bytes. */
+/* An expression over fields of the input: a correct text, tokens, or bytes. */
 static uint32_t read_text(struct given *given, struct asking *asking) {
     static const char *const names[] = {"c0", "c1", "c2", "c3"};
     char text[400];
@@ -249,7 +250,7 @@ static uint32_t read_text(struct given *given, struct asking *asking) {
         guarded_copy(text, writing.length), writing.length, asking->fields, asking->count, &asking->expression, &asking->error);
 }
 
-/* Runs the expression over columns of the input, and compares what it answers. */
+/* Runs the expression over columns of the input, and compares its answers. */
 static void run(struct given *given, struct asking *asking) {
     static struct fuzzed made[most_columns];
     struct yk_column columns[most_columns];

@@ -1,4 +1,5 @@
-/* What the fuzzer makes of its bytes: the bytes themselves, and texts that are expressions, or nearly. */
+/* Texts from the fuzzer's bytes: the bytes themselves, and texts that are expressions, or
+ * nearly. */
 #ifndef FUZZ_TEXTS_H
 #define FUZZ_TEXTS_H
 
@@ -6,7 +7,7 @@
 
 #include <string.h>
 
-/* The bytes of one input, taken from the front. */
+/* The bytes of one input, consumed from the start. */
 struct given {
     const uint8_t *at;
     size_t left;
@@ -21,7 +22,7 @@ static unsigned next(struct given *given) {
 
 static unsigned below(struct given *given, unsigned bound) { return bound ? next(given) % bound : 0; }
 
-/* Tokens that texts are made of: most of them say something. */
+/* Tokens for texts: most of them have a meaning. */
 static const char *const tokens[] = {
     "c0",
     "c1",
@@ -105,7 +106,7 @@ static void write_tokens(struct given *given, struct writing *to) {
     }
 }
 
-/* The bytes of the input as they are. */
+/* The bytes of the input, unchanged. */
 static void write_bytes(struct given *given, struct writing *to) {
     size_t most = next(given) + next(given);
     while (given->left > 0 && most-- > 0 && to->length < to->room)
@@ -128,7 +129,8 @@ static void write_atom(struct given *given, struct writing *to, enum shape shape
     write_words(to, literals[shape][below(given, 4)]);
 }
 
-/* An expression that is well written and mostly well typed: an operator between two sums or atoms, in brackets, joined by and and or. */
+/* A correct and mostly well typed expression: an operator between two sums or atoms, in
+ * brackets, joined by and and or. */
 static void write_number(struct given *given, struct writing *to) {
     static const char *const signs[] = {"+", "-", "*", "/"};
     write_atom(given, to, is_number);

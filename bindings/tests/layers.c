@@ -1,11 +1,12 @@
-/* Layers that GDAL reads (CSV, SQLite, GeoPackage), as the streams of Arrow that GDAL makes of them: the rows in which an expression is
- * true, and what it answers there, beside OGR's own SQL over the same layers, in its two dialects.
- * Usage: layers FOLDER [ROWS]: the layers are made in the folder. */
+/* Layers that GDAL reads (CSV, SQLite, GeoPackage), as the streams of Arrow that GDAL makes of
+ * them: the rows in which an expression is true, and its answers there, compared with OGR's own
+ * SQL over the same layers, in its two dialects. Usage: layers FOLDER [ROWS]: the layers are
+ * made in the folder. */
 #include <gdal/gdal.h>
 #include <gdal/ogr_api.h>
 #include <gdal/ogr_recordbatch.h>
 
-/* GDAL has the structs, under no guard. */
+/* GDAL has the structs, without a guard. */
 #define ARROW_C_DATA_INTERFACE
 #define ARROW_C_STREAM_INTERFACE
 
@@ -15,7 +16,8 @@ static int rows = 20000;
 static const char *const words[] = {
     "ion foci", "xylene, mixed isomers", "nitric oxide", "iron", "a \"quoted\" name", "£", "sodium nitrite", "żółw"};
 
-/* Rows of whole numbers and texts, of which some are missing; and a float and a point, which no expression takes. */
+/* Rows of whole numbers and texts, some missing; and a float and a point, which no expression
+ * can read. */
 static GDALDatasetH make_rows(void) {
     GDALDatasetH set = GDALCreate(GDALGetDriverByName("Memory"), "", 0, 0, 0, GDT_Unknown, NULL);
     OGRLayerH layer = GDALDatasetCreateLayer(set, "given", NULL, wkbPoint, NULL);
@@ -48,7 +50,7 @@ static GDALDatasetH make_rows(void) {
     return set;
 }
 
-/* Writes the rows by a driver, and opens what was written. */
+/* Writes the rows by a driver, and opens the result. */
 static GDALDatasetH through(GDALDatasetH given, const char *driver, const char *path) {
     GDALDatasetH set = GDALCreate(GDALGetDriverByName(driver), path, 0, 0, 0, GDT_Unknown, NULL);
     CHECK(set != NULL);
@@ -58,7 +60,8 @@ static GDALDatasetH through(GDALDatasetH given, const char *driver, const char *
     return GDALOpenEx(path, GDAL_OF_VECTOR, NULL, strcmp(driver, "CSV") == 0 ? options : NULL, NULL);
 }
 
-/* What was answered: which rows are true, by the number that GDAL gives them, and the sum of the second answer over them. */
+/* The results: which rows are true, by GDAL's number, and the sum of the second answer over
+ * them. */
 struct answered {
     GIntBig *ids;
     size_t count;
@@ -66,7 +69,7 @@ struct answered {
     char format[200];
 };
 
-/* Takes the answers of a batch: whether the row is taken, a number, and the row's own number. */
+/* Takes the answers of a batch: whether the row is selected, a number, and the row's own number. */
 static void take(const struct ArrowArray *batch, struct answered *answered) {
     const struct ArrowArray *taken = batch->children[0], *number = batch->children[1], *id = batch->children[2];
     for (int64_t i = 0; i < batch->length; i++) {
@@ -112,14 +115,14 @@ static struct answered evaluate(OGRLayerH layer, const char *condition, const ch
     return answered;
 }
 
-/* Asks OGR the same, and compares row by row. */
+/* Runs the same in OGR, and compares row by row. */
 static void compare(
     const char *kind, GDALDatasetH set, const char *dialect, const char *condition, const char *number, const struct answered *ours) {
     char sql[700];
     bool is_sqlite = strcmp(dialect, "SQLITE") == 0;
     const char *id = is_sqlite ? OGR_L_GetFIDColumn(GDALDatasetGetLayer(set, 0)) : "fid";
     const char *own = id[0] && strcmp(kind, "CSV") != 0 ? id : "rowid";
-    /* a column that is plainly the number of a row would be no field of what is found */
+    /* a column that is only the row number would be no field of the result */
     snprintf(sql, sizeof sql,
         is_sqlite ? "SELECT %s AS number, %s + 0 AS id FROM given WHERE %s" : "SELECT %s AS number, %s AS id FROM given WHERE %s", number,
         is_sqlite ? own : "fid", condition);
@@ -144,7 +147,7 @@ static void compare(
     GDALDatasetReleaseResultSet(set, found);
 }
 
-/* Conditions that both write alike, and a number that is answered beside each. */
+/* Conditions that both write alike, each with a number as the answer. */
 static const char *const asked[][2] = {
     {"a < b", "a + b"},
     {"a + b < 10000000000 and s like '%nitr%'", "a"},

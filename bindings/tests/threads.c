@@ -1,4 +1,5 @@
-/* Two threads, a handle each, 1,000,000 calls in all (or as many as the first argument says): the same answers as one thread has. */
+/* Two threads with a handle each, 1,000,000 calls in all (or as many as the first argument
+ * says): the same answers as with one thread. */
 #include "check.h"
 
 #include <pthread.h>
@@ -11,7 +12,7 @@ static char texts[batches][4 * rows];
 static uint8_t valid[batches][rows / 8];
 static long calls = 1000000;
 
-/* What one thread answered, batch by batch: a hash of its sums and the bits that are true. */
+/* The answers of one thread, batch by batch: a hash of its sums and the bits that are true. */
 struct run {
     pthread_t thread;
     uint64_t hashes[batches];

@@ -1,6 +1,8 @@
-/* What a call costs: `i64 < i64` over rows that are borrowed, with the copy of its answer out. Beside it stand a copy of both columns, a
- * loop in C over them, and the kernel over columns that are already made: a fifth of what five comparisons more cost in a call. Medians
- * of some runs, in nanoseconds a call and a row, and the median of each run's ratio of the call to the copy in and the kernel. */
+/* What a call costs: `i64 < i64` over rows that are borrowed, with the copy of its answer out.
+ * Compared with a copy of both columns, a loop in C over them, and the kernel over columns that
+ * are already made: a fifth of the cost of five more comparisons in a call. Medians of some
+ * runs, in nanoseconds a call and a row, and the median of each run's ratio of the call to the
+ * copy in and the kernel. */
 #define _DEFAULT_SOURCE
 #include "check.h"
 
@@ -63,7 +65,7 @@ static void loop(size_t rows) {
 enum form { CALL, ONE, SIX, COPIES, LOOP, KERNEL, RATIO, forms };
 static void (*const timed[])(size_t) = {call, run_one, run_six, copies, loop};
 
-/* Times each form in turn, and puts the numbers of one run in their places. */
+/* Times each form in turn, and stores the numbers of one run. */
 static void time_once(size_t rows, double times[forms][runs], int at) {
     size_t inner = 1000000 / rows;
     for (int form = 0; form < KERNEL; form++) {

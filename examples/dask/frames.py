@@ -24,7 +24,8 @@ def rows(first, count):
 
 
 def answered(expression, first, count):
-    """Evaluates one part: the expression came as its text, and is read once in each thread that runs it."""
+    """Evaluates one part: the expression is passed as its text, and read once in each thread that
+    runs it."""
     # so that a part is still under way when a worker is killed
     time.sleep(0.05)
     answers = expression.run(rows(first, count))
@@ -32,7 +33,8 @@ def answered(expression, first, count):
 
 
 def kill_one(client, parts):
-    """Kills the worker that has most of what is answered so far, once a quarter is, and tells how much that was."""
+    """Kills the worker that has most of the results so far, once a quarter is there, and reports
+    how much that was."""
     while sum(part.done() for part in parts) < PARTS // 4:
         time.sleep(0.01)
     held = {worker: len(keys) for worker, keys in client.has_what().items()}

@@ -25,7 +25,8 @@ def timed(call):
 
 
 def show(what, expected, calls):
-    """Makes the calls, holds each answer against the one that is expected, and prints how long each took."""
+    """Makes the calls, compares each result with the expected one, and prints how long each
+    took."""
     told = []
     for name, call in calls.items():
         answer, took = timed(call)
@@ -43,7 +44,7 @@ def main():
     columns = {"a": a, "b": b, "c": c, "name": names}
     frame = pandas.DataFrame(columns) if pandas else None
 
-    # An expression is read once, and run over as many batches as there are: here one of all rows.
+    # An expression is read once, and run over any number of batches: here one of all rows.
     taken = yurkije.Expression.of("a < b and c > 5 as taken", columns)
     calls = {"yurkije": lambda: taken.run(columns)["taken"], "numpy": lambda: (a < b) & (c > 5)}
     if pandas:
@@ -54,7 +55,7 @@ def main():
         calls["pandas"] = lambda: np.flatnonzero((frame.a < frame.b) & (frame.c > 5))
     show("the rows that it takes", np.flatnonzero((a < b) & (c > 5)), calls)
 
-    # With nulls: numpy's masked arrays take a comparison with null for null, and so does SQL.
+    # With nulls: in numpy's masked arrays a comparison with null is null, as in SQL.
     masked = np.ma.MaskedArray(b, rng.random(rows) < 0.1)
     with_nulls = {"a": a, "b": masked}
     sums = yurkije.Expression.of("a + b as sum", with_nulls)
@@ -67,7 +68,7 @@ def main():
         calls["pandas"] = lambda: frame.name.str.contains("nitr", regex=False)
     show("name like '%nitr%', of a list of str", np.array(["nitr" in name for name in names]), calls)
 
-    # What does not fit is refused, with its row; numpy's sum wraps round.
+    # What does not fit is an error, with its row; numpy's sum wraps around.
     try:
         yurkije.evaluate("a * 9223372036854775807", {"a": a})
     except yurkije.ArithmeticRefusal as refusal:

@@ -19,20 +19,20 @@ PG_MODULE_MAGIC;
 PG_FUNCTION_INFO_V1(yurkije_pg_text);
 PG_FUNCTION_INFO_V1(yurkije_pg_is);
 
-/* What one place of a query has. */
+/* The state of one place of a query. */
 struct place {
     MemoryContextCallback callback;
     MemoryContext context;
     struct yk_expression expression;
     struct yk_answers answers;
-    text *words; /* of the expression */
-    Oid type;    /* of the row */
+    text *words; /* for the expression */
+    Oid type;    /* for the row */
     int32 typmod;
     TupleDesc row;
     size_t count;
-    int *attributes; /* of each field */
+    int *attributes; /* for each field */
     struct yk_column *columns;
-    int64 *numbers; /* room for the value of each, or its offsets */
+    int64 *numbers; /* space for the value of each, or its offsets */
     struct yk_type answer;
 };
 
@@ -56,7 +56,8 @@ static struct place *place_of(FunctionCallInfo call) {
     return call->flinfo->fn_extra = place;
 }
 
-/* Arrow's format of a type of PostgreSQL: also of those that are not taken, so that they are refused by name. */
+/* Arrow's format of a type of PostgreSQL: also of unsupported ones, so that the error names
+ * them. */
 static const char *format_of(Oid type) {
     switch (type) {
     case BOOLOID: return "b";
@@ -104,7 +105,7 @@ static void read_expression(struct place *place) {
     pfree(children);
 }
 
-/* Ends the query where a call is refused: what it was to fill is not read. */
+/* Ends the query if a call fails: its output is not read. */
 static void check(uint32_t status) {
     if (status)
         ereport(ERROR, (errmsg("yurkije: the library answers status %u", status)));
@@ -173,7 +174,7 @@ static void borrow(struct yk_column *column, int64 *number, Datum value, bool is
     }
 }
 
-/* Runs the expression over the row that a call has. */
+/* Runs the expression over the row of a call. */
 static struct place *run(FunctionCallInfo fcinfo) {
     struct place *place = place_of(fcinfo);
     HeapTupleHeader header = PG_GETARG_HEAPTUPLEHEADER(1);
@@ -192,7 +193,7 @@ static struct place *run(FunctionCallInfo fcinfo) {
     return place;
 }
 
-/* The answer's rooms, of one row. */
+/* The output buffers of the answer, of one row. */
 struct answer {
     uint8_t validity[1], bits[1];
     union {

@@ -14,12 +14,12 @@ SQLITE_EXTENSION_INIT1
 
 enum { most_columns = 32 };
 
-/* What one place of a query has. */
+/* The state of one place of a query. */
 struct place {
     struct yk_expression expression;
     struct yk_answers answers;
     struct yk_type answer;
-    char *columns_text, *text; /* from which it was read */
+    char *columns_text, *text; /* the texts that it was read from */
     struct yk_field fields[most_columns];
     size_t count;
 };
@@ -35,7 +35,7 @@ static void free_place(void *at) {
 
 static const char *past_blanks(const char *at) { return at + strspn(at, " \t\r\n"); }
 
-/* The kind of a type's name, 0 of none. */
+/* The kind of a type's name, 0 for none. */
 static uint32_t kind_named(const char *name, size_t length) {
     static const struct {
         const char *name;
@@ -48,7 +48,8 @@ static uint32_t kind_named(const char *name, size_t length) {
     return YK_NO_KIND;
 }
 
-/* Reads the columns that are declared: a word and a type each, with commas between. False where they are none. */
+/* Reads the declared columns: a word and a type each, with commas between. False if they are
+ * malformed. */
 static int read_columns(struct place *place) {
     const char *at = past_blanks(place->columns_text);
     while (*at && place->count < most_columns) {
@@ -68,7 +69,7 @@ static int read_columns(struct place *place) {
     return *at == 0;
 }
 
-/* Reads the expression of a place; NULL with the refusal told. */
+/* Reads the expression of a place; NULL after an error, which is reported. */
 static struct place *read_place(sqlite3_context *context, const char *columns, const char *text) {
     char message[300];
     struct yk_error error = {.message = {message, sizeof message}};
@@ -92,7 +93,7 @@ static struct place *read_place(sqlite3_context *context, const char *columns, c
     return NULL;
 }
 
-/* A value of one row, and where its column's slices lie. */
+/* A value of one row, and its column's slices. */
 struct cell {
     int64_t number;
     int32_t ends[2];
@@ -108,7 +109,7 @@ static int64_t most(uint32_t kind) {
     return most_of[kind];
 }
 
-/* Borrows the number of a value: its bytes, the lowest first, are those of each narrower type too. */
+/* Borrows the number of a value: its bytes, little-endian, are those of each narrower type too. */
 static int borrow_number(sqlite3_value *value, struct yk_column *column, struct cell *cell) {
     if (sqlite3_value_type(value) != SQLITE_INTEGER)
         return 0;
@@ -132,7 +133,7 @@ static void set_number(struct yk_column *column, const void *at) {
     }
 }
 
-/* Borrows a value for the call. False where it is none of its field's type. */
+/* Borrows a value for the call. False if it is not of its field's type. */
 static int borrow(sqlite3_value *value, const struct yk_field *field, struct yk_column *column, struct cell *cell) {
     int is_text = field->kind == YK_UTF8 || field->kind == YK_BINARY, is_null = sqlite3_value_type(value) == SQLITE_NULL;
     *column = (struct yk_column){.kind = field->kind, .nullable = field->nullable, .rows = 1, .validity = {&cell->valid, 1}};
@@ -150,7 +151,7 @@ static int borrow(sqlite3_value *value, const struct yk_field *field, struct yk_
     return is_null || sqlite3_value_type(value) == (field->kind == YK_UTF8 ? SQLITE_TEXT : SQLITE_BLOB);
 }
 
-/* The number of a kind that lies in the bytes of an answer. */
+/* The number of a kind in the bytes of an answer. */
 static int64_t number_at(uint32_t kind, const void *at) {
     switch (kind) {
     case YK_BOOL: return *(const uint8_t *)at & 1;
@@ -164,7 +165,7 @@ static int64_t number_at(uint32_t kind, const void *at) {
     }
 }
 
-/* The room of an answer of one row. */
+/* The output buffer of an answer of one row. */
 static struct yk_room room_of(uint32_t kind, uint8_t *validity, void *values, int32_t *ends, struct yk_bytes_room data) {
     struct yk_room room = {.kind = kind, .validity = {validity, 1}};
     switch (kind) {
@@ -182,7 +183,7 @@ static struct yk_room room_of(uint32_t kind, uint8_t *validity, void *values, in
     return room;
 }
 
-/* Hands the answer to SQLite, which frees a text by itself. */
+/* Passes the answer to SQLite, which frees a text itself. */
 static void answer(sqlite3_context *context, struct place *place) {
     _Alignas(8) uint8_t values[8] = {0};
     uint8_t validity[1];

@@ -26,7 +26,7 @@ READ_ON = {
     "`not` behind a sign": r'found "not", ' + ATOM,
     "`+` before a value": r'found "\+", ' + ATOM,
     "`-` before what is no number": r"found .*, expected digits",
-    "a chain": r"found .*, expected brackets \(comparisons, between and like stand in no chains\)",
+    "a chain, or `is null` before a comparison": r"found .*, expected brackets round the comparison, is null, between or like before it",
     "a type behind what is no literal": r'found "::", expected a literal before ::',
     "an escape that is no text in quotes": r"found .*, expected a text in single quotes",
     "a keyword as a name": rf'found "(is|like|ilike|between|escape)", ({ATOM}|expected (the name of a type|a text in single quotes))',
@@ -97,7 +97,7 @@ class Changed:
         self.counts, self.differences, self.examples = counts, [], {}
 
     def run(self, begin, end):
-        """Asks the texts of these numbers, and answers what differs in them."""
+        """Asks the texts of these numbers. Returns the number of each that differs, and what differs."""
         self.differences = []
         table = random_table(random.Random(f"changed table {self.seed} {begin}"), self.rows, small=True)
         texts = [changed_text(random.Random(f"changed {self.seed} {number}"), table) for number in range(begin, end)]
@@ -113,7 +113,7 @@ class Changed:
         return self.differences
 
     def differ(self, number, text, ours, theirs):
-        self.differences.append(f"changed text {number}: {text!r}\n    rowfn_stream: {ours}\n    PostgreSQL: {theirs}")
+        self.differences.append((number, f"changed text {number}: {text!r}\n    rowfn_stream: {ours}\n    PostgreSQL: {theirs}"))
 
     def beside_refusal(self, number, text, refused, answers):
         told = re.fullmatch(r"rowfn_stream: (?:[^:]*: )?line \d+, column \d+: (.*)", refused.told, re.DOTALL)

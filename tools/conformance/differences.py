@@ -5,35 +5,39 @@ import re
 from engines import TOP, Fault, Refused
 from tables import Column, Table
 
-PAGE = os.path.join(TOP, "docs", "EXPRESSIONS.md")
+PAGE, SECTION = os.path.join(TOP, "docs", "EXPRESSIONS.md"), "Where it differs"
 TABLE = Table([Column("one", "i64", False), Column("zero", "i64", False), Column("small", "i32", False),
                Column("yes", "bool", False), Column("name", "utf8", False)], [(1, 0, 2, True, "a")])
-# what differs, an expression that shows it, and where an engine spells it otherwise, how in PostgreSQL and in SQLite
+# What the table asks, row by row: an expression, or how it is spelled here, in PostgreSQL and in SQLite. The first column's words
+# are the page's own. The other cells of a row are what was answered, so a change of a message or of a version changes the page:
+# not_on_page tells which rows, and `tools/conformance/expressions --table` prints the table as it is answered today.
 ASKED = [
-    ("a number past its type", "9223372036854775807 + one"),
-    ("a zero divisor", "7 / zero"),
-    ("a call beside what decides", "one = 1 or 7 / zero = 1"),
-    ("a call beside null", "null::i64 + 7 / zero", "null::bigint + 7 / zero", "null + 7 / zero"),
-    ("numbers of 8 bits, or unsigned", "100::i8 + 100::i8", "100::smallint + 100::smallint", "100 + 100"),
-    ("a number that its type does not hold", "7::u8 < 300", "7 < 300", "7 < 300"),
-    ("a minus sign before a type", "-32768::i16", "-32768::smallint", "-32768"),
-    ("two integer types", "small + one"),
-    ("a text for a number", "one = '1'"),
-    ("a number for a text", "name = 1"),
-    ("a truth value for a number", "yes + 1"),
-    ("fractions", "one + 2.5"),
-    ("null without a type", "null = null"),
-    ("the case of names", "One = 1"),
-    ("`not` behind a sign", "yes = not yes"),
-    ("a sign before a column", "- one = -1"),
-    ("a chain of comparisons", "one < 2 = yes"),
-    ("LIKE and BETWEEN beside a comparison", "yes = name like 'a'"),
-    ("signs side by side", "one!=-1"),
-    ("LIKE and case", "'A' like 'a'"),
-    ("the backslash in a pattern", r"'a\b' like 'a\\b'"),
-    ("an escape that ends a pattern", r"'a\' like 'a\'", r"'a\' like 'a\'", r"'a\' like 'a\' escape '\'"),
-    ("no escape", "'a%' like 'a%' escape ''"),
-    ("ILIKE past ASCII", "'É' ilike 'é'", "'É' ilike 'é'", "'É' like 'é'"),
+    "9223372036854775807 + one",
+    "7 / zero",
+    "one = 1 or 7 / zero = 1",
+    ("null::i64 + 7 / zero", "null::bigint + 7 / zero", "null + 7 / zero"),
+    ("100::i8 + 100::i8", "100::smallint + 100::smallint", "100 + 100"),
+    ("7::u8 < 300", "7 < 300", "7 < 300"),
+    ("-32768::i16", "-32768::smallint", "-32768"),
+    "small + one",
+    "one = '1'",
+    "name = 1",
+    "yes + 1",
+    "one + 2.5",
+    "null = null",
+    "One = 1",
+    "yes = not yes",
+    "- one = -1",
+    "one < 2 = yes",
+    "yes is null = true",
+    '"" = 1',
+    "yes = name like 'a'",
+    "one!=-1",
+    "'A' like 'a'",
+    r"'a\b' like 'a\\b'",
+    (r"'a\' like 'a\'", r"'a\' like 'a\'", r"'a\' like 'a\' escape '\'"),
+    "'a%' like 'a%' escape ''",
+    ("'É' ilike 'é'", "'É' ilike 'é'", "'É' like 'é'"),
 ]
 
 
@@ -61,21 +65,40 @@ def told(answer):
     return cell(answer.told or "E7 " + answer.name if isinstance(answer, Fault) else answer)
 
 
+def row_of(cells):
+    return "| " + " | ".join(one.replace("|", "\\|").replace("\n", " ") for one in cells) + " |"
+
+
+def rows_on_page():
+    """The rows of the page's table, by the expression in the second cell."""
+    with open(PAGE, encoding="utf-8") as page:
+        section = page.read().partition(f"\n## {SECTION}\n")[2].partition("\n## ")[0]
+    rows = [line for line in section.split("\n") if line.startswith("| ")]
+    return {line.split(" | ")[1]: line for line in rows[1:]}
+
+
 def page_lines(program, server, cased):
     """The lines of the table. `cased` is SQLite as it is, whose LIKE looks past case."""
     names = [f"| What | Expression | Here | {server.version} | {cased.version} |", "|---|---|---|---|---|"]
-    spelled = [row if len(row) == 4 else (row[0], *[row[1]] * 3) for row in ASKED]
-    in_postgresql = server.answers([row[2] for row in spelled], TABLE)
-    rows = []
-    for (what, *row), answers in zip(spelled, in_postgresql):
+    spelled = [[row] * 3 if isinstance(row, str) else row for row in ASKED]
+    in_postgresql = server.answers([row[1] for row in spelled], TABLE)
+    rows, page = [], rows_on_page()
+    for row, answers in zip(spelled, in_postgresql):
         answered = [told(ours(program, row[0])), told(answers[0]), told(in_sqlite(cased, row[2]))]
-        written = [what, f"`{row[0]}`"] + [one if text == row[0] else f"`{text}`: {one}" for text, one in zip(row, answered)]
-        rows.append("| " + " | ".join(one.replace("|", "\\|").replace("\n", " ") for one in written) + " |")
+        written = [f"`{row[0]}`"] + [one if text == row[0] else f"`{text}`: {one}" for text, one in zip(row, answered)]
+        what = page.get(written[0], "| what differs here |").split(" | ")[0].removeprefix("| ")
+        rows.append(row_of([what, *written]))
     return names + rows
 
 
 def not_on_page(lines):
-    """The lines that the page has otherwise. Its header may tell other versions, of the run that it tells of."""
-    with open(PAGE, encoding="utf-8") as page:
-        said = set(page.read().split("\n"))
-    return [line for line in lines[1:] if line not in said]
+    """What to mend where the page's table and the one that was asked differ, in words. The header may tell other versions."""
+    page, asked = rows_on_page(), {line.split(" | ")[1]: line for line in lines[2:]}
+    where = f'docs/EXPRESSIONS.md, "{SECTION}"'
+    for expression, line in asked.items():
+        if expression not in page:
+            yield f"{where} lacks the row of {expression}, which ASKED in tools/conformance/differences.py has:\n    {line}"
+        elif page[expression] != line:
+            yield f"{where} has of {expression}\n    {page[expression]}\nand asked today the row is\n    {line}"
+    for expression in page.keys() - asked.keys():
+        yield f"{where} has a row of {expression}, which ASKED in tools/conformance/differences.py lacks: nothing asks it"

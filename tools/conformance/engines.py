@@ -17,6 +17,7 @@ from dataclasses import dataclass
 from spelling import postgresql_domains, quoted, sql_literal, whole
 from streams import OPTIONS, read_rows, spelled, words, written
 from tables import INTEGERS
+from telling import Wrote, row_apart
 from trees import folded
 
 TOP = os.path.dirname(os.path.dirname(os.path.dirname(os.path.realpath(__file__))))
@@ -118,24 +119,26 @@ class Program:
         """What --where writes of the rows that a text takes: as they are; or with what a text answers in each, named r."""
         appended = ["--append", "--", *(f"{answer}\nas r" for answer in answers)] if answers else []
         # a null in the only column is an empty line
-        ran = self.run(["--blank-lines", "null", *words(table, True), "--where=" + condition, *appended], written(table).text())
-        return ran.stdout + ran.stderr
+        arguments = ["--blank-lines", "null", *words(table, True), "--where=" + condition, *appended]
+        ran = self.run(arguments, written(table).text())
+        return Wrote(arguments, ran.returncode, ran.stdout, ran.stderr)
 
     def differ_in_picked(self, condition, true, other, values, table):
-        """How --where writes other rows than the true ones; and with --append, than these with the values of another text."""
+        """How --where writes other rows than the true ones; and with --append, than these with the values of another text. Of
+        each: where the first of these rows is that differs, how it was asked, what was written, and what should have been."""
         lines = written(table)
         header = lines.header.split("\n")[-2] + "\n" if table.layout.header else ""
-        picked = self.picked(condition, table)
-        if picked != header + "".join(lines.rows[row] for row in true):
-            yield "--where writes other rows than", picked
+        picked, wanted = self.picked(condition, table), [lines.rows[row] for row in true]
+        if not picked.is_calm() or picked.out != header + "".join(wanted):
+            yield row_apart(picked.out, header, true, wanted), "--where", picked, header + "".join(wanted)
         # a record that is short or long has no answer at the place of its name, and one delimiter is for both sides
         if table.layout.ragged or table.layout.delimiter != ",":
             return
         null = table.layout.nulls[0]
         both = [lines.rows[row][:-1] + "," + spelled(values[row], null) + "\n" for row in true]
-        picked = self.picked(condition, table, other)
-        if not same_rows(picked, header.replace("\n", ",r\n") + "".join(both), null):
-            yield f"--where with --append of {other!r} writes other rows than", picked
+        picked, header = self.picked(condition, table, other), header.replace("\n", ",r\n")
+        if not picked.is_calm() or not same_rows(picked.out, header + "".join(both), null):
+            yield row_apart(picked.out, header, true, both), "--where with --append", picked, header + "".join(both)
 
     def explained(self, texts, table):
         """What --explain says of these texts, which it reads from a file."""

@@ -1,4 +1,5 @@
-"""Whether the program, rowfn, PostgreSQL and SQLite answer an expression alike, and what they do otherwise on purpose."""
+"""Whether the program, rowfn, PostgreSQL and SQLite agree on an expression, and the intended
+differences."""
 from collections import Counter
 from dataclasses import dataclass
 
@@ -7,9 +8,10 @@ from rules import rule_that_drops
 from scripts import WAYS, line_names
 from spelling import STANDS_IN, Noisy, Plain, Text, is_in_sqlite, is_unchanged, postgresql, sqlite
 from tables import INTEGERS
+from telling import Difference
 from trees import ARITHMETIC, LIKES
 
-# what is counted, in the order in which it is told; refusals and what is on purpose follow by their kinds
+# the counts, in the order of their output; errors and intended differences follow by kind
 COUNTED = ["expressions", "of those, asked of SQLite too", "of those, refused in some row",
            "of those, without a text, of rowfn alone", "of those, told by --explain as rowfn shows them", "of those, rows picked by --where",
            "of those, texts that PostgreSQL reads as they stand", "of these, without brackets",
@@ -19,25 +21,17 @@ COUNTED = ["expressions", "of those, asked of SQLite too", "of those, refused in
 
 @dataclass
 class Case:
-    """An expression over a table, and its text, or None where it has none."""
+    """An expression over a table, and its text, or None if it has none."""
     number: int
     tree: object
     text: str | None
 
     def __post_init__(self):
-        # of each row the calls that fault in PostgreSQL, once that is asked
+        # for each row the calls that fault in PostgreSQL, if needed
         self.faults = []
         self.calculations = [node for node in self.tree.nodes() if node.kind in ARITHMETIC]
         self.is_unchanged = is_unchanged(self.tree)
         self.is_in_sqlite = is_in_sqlite(self.tree)
-
-
-@dataclass
-class Difference:
-    row: int
-    who: str
-    ours: object
-    theirs: object
 
 
 def text_of(tree, rng=None, brackets=True):
@@ -49,7 +43,7 @@ def is_value(answer):
     return answer is not NOT_ASKED and not isinstance(answer, Fault)
 
 
-# -- what is told of each row ------------------------------------------------------------------------------------------------
+# -- the results for each row ----------------------------------------------------------------------
 
 def first_ones(faults):
     """The calls that fault, without those that do because one below them does."""
@@ -58,15 +52,15 @@ def first_ones(faults):
 
 
 def faults_in_postgresql(case, asked, rows):
-    """Of each row the calls of arithmetic that PostgreSQL refuses, when each is asked alone, and why."""
+    """For each row the calls of arithmetic that fail in PostgreSQL when run separately, and why."""
     columns = [(node, asked[postgresql(node)]) for node in case.calculations]
     found = [[(node, answers[row]) for node, answers in columns if isinstance(answers[row], Fault)] for row in range(rows)]
     return [first_ones([(node, STATES.get(answer.name, answer)) for node, answer in faults]) for faults in found]
 
 
 def faults_in_sqlite(case, values, row):
-    """The same of SQLite, which refuses nothing: a number that its type does not hold, or that is no integer, is an
-    overflow, and a null of two numbers a zero divisor."""
+    """The same for SQLite, which never fails: a number that its type does not hold, or that is no
+    integer, is an overflow, and a null of two numbers a zero divisor."""
     found = []
     for node in case.calculations:
         if any(values[operand][row] is None for operand in node.operands):
@@ -81,7 +75,7 @@ def faults_in_sqlite(case, values, row):
 
 def fault_names(case, table, faults):
     """The faults that a row may have in the tree that rules make: that of the first call that no rule drops, and those of the
-    calls before it. Where rules may drop all of them, the rules too, and else None."""
+    calls before it. If rules may drop all of them, the rules too, else None."""
     names, rules = [], []
     for node, _ in faults:
         names.append("Arithmetic." + ARITHMETIC[node.kind])
@@ -104,7 +98,7 @@ def ends_with_escape(pattern, escape):
 
 
 def has_lone_escape(case, table, row):
-    """Whether in a row a LIKE's pattern ends with its escape: PostgreSQL's own LIKE refuses that."""
+    """Whether in a row a LIKE's pattern ends with its escape: an error in PostgreSQL's own LIKE."""
     for node in case.tree.nodes():
         if node.kind in LIKES:
             pattern = node.operands[1]
@@ -126,14 +120,14 @@ def folds_past_ascii(case, table, row):
     return False
 
 
-# -- asking everyone -----------------------------------------------------------------------------------------------------
+# -- running everyone ------------------------------------------------------------------------------
 
 class Asker:
-    """Asks cases over one table of everyone, and compares what they answer."""
+    """Runs cases over one table with everyone, and compares the results."""
 
     def __init__(self, program, scripts, server, file, every=False):
         self.program, self.scripts, self.server, self.file = program, scripts, server, file
-        # whether each row is asked that PostgreSQL refuses
+        # whether to run each row that fails in PostgreSQL
         self.every = every
         self.counts, self.calls = Counter(dict.fromkeys(COUNTED, 0)), Counter()
 
@@ -143,7 +137,7 @@ class Asker:
         with_text = [case for case in cases if case.text is not None]
         ours = self.ask_program(with_text, table)
         theirs = self.ask_scripts(cases, table, ours)
-        # of a tree without a text rowfn alone is judged
+        # for a tree without a text only rowfn is judged
         found = {case.number: list(self.judge(case, table, asked, ours.get(case.number, theirs[case.number]["lines"]), theirs[case.number]))
                  for case in cases}
         for case, difference in [*self.explained_otherwise(with_text, table), *self.picked_otherwise(with_text, table, ours)]:
@@ -151,20 +145,21 @@ class Asker:
         return {number: differences for number, differences in found.items() if differences}
 
     def picked_otherwise(self, cases, table, ours):
-        """Whether --where takes other rows than those in which a text is true, as they are or with what the next text answers in
-        them. Asked of one in twenty, of those that are refused in no row."""
+        """Whether --where takes other rows than those in which a text is true, as they are or with
+        the results of the next text in them. Run for one in twenty of those that fail in no row."""
         calm = [(case, ours[case.number]) for case in cases if all(map(is_value, ours[case.number]))]
         for (case, answers), (other, others) in zip(calm, calm[1:] + calm[:1]):
             if case.number % 20 or case.tree.type != "bool":
                 continue
             self.counts["of those, rows picked by --where"] += 1
             true = [row for row, answer in enumerate(answers) if answer is True]
-            for who, picked in self.program.differ_in_picked(case.text, true, other.text, others, table):
-                yield case, Difference(0, who, true, picked)
+            for row, who, picked, wanted in self.program.differ_in_picked(case.text, true, other.text, others, table):
+                yield case, Difference(row, who, picked, wanted)
 
     def explained_otherwise(self, cases, table):
-        """The cases of which --explain tells another tree than rowfn shows, as it is written or as rules make it, or another type.
-        Asked where both have the columns' own names, and where no character of a literal stands in for another."""
+        """The cases for which --explain prints another tree than rowfn shows, as written or after
+        rules, or another type. Run where both have the columns' own names, and no character of a
+        literal replaces another."""
         def are_as_they_are(case):
             texts = [node.value for node in case.tree.nodes() if isinstance(node.value, str)]
             return all(text == text.translate(STANDS_IN) for text in texts)
@@ -203,17 +198,18 @@ class Asker:
 
     @staticmethod
     def parted(cases):
-        """Those that PostgreSQL refuses in no row, 25 together; and the others, each with these rows."""
+        """Those that fail in no row in PostgreSQL, 25 together; and the others, each with these
+        rows."""
         faulty = [(case, [row for row, faults in enumerate(case.faults) if faults]) for case in cases]
         calm = [case for case, rows in faulty if not rows]
         return [calm[begin:begin + 25] for begin in range(0, len(calm), 25)], [(case, rows) for case, rows in faulty if rows]
 
     def chosen(self, case, faulty):
-        """The rows that are asked alone, of those that PostgreSQL refuses."""
+        """The rows to run separately, of those that fail in PostgreSQL."""
         return faulty if self.every else [faulty[case.number % len(faulty)]]
 
     def ask_program(self, cases, table):
-        """What the program answers to each case by its text."""
+        """The program's result for each case by its text."""
         together, alone = self.parted(cases)
         found = {case.number: self.ask_around(table, case, faulty) for case, faulty in alone}
         for part in together:
@@ -233,19 +229,20 @@ class Asker:
             return [Fault(str(refused))] * len(table.rows)
 
     def ask_around(self, table, case, faulty):
-        """Asks for the whole table, of which the program answers the rows before one that it refuses; for the rows that
-        PostgreSQL does not refuse; and for one or each of those that it does, alone."""
+        """Runs the whole table, for which the program writes the rows before the first error; the
+        rows without an error in PostgreSQL; and one or each of those with one, separately."""
         calm, names = [row for row in range(len(table.rows)) if row not in faulty], {column.name for column in table.columns}
         found = self.ask_alone(table, case)
         for rows in [calm] * bool(calm) + [[row] for row in self.chosen(case, faulty) if row != faulty[0]]:
             for row, one in zip(rows, self.ask_alone(table.only(names, rows), case)):
-                # a row that was answered before is answered so again
+                # a row has the same result as before
                 found[row] = one if found[row] in (NOT_ASKED, one) else Fault(f"{found[row]}, and then {one}")
         return found
 
     def ask_scripts(self, cases, table, ours):
-        """The results of rowfn for each case, as its tree is written and as rules make it: of those that PostgreSQL refuses in no row
-        together; of the others in these rows, in those where the program has dropped a fault, and in one or each of the rest."""
+        """The results of rowfn for each case, its tree as written and after rules: those without an
+        error in PostgreSQL together; the others in these rows, in those where the program has
+        dropped a fault, and in one or each of the rest."""
         together, alone = self.parted(cases)
         found = {case.number: {way: [NOT_ASKED] * len(table.rows) for way in WAYS} for case in cases}
         for part in together:
@@ -298,8 +295,8 @@ class Asker:
                 self.counts[f"rows answered: {name}"] += 1
 
     def beside_lines(self, case, ours, theirs):
-        """rowfn runs the tree as it is written: where PostgreSQL refuses a call, it has the fault of the first one, and elsewhere the
-        program's value."""
+        """rowfn runs the tree as written: where a call fails in PostgreSQL, it has the fault of the
+        first one, and elsewhere the program's value."""
         for row, (faults, one, other) in enumerate(zip(case.faults, ours, theirs)):
             wanted = Fault("Arithmetic." + ARITHMETIC[faults[0][0].kind]) if faults else one
             if NOT_ASKED not in (wanted, other):
@@ -308,7 +305,7 @@ class Asker:
                     yield Difference(row, "rowfn, by lines", wanted, other)
 
     def beside_rules(self, ours, theirs):
-        """The program runs what rules make of a tree, as rowfn does after `optimize`."""
+        """The program runs the tree after rules, as rowfn does after `optimize`."""
         for row, (one, other) in enumerate(zip(ours, theirs)):
             if NOT_ASKED not in (one, other) and one != other:
                 yield Difference(row, "rowfn, by lines and rules", one, other)
@@ -347,10 +344,10 @@ class Asker:
         return answer.name in names
 
     def is_same(self, case, table, row, answer, theirs, faults, as_it_stands):
-        """Whether PostgreSQL answers a row alike: of the text as it stands with its own LIKE and ILIKE, else with those that
-        `whole` and `folded` make like ours."""
+        """Whether PostgreSQL has the same result in a row: for the unchanged text with its own LIKE
+        and ILIKE, else with those that `whole` and `folded` make like ours."""
         if faults:
-            # a fault next to what decides, or next to a null, is not met by PostgreSQL
+            # PostgreSQL does not evaluate a fault next to what decides, or next to a null
             if not isinstance(theirs, Fault):
                 self.counts["on purpose: a fault that PostgreSQL passes over"] += 1
             return not isinstance(theirs, Fault) or theirs.name in STATES or theirs.name == "22025"

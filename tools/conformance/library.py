@@ -1,10 +1,11 @@
-"""The C library in the place of the program: asked in this process, by the Python package of bindings/python."""
+"""The C library instead of the program: called in this process, by the Python package of
+bindings/python."""
 import os
 import sys
 
 from engines import NOT_ASKED, TOP, Fault, Missing, Program, Refused, Told
 
-# what the library says of a refusal, by the name that the program has for it
+# the library's error, by the name that the program has for it
 FAULTS = {"checked add": "Arithmetic.Add", "checked sub": "Arithmetic.Sub", "checked mul": "Arithmetic.Mul", "checked div": "Arithmetic.Div"}
 
 
@@ -16,7 +17,7 @@ def as_csv(value):
 
 
 class Library(Program):
-    """Expressions of the library over the columns of a table, which stand in no file."""
+    """Expressions of the library over the columns of a table, without a file."""
 
     def __init__(self, prefix):
         os.environ["YURKIJE_PREFIX"] = os.path.abspath(prefix)
@@ -57,21 +58,24 @@ class Library(Program):
         return [list(map(as_csv, column)) if name == "utf8" else column for name, column in zip(types, found)]
 
     def differ_in_picked(self, condition, true, other, values, table):
-        """How select takes other rows than the true ones, and another text answers otherwise in these."""
+        """How select returns other rows than the true ones, and where another text differs in
+        these."""
         try:
             numbers = self.read([condition], table).select(self.columns(table, None), rows=len(table.rows)).tolist()
             rows = table.only({column.name for column in table.columns}, numbers)
             found = self.ran(self.read([other], rows), rows, len(rows.rows))[0]
         except (Refused, self.module.Error) as refusal:
-            yield "select, and not", refusal
+            yield 0, "the rows in which the text is true, by select", refusal, true
             return
+        wanted = [values[row] for row in true]
         if numbers != true:
-            yield "select takes other rows than", numbers
-        elif found != [values[row] for row in true]:
-            yield f"in the rows that select takes, {other!r} answers otherwise than", found
+            yield 0, "the rows in which the text is true, by select", numbers, true
+        elif found != wanted:
+            yield 0, f"what {other!r} answers in the whole table, beside that in the rows of select", found, wanted
 
     def explained(self, texts, table):
-        """The text and the type of each answer, as it is read and as it is run. The library does not print trees otherwise."""
+        """The text and the type of each answer, as read and as run. The library does not print
+        trees otherwise."""
         expression = self.read(texts, table)
         by_rules = [expression.text_of_answer(number, True) for number in range(len(texts))]
         return [Told(expression.text_of_answer(number, False), None, answer.type, text, None, answer.type)

@@ -6,7 +6,7 @@ from trees import BETWEEN, COMPARISONS, JOINTS, TESTS
 DECIDED = "a constant decides and, or (reduce_boolean, simplify_boolean)"
 TESTED = "a null test reads no value (reduce_is_null, reduce_is_not_null)"
 NULL = "a comparison with the literal null (simplify_comparison)"
-# of a tree that is no constant
+# for a tree that is no constant
 UNKNOWN = ...
 
 
@@ -24,7 +24,7 @@ def is_nullable(node, table):
 
 
 def validity(node, table):
-    """Whether rules make of `node is not null` that constant."""
+    """Whether rules make that constant of `node is not null`."""
     if not is_nullable(node, table):
         return True
     if node.kind == "literal":
@@ -64,14 +64,14 @@ def is_dropped_by_test(node, call, table):
         return False
     if node.kind in JOINTS:
         other = next(one for one in node.operands if one is not inner)
-        # a constant goes before the test does, else the test goes on in the one operand that has null
+        # a constant is used before the test, else the test continues in the one nullable operand
         if constant(other, table) is UNKNOWN and is_nullable(other, table) >= is_nullable(inner, table):
             return False
     return is_dropped_by_test(inner, call, table)
 
 
 def rule_that_drops(tree, call, table):
-    """The first rule, from the tree downward, that may drop a call of it; None where no rule does."""
+    """The first rule, from the tree downward, that may drop a call of it; None if no rule does."""
     node = tree
     while node is not call:
         inner = next(one for one in node.operands if holds(one, call))

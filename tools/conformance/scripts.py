@@ -1,4 +1,4 @@
-"""rowfn over a table: a tree as lines of a script, as it is written and as rules make it."""
+"""rowfn over a table: a tree as lines of a script, as written and after rules."""
 import os
 import re
 import subprocess
@@ -7,19 +7,20 @@ from engines import TOP, Fault, Missing, Refused, value_of
 from spelling import BACK, cell, lines
 
 ROWFN = os.environ.get("ROWFN", TOP + "/crates/rowfn/out/rowfn")
-# how a tree is run: as it is written, and as rules make it
+# how a tree is run: as written, and after rules
 WAYS = {"lines": ["run"], "optimized": ["optimize", "run"]}
 
 
 def line_names(table):
-    """The names of the columns in a script: their own, or c0, c1 and so on where one is no word there."""
+    """The names of the columns in a script: their own, or c0, c1 and so on if one is no word
+    there."""
     names = [column.name for column in table.columns]
     are_words = all(re.fullmatch(r"\w+", name, re.ASCII) for name in names)
     return {name: name if are_words else f"c{place}" for place, name in enumerate(names)}
 
 
 def cells_of(line, tree, count):
-    """The values that `run` printed for a tree over so many rows."""
+    """The values that `run` printed for a tree over that many rows."""
     name, _, rest = line.partition(":")
     cells = re.findall(r'"[^"]*"|[^ ]+', rest)
     if name.rstrip("?") != tree.type or len(cells) != count:
@@ -29,7 +30,7 @@ def cells_of(line, tree, count):
 
 
 class Scripts:
-    """rowfn, asked by scripts."""
+    """rowfn, run with scripts."""
 
     def __init__(self, path=ROWFN):
         self.path, self.runs = path, 0
@@ -50,7 +51,8 @@ class Scripts:
         return ran.stdout.decode().split("\n")[:-1], fault and Fault(fault[1])
 
     def answers(self, trees, table, ways=tuple(WAYS)):
-        """The values of each tree in each row, by each of these ways; or the fault that ends the script, in each row."""
+        """The values of each tree in each row, by each of these lines; or the fault that ends the
+        script, in each row."""
         names, count = line_names(table), len(table.rows)
         said = [line for tree in trees for line in [*lines(tree, names), *(word for way in ways for word in WAYS[way])]]
         printed, fault = self.printed(table, said)
@@ -60,7 +62,7 @@ class Scripts:
         return found + [[fault or Fault("not run")] * count] * (len(asked) - len(found))
 
     def shown(self, trees, table):
-        """How each tree prints itself, as it is written and as rules make it."""
+        """How each tree is printed, as written and after rules."""
         names, empty = line_names(table), type(table)(table.columns, [])
         said = [line for tree in trees for line in [*lines(tree, names), "show", "optimize", "show"]]
         printed = [line for line in self.printed(empty, said)[0] if not line.startswith("steps ")]

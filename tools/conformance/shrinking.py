@@ -3,7 +3,8 @@ from judging import Case
 
 
 def smaller_trees(tree):
-    """Trees like this one with less in them, the smallest first: a part of it, or a part in the place of a larger one."""
+    """Trees like this one with less in them, the smallest first: a part of it, or a part instead of
+    a larger one."""
     for operand in tree.operands:
         yield operand
     for place, operand in enumerate(tree.operands):
@@ -30,8 +31,8 @@ def with_operand(tree, place, operand):
 
 
 def shrunk(ask, tree, table, write):
-    """A smaller tree over one row of a table that still differs, and that table. `ask` answers the differences of a case,
-    `write` the text of a tree."""
+    """A smaller tree over one row of a table that still differs, and that table. `ask` returns the
+    differences of a case, `write` the text of a tree."""
     def differs(tree, table):
         found = ask(Case(0, tree, write(tree)), table)
         return min((one.row for one in found), default=None)
@@ -41,7 +42,7 @@ def shrunk(ask, tree, table, write):
     if len(table.rows) > 100:
         alone = table.only(tree.columns() or {table.columns[0].name}, [row])
         if differs(tree, alone) is None:
-            # what differs rests on the rows before it, and to ask all of them takes long
+            # the difference depends on the rows before it, and running all of them takes long
             return tree, table
         table = alone
     for steps in range(400):

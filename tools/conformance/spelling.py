@@ -9,7 +9,8 @@ BARE_LEVEL = 9
 
 
 def literal_types(kind, operands, forms):
-    """The types that the bare literals among these operands take; None for a null that has none."""
+    """The types that the bare literals among these operands take; None for a null without a
+    type."""
     def own(node):
         return None if node.value is None else "i64" if node.type in INTEGERS else node.type
     is_bare = [node.kind == "literal" and form == "bare" for node, form in zip(operands, forms)]
@@ -31,7 +32,8 @@ def literal_types(kind, operands, forms):
 
 
 def literal_forms(kind, operands):
-    """How each operand is written that is a literal: as its form says, and with its type where it would take another."""
+    """How each literal operand is written: in its form, and with its type if it would take
+    another."""
     forms = [node.form for node in operands]
     while True:
         wrong = [place for place, (node, name) in enumerate(zip(operands, literal_types(kind, operands, forms))) if node.type != name]
@@ -45,7 +47,7 @@ def quoted(text, quote):
 
 
 class Plain:
-    """One way to write an expression: no bracket that is not needed, one blank between two tokens."""
+    """One way to write an expression: only needed brackets, one blank between two tokens."""
 
     def keyword(self, word):
         return word
@@ -64,7 +66,7 @@ class Plain:
 
 
 class Noisy(Plain):
-    """A random way: brackets, cases, blanks, comments and quotes that mean nothing."""
+    """A random way: brackets, cases, blanks, comments and quotes without meaning."""
 
     def __init__(self, rng, brackets):
         self.rng, self.brackets = rng, brackets
@@ -88,7 +90,7 @@ class Noisy(Plain):
 
 
 def may_touch(left, right):
-    """Whether two tokens stay two where nothing stands between them, for PostgreSQL too."""
+    """Whether two tokens stay two without anything between them, in PostgreSQL too."""
     word = r"[A-Za-z0-9_?]"
     if re.search(word + "$", left) and re.match(word, right):
         return False
@@ -107,7 +109,7 @@ class Text:
         self.style, self.tokens = style, []
 
     def text(self, tree):
-        # PostgreSQL makes a name in no quotes small
+        # PostgreSQL lower-cases a name without quotes
         self.are_names_small = is_unchanged(tree)
         self.tree(tree, literal_forms("", (tree,))[0] if tree.kind == "literal" else "", 0)
         return self.joined()
@@ -183,15 +185,16 @@ class Text:
 
 
 def is_unchanged(tree):
-    """Whether PostgreSQL reads a tree's text as it stands: over columns of the types i16, i32 and i64 under these names,
-    where no word of a type has a question mark, no cast is asked, and each number is of the size that PostgreSQL gives it."""
+    """Whether PostgreSQL reads a tree's text unchanged: over columns of the types i16, i32 and i64
+    under these names, where no word of a type has a question mark, there is no cast, and each
+    number has the size that PostgreSQL gives it."""
     def literal(kind, operands, place, form):
         node = operands[place]
         if form == "nullable":
             return False
         if node.type not in INTEGERS or node.value is None:
             return True
-        # a minus sign stands before a number of PostgreSQL, whatever type it has
+        # a minus sign comes before a number of PostgreSQL, whatever type it has
         if node.value == INTEGERS[node.type][0]:
             return False
         if form != "bare" or node.type == "i32":
@@ -214,8 +217,8 @@ def is_unchanged(tree):
     return node_is("", (tree,), 0, forms[0])
 
 
-# A text of a script has no quote and no end of a line. Other characters stand in for them, in columns and literals alike: no text
-# here has \v or $, and the order of texts stays.
+# A text of a script has no quote and no end of a line. Other characters replace them, in columns
+# and literals alike: no text here has \v or $, and the order of texts is the same.
 STANDS_IN = str.maketrans('\n"#', "\v#$")
 BACK = str.maketrans("\v#$", '\n"#')
 
@@ -243,7 +246,7 @@ def cell(value):
     return f'"{value.translate(STANDS_IN)}"' if isinstance(value, str) else str(value)
 
 
-# PostgreSQL: our types are domains over its own, whose CHECK refuses what they do not hold.
+# PostgreSQL: our types are domains over its own, with a CHECK for their range.
 POSTGRESQL_TYPES = {
     "i8": "smallint", "i16": "smallint", "i32": "integer", "i64": "bigint",
     "u8": "smallint", "u16": "integer", "u32": "bigint", "u64": "numeric(20, 0)",
@@ -257,7 +260,8 @@ def postgresql_domains():
         checked = "" if name in WHOLE_IN_POSTGRESQL else f" CHECK (VALUE BETWEEN {low} AND {high})"
         yield f"CREATE DOMAIN {name} AS {base}{checked};"
     yield 'CREATE DOMAIN utf8 AS text COLLATE "C";'
-    # ILIKE past ASCII, and a pattern that ends in its escape, as the program has them: see `folded` and `whole`
+    # ILIKE past ASCII, and a pattern that ends in its escape, as in the program: see `folded` and
+    # `whole`
     others = "".join(letter for letter, first in FOLDED.items() if letter != first)
     firsts = "".join(FOLDED[letter] for letter in others)
     yield f"CREATE FUNCTION folded(text) RETURNS text LANGUAGE sql IMMUTABLE AS $$ SELECT lower(translate($1, '{others}', '{firsts}')) $$;"
@@ -266,7 +270,8 @@ def postgresql_domains():
 
 
 def whole(pattern, escape):
-    """A pattern whose last escape, if it escapes nothing, is doubled, so that it stands for itself as it does here."""
+    """A pattern whose last escape, if it escapes nothing, is doubled, so that it is an ordinary
+    character, as here."""
     alone = pattern is not None and escape and (len(pattern) - len(pattern.rstrip(escape))) % 2
     return pattern + escape if alone else pattern
 
@@ -278,7 +283,8 @@ def sql_literal(value):
 
 
 def sql(node, leaf, calculated, liked, cast):
-    """A tree in SQL with each bracket, by what an engine writes for leaves, arithmetic, LIKE and casts."""
+    """A tree in SQL with all brackets, from what an engine writes for leaves, arithmetic, LIKE and
+    casts."""
     if node.kind in ("column", "literal"):
         return leaf(node)
     operands = [sql(operand, leaf, calculated, liked, cast) for operand in node.operands]
@@ -320,7 +326,8 @@ def postgresql(node):
 
 
 def is_in_sqlite(tree):
-    """Whether SQLite can be asked: it has no integers past 63 bits, and no ILIKE whose escape is a letter."""
+    """Whether SQLite can run it: it has no integers past 63 bits, and no ILIKE whose escape is a
+    letter."""
     return all(node.type != "u64" and not ("ilike" in node.kind and (node.value or "").isalpha()) for node in tree.nodes())
 
 
@@ -331,7 +338,7 @@ def sqlite(node):
     def calculated(node, left, right):
         return f"({left} {node.kind} {right})"
 
-    # LIKE looks at case by a setting of the connection, and no escape is the default
+    # LIKE is case-sensitive by a setting of the connection, and no escape is the default
     def liked(node, text, pattern):
         chosen = "\\" if node.value is None else node.value
         escape = f" ESCAPE {quoted(chosen, chr(39))}" if chosen else ""

@@ -94,7 +94,7 @@ def layout_of(rng, shape):
         is_numbered=shape == "numbered",
         nulls=rng.choice((("", "NA"), ("NA", ""), ("\\N", "NA", ""), ("null", "-"))) if has("nulls") else ("",),
         comment=rng.choice([byte for byte in "#;%!/" if byte not in (delimiter, output_delimiter)]) if has("comments") else "",
-        # where a record is short or long, the first rows may end, from which types are taken
+        # if a record is short or long, the first rows, which determine types, may end
         ragged=shape not in ("inferred", "numbered") and has("ragged"),
         delimiter=delimiter,
         output_delimiter=output_delimiter)
@@ -109,12 +109,13 @@ def shaped_column(rng, column, place, values, shape):
     is_taken = shape in ("inferred", "numbered") and column.type in ("bool", "i64", "utf8") and rng.random() < 0.6
     if not is_taken or type_of_fields(values) != column.type:
         return column
-    # whether it has nulls is taken from the fields too
+    # whether it has nulls is determined by the fields too
     return replace(column, nullable=None in values, is_declared=False)
 
 
 def with_shape(rng, columns, rows, shape):
-    """A table of these columns and rows, as the program gets it. Some texts are spelled as null is, in quotes."""
+    """A table of these columns and rows, as the program gets it. Some texts are spelled like null,
+    in quotes."""
     layout = layout_of(rng, shape)
     if layout.nulls != ("",):
         rows = [tuple(rng.choice(layout.nulls) if isinstance(value, str) and rng.random() < 0.05 else value for value in row)

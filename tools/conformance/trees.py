@@ -8,7 +8,7 @@ JOINTS = ["and", "or"]
 COMPARISONS = ["=", "<>", "<", "<=", ">", ">="]
 ARITHMETIC = {"+": "Add", "-": "Sub", "*": "Mul", "/": "Div"}
 BETWEEN = ["between", "not between"]
-# bounds of a BETWEEN that no text has: the lower one, the upper one or both are outside
+# bounds of a BETWEEN that no text has: the lower one, the upper one or both are strict
 OUTSIDE = ["< <", "< <=", "<= <"]
 LIKES = ["like", "not like", "ilike", "not ilike"]
 TESTS = ["is null", "is not null"]
@@ -27,13 +27,14 @@ class Node:
     form: str = "bare"
 
     def nodes(self):
-        """The nodes from the leaves upward and from left to right: the order in which faults are told."""
+        """The nodes from the leaves upward and from left to right: the order in which faults are
+        reported."""
         for operand in self.operands:
             yield from operand.nodes()
         yield self
 
     def has_text(self):
-        """Whether a text says the tree: else rowfn alone is asked."""
+        """Whether the tree has a text: else only rowfn runs it."""
         return not any(node.kind in BETWEEN and node.value for node in self.nodes())
 
     def columns(self):
@@ -43,20 +44,20 @@ class Node:
 # Letters of ASCII, letters without case, signs of patterns, and what CSV and SQL quote.
 LETTERS = list("aabbABxyZ")
 OTHERS = list("%_\\!'\", \n\r\t-;#.0") + ["日", "€", "￥", "😀", "é"]
-# Letters past ASCII that ILIKE takes for one another, a word each: of two bytes, three and four, of three forms, and of which
-# one is of ASCII.
+# Letters past ASCII that ILIKE treats as equal, a word each: of two bytes, three and four, of three
+# forms, and of which one is of ASCII.
 CASES = ["éÉ", "äÄ", "ñÑ", "čČ", "żŻ", "яЯ", "жЖ", "ωΩ\u2126", "σΣς", "µμΜ", "ßẞ", "ǆǅǄ", "ⅷⅧ", "ꭰᎠ", "𐐨𐐀", "sSſ", "kK\u212a", "åÅ\u212b"]
 FOLDED = {letter: word[0] for word in CASES for letter in word}
 WORDS = [*"ab %_\\'\",!", "ab", "Ba", "xyz", "żółw", "ЖУК", "жук", "Straße", "日本", "😀", "\r", "\r\n", "\n", "0123456789", "Kelvin", *map("".join, CASES)]
 
 
 def folded(text):
-    """A text with each letter replaced by the first of those that ILIKE takes for it."""
+    """A text with each letter replaced by the first of those that ILIKE treats as equal."""
     return "".join(FOLDED.get(letter, letter.lower() if letter.isascii() else letter) for letter in text)
 
 
 def other_case(rng, letter):
-    """A letter that ILIKE takes for this one, or this one."""
+    """A letter that ILIKE treats as equal to this one, or this one."""
     if letter in FOLDED:
         return rng.choice([other for other, first in FOLDED.items() if first == FOLDED[letter]])
     return letter.swapcase() if letter.isascii() else letter
@@ -86,7 +87,8 @@ def random_pattern(rng):
 
 
 def pattern_of(rng, text, escape):
-    """A pattern that matches a text, or nearly: signs in the place of characters, other cases, and the escape before signs."""
+    """A pattern that matches a text, or nearly: wildcards for characters, other cases, and the
+    escape before wildcards."""
     pattern, often = "", min(0.15, 3 / max(1, len(text)))
     for letter in text:
         chance = rng.random() / often
@@ -129,7 +131,7 @@ def large_table(rng, shape):
     rng.shuffle(columns)
     empty = {column.name for column in columns if column.nullable and column.name not in ("pattern", "utf8_a") and rng.random() < 0.2}
     texts = [long_text(rng) for _ in range(15)] + [random_text(rng) for _ in range(15)] + ["ω", "aω"]
-    # some that differ in cases alone, and some at their ends
+    # some that differ only in case, and some at their ends
     texts += ["".join(other_case(rng, letter) if rng.random() < 0.3 else letter for letter in text) for text in texts]
     texts += [text + rng.choice("abé") for text in texts[:15]]
     patterns = [pattern_of(rng, rng.choice(texts), "\\") for _ in range(40)] + [random_pattern(rng) for _ in range(10)]
@@ -181,7 +183,7 @@ def random_table(rng, rows, small=False, shape="declared"):
     return with_shape(rng, columns, [row() for _ in range(rows)], shape)
 
 
-# The levels of the language, and those that the operands of each node have at least.
+# The levels of the language, and the least levels of the operands of each node.
 LEVEL = {"or": 0, "and": 1, "not": 2, **dict.fromkeys(TESTS, 3), **dict.fromkeys(COMPARISONS, 4),
          **dict.fromkeys(BETWEEN + LIKES, 5), "+": 6, "-": 6, "*": 7, "/": 7, "cast": 8, "column": 8, "literal": 8}
 OPERANDS = {"or": (0, 1), "and": (1, 2), "not": (2,), **dict.fromkeys(TESTS, (3,)), **dict.fromkeys(COMPARISONS, (5, 5)),
@@ -191,12 +193,13 @@ LEAF = 8
 
 
 class Maker:
-    """Makes random trees over a table. `flat` trees need no brackets, and have only what PostgreSQL reads as it stands."""
+    """Makes random trees over a table. `flat` trees need no brackets, and have only what PostgreSQL
+    reads unchanged."""
 
     def __init__(self, rng, table, flat, small=False):
         self.rng, self.table, self.flat = rng, table, flat
         self.edges = None if small else 0.1
-        # a flat tree calculates in one type, so that no literal stands between two
+        # a flat tree calculates in one type, so no literal is between two
         self.types = [rng.choice(("i16", "i32", "i64", "i64"))] if flat else list(INTEGERS)
 
     def tree(self, size):
@@ -205,7 +208,7 @@ class Maker:
         return self.truth(0, size)
 
     def of_texts(self):
-        """A LIKE or a comparison of texts alone."""
+        """Only a LIKE or a comparison of texts."""
         word = self.rng.choice(LIKES * 3 + COMPARISONS)
         columns = [Node("column", "utf8", (), column.name) for column in self.table.columns if column.type == "utf8"]
         if word not in LIKES:
@@ -217,7 +220,8 @@ class Maker:
         return Node(word, "bool", self.matched(escape), escape)
 
     def truth(self, level, size):
-        """A truth value that needs no brackets at a level, or in trees that are not flat one that does."""
+        """A truth value that needs no brackets at a level, or in trees that are not flat one that
+        does."""
         rng = self.rng
         if size <= 1 or rng.random() < 0.06:
             return self.leaf("bool")
@@ -270,7 +274,7 @@ class Maker:
         return Node(word, name, tuple(self.integer(name, *one) for one in zip(OPERANDS[word], sizes)))
 
     def shares(self, size, count):
-        """How much of a size each of so many operands gets."""
+        """The share of a size for each of that many operands."""
         cuts = sorted(self.rng.randint(0, size) for _ in range(count - 1))
         return [max(1, high - low) for low, high in zip([0, *cuts], [*cuts, size])]
 

@@ -1,11 +1,12 @@
-# What the scripts share: where the program is, the rows, and what it answers over the whole file. Read by `.`, not run.
+# Shared by the scripts: the program, the rows, and its output over the whole file. Source it with
+# `.`; do not run it.
 set -eu
 here=$(cd "$(dirname "$0")" && pwd)
 count=${ROWS:-100000}
 scratch=$(mktemp -d /tmp/rowfn_engines.XXXXXX)
 chmod 755 "$scratch"
 
-# Whatever ends the script, what it started ends too: a script that starts something says in `stop` how that ends.
+# However the script ends, it stops what it started: a script that starts something defines `stop`.
 stop() { :; }
 finish() {
     status=$?
@@ -28,7 +29,7 @@ fi
 cp "$program" "$scratch/rowfn_stream"
 chmod 755 "$scratch/rowfn_stream"
 
-# what is asked of the rows, and the columns that it reads
+# the expression over the rows, and the columns that it reads
 expression="(a + b < 100 and s like '%nitr%') or a is null as wanted"
 columns='a i64?, b i64?, s utf8'
 
@@ -45,7 +46,7 @@ needs() {
     done
 }
 
-# whether an engine's answer is that over the whole file; both stay where they differ
+# whether an engine's output is that over the whole file; both are kept if they differ
 compare() {
     if cmp -s "$1" "$scratch/whole.csv"; then
         echo "$2: the same as over the whole file, $(wc -l < "$1") lines"

@@ -1,4 +1,5 @@
-"""Arrow's capsules: what Yurkije hands out it takes again, and what GDAL makes, which nobody here wrote."""
+"""Arrow's capsules: what Yurkije exports it can import again, and so are GDAL's, an independent
+producer."""
 import ctypes
 import gc
 import os
@@ -18,7 +19,7 @@ except ImportError:
 
 
 class Child:
-    """One column of a batch that `evaluate` answered, as an array of its own."""
+    """One column of a batch from `evaluate`, as a separate array."""
 
     def __init__(self, answers, number):
         self.answers, self.number = answers, number
@@ -76,7 +77,7 @@ class Capsules(unittest.TestCase):
 class Layer:
     """A layer of GDAL as an object of Arrow's protocol: GDAL 3.6 has the stream and no capsules."""
 
-    # Whoever took a stream calls its functions after this object is gone.
+    # The caller that took a stream calls its functions after this object is gone.
     kept = []
 
     def __init__(self, layer):
@@ -86,7 +87,7 @@ class Layer:
         kinds = dict(capsules.ArrowArrayStream._fields_)
 
         def give(made, to):
-            # what GDAL made is moved out of the object that holds it
+            # what GDAL made is moved out of its owner
             source = type(to.contents).from_address(int(made._getPtr()))
             ctypes.memmove(to, ctypes.byref(source), ctypes.sizeof(source))
             source.release = type(source.release)()

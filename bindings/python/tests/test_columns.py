@@ -1,4 +1,4 @@
-"""Columns in and answers out, beside numpy, pandas, and values by hand."""
+"""Columns in and answers out, compared with numpy, pandas, and values by hand."""
 import pickle
 import unittest
 
@@ -85,7 +85,7 @@ class Numpy(unittest.TestCase):
             wanted = mask("a > 1 and a < 4", given)
             self.assertEqual((wanted.dtype, wanted.tolist()), (np.dtype(bool), [False, False, True, False]))
             np.testing.assert_array_equal(select("a > 1 and a < 4", given), np.flatnonzero(wanted))
-            # null is not true, and neither is what is not so
+            # null is not true, and neither is its negation
             self.assertEqual(mask("not a > 1", given).tolist(), [True, False, False, False])
         self.assertEqual(mask("true", {"a": [5, 6]}).tolist(), [True, True])
         rng = np.random.default_rng(4)
@@ -124,7 +124,7 @@ class Numpy(unittest.TestCase):
         made = Expression('"7" > 1', {7: "i64"})
         self.assertEqual(made.columns, {"7": "i64"})
         self.assertEqual(made.select({7: [1, 2]}).tolist(), [1])
-        # the label that is the very text comes first
+        # the label that equals the text comes first
         self.assertEqual(select('"7" > 1', {7: [1, 2], "7": [2, 1]}).tolist(), [0])
 
     def test_types_may_be_numpys(self):

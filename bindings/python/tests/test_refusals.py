@@ -1,4 +1,4 @@
-"""Refusals: exceptions with number, name, column and row."""
+"""Errors: exceptions with number, name, column and row."""
 import os
 import re
 import unittest
@@ -7,13 +7,13 @@ import numpy as np
 from yurkije import ArithmeticRefusal, ColumnError, Error, Expression, ExpressionError, evaluate, mask, select
 from yurkije._library import STATUSES
 
-# The headers as they were installed, or as they stand beside this package.
+# The installed headers, or those next to this package.
 HEADERS = f"{os.environ['YURKIJE_PREFIX']}/include" if "YURKIJE_PREFIX" in os.environ else f"{os.path.dirname(__file__)}/../../c"
 
 
 class Refusals(unittest.TestCase):
     def refused(self, kind, call, **told):
-        """Asks for a refusal of that class, which tells what is said."""
+        """Expects an error of that class, whose message contains these words."""
         with self.assertRaises(kind) as caught:
             call()
         for name, value in told.items():
@@ -39,12 +39,12 @@ class Refusals(unittest.TestCase):
                 self.refused(ExpressionError, lambda: ask("a is null or null = null", columns), number=115)
                 self.refused(ExpressionError, lambda: ask("a is null or 300::u8 = 1", columns), number=114)
                 self.refused(ExpressionError, lambda: ask("a is null or 3::float = 1", columns), number=113)
-        # where the text may be right, the column is told
+        # if the text may be right, the column is reported
         self.refused(ColumnError, lambda: select("a + 1 > 2 and f = 'x'", {"f": floats, "a": floats}), number=140, column="f")
         self.refused(ColumnError, lambda: select("a = 1", {"f": floats, "a": [1.5]}), number=140, column="a")
         self.refused(ExpressionError, lambda: Expression("a == 1", {"a": "int", "f": "float"}), number=112)
         self.refused(ExpressionError, lambda: Expression("a = 1", {"a": "int", "f": "float"}), number=113, column="a")
-        # a near name is one of all columns, whatever their types
+        # a near name may be that of any column, whatever its type
         error = self.refused(ExpressionError, lambda: select("prcie > 1", {"price": floats}), number=11)
         self.assertIn('is "price" meant?', error.message)
         self.refused(ExpressionError, lambda: select("a + 1 > 'x'", {"a": [1], "f": floats}), number=3)

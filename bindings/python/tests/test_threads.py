@@ -1,4 +1,4 @@
-"""Threads share an expression, each with a handle of its own."""
+"""Threads share an expression, each with its own handle."""
 import threading
 import unittest
 

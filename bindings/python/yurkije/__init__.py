@@ -9,8 +9,9 @@ array([1])
 >>> yurkije.mask("price > 10 and name like 'b%'", goods)
 array([False,  True])
 
-Expression is a text that is read once and run over many batches. SQL's three-valued logic, checked arithmetic, BETWEEN and
-LIKE are as docs/EXPRESSIONS.md says. A refusal is an exception with its number, name, column and row.
+An Expression is a text that is read once and run over many batches. SQL's three-valued logic,
+checked arithmetic, BETWEEN and LIKE are as docs/EXPRESSIONS.md says. An error is an exception with
+its number, name, column and row.
 """
 from ._answers import Answer, Answers
 from ._errors import ArithmeticRefusal, ColumnError, Error, ExpressionError, OutOfMemory

@@ -14,7 +14,7 @@ from ._library import lib
 
 
 class Answer(NamedTuple):
-    """The name of an answer, and its type, with a question mark where a row may be null."""
+    """The name of an answer, and its type, with a question mark if a row may be null."""
 
     name: str
     type: str
@@ -46,7 +46,7 @@ class Held:
 
 
 def _texts(offsets: Any, data: bytes, is_text: bool, nulls: Any) -> Any:
-    """Returns texts, or byte strings, as an array of objects, with None where one is null."""
+    """Returns texts, or byte strings, as an array of objects, with None for null."""
     ends = offsets.tolist()
     whole: Union[str, bytes] = data
     if is_text and data.isascii():
@@ -70,8 +70,8 @@ if TYPE_CHECKING:
 else:
 
     class _Columns(Mapping, dict):
-        """A mapping that is read alone, and passes for a dict: pandas makes frames of these by their names, and of no others.
-        The dict within stays empty, so whatever would read or change it goes by the names and columns."""
+        """A read-only mapping that is a dict: pandas makes frames only from dicts, by their names.
+        The inner dict stays empty: all reads and changes use the names and columns."""
 
         __setitem__ = __delitem__ = __ior__ = clear = pop = popitem = setdefault = update = _no_change
 
@@ -86,15 +86,15 @@ else:
 
 
 class Answers(_Columns):
-    """What an expression answers over a batch: columns by their names, in the order in which they were asked for.
+    """The answers of an expression over a batch: columns by name, in the order of the text.
 
-    `answers["worth"]` is a numpy array: of bool or a whole-number type, a masked one where the answer may be null; of
-    objects for texts and byte strings, with None where one is null. Where two answers have one name the first has it;
-    `column(1)` takes them by number. An object with `__arrow_c_array__`: other libraries take the answers as one struct
-    array, over the same memory.
+    `answers["worth"]` is a numpy array: of bool or a whole-number type, a masked one if the answer
+    may be null; of objects for texts and byte strings, with None for null. If two answers have one
+    name it gives the first; `column(1)` takes them by number. An object with `__arrow_c_array__`:
+    other libraries can take the answers as one struct array, over the same memory.
 
-    `pandas.DataFrame(answers)` has the answers, as pandas reads masked arrays: whole numbers beside a null become floats
-    there, and past 2**53 round. `to_pandas()` keeps the types.
+    `pandas.DataFrame(answers)` has the answers, as pandas reads masked arrays: whole numbers with
+    nulls become floats there, and past 2**53 are rounded. `to_pandas()` keeps the types.
     """
 
     def __init__(self, answers: tuple[Answer, ...], held: Held, schema: Any) -> None:
@@ -143,8 +143,9 @@ class Answers(_Columns):
         return values
 
     def to_pandas(self) -> Any:
-        """Returns the answers as a frame of pandas, each under its name: whole numbers and truth values that may be null are
-        of pandas' types with null, as Int64 and boolean, and texts are objects with None."""
+        """Returns the answers as a frame of pandas, by name: whole numbers and truth values that
+        may be null have pandas' nullable types, as Int64 and boolean, and texts are objects with
+        None."""
         pandas = importlib.import_module("pandas")
         columns = {number: self._for_pandas(pandas, self.column(number)) for number in range(len(self.answers))}
         frame = pandas.DataFrame(columns, index=range(self.rows))
@@ -153,14 +154,15 @@ class Answers(_Columns):
 
     @staticmethod
     def _for_pandas(pandas: Any, values: Any) -> Any:
-        """Returns a column as an array that pandas takes as it is."""
+        """Returns a column as an array that pandas takes unchanged."""
         if not isinstance(values, np.ma.MaskedArray):
             return values
         made = pandas.arrays.BooleanArray if values.dtype == np.bool_ else pandas.arrays.IntegerArray
         return made(values.data.copy(), np.ma.getmaskarray(values).copy())
 
     def __arrow_c_array__(self, requested_schema: object = None) -> tuple[object, object]:
-        """Returns the answers as the capsules of a struct array; `requested_schema` is passed over, as Arrow allows."""
+        """Returns the answers as the capsules of a struct array; `requested_schema` is ignored, as
+        Arrow allows."""
         capsule, shared = capsules.new(b"arrow_array")
         if lib.yk_arrow_share(self._held.raw, shared):
             raise MemoryError

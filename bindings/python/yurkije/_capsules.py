@@ -1,4 +1,5 @@
-"""Arrow's C data interface in Python: its structs, and the capsules in which they are handed over (the PyCapsule protocol)."""
+"""Arrow's C data interface in Python: its structs, and the capsules in which they are passed (the
+PyCapsule protocol)."""
 from __future__ import annotations
 
 import ctypes as c
@@ -52,7 +53,7 @@ ArrowArrayStream._fields_ = [
     ("private_data", c.c_void_p),
 ]
 
-# The names that the protocol gives capsules.
+# The names of capsules in the protocol.
 KINDS: dict[bytes, Any] = {b"arrow_schema": ArrowSchema, b"arrow_array": ArrowArray, b"arrow_array_stream": ArrowArrayStream}
 
 _python = c.pythonapi
@@ -81,7 +82,7 @@ def _destructor(name: bytes) -> Any:
         _python.PyMem_RawFree(at)
 
     made = c.PYFUNCTYPE(None, c.c_void_p)(drop)
-    # A capsule may live longer than this module does, where Python ends.
+    # A capsule may live longer than this module when Python ends.
     _python.Py_IncRef(c.py_object(made))
     return made
 
@@ -90,7 +91,8 @@ _DESTRUCTORS = {name: _destructor(name) for name in KINDS}
 
 
 def new(name: bytes) -> tuple[Any, Any]:
-    """Returns a capsule of that name and the zeroed struct in it, which the capsule releases if nobody has taken it."""
+    """Returns a capsule of that name and the zeroed struct in it, which the capsule releases if
+    nobody has taken it."""
     kind = KINDS[name]
     at = _python.PyMem_RawCalloc(1, c.sizeof(kind))
     if not at:
@@ -100,7 +102,7 @@ def new(name: bytes) -> tuple[Any, Any]:
 
 
 def struct_in(capsule: object, name: bytes) -> Any:
-    """Returns the struct in a capsule of that name, which keeps the capsule: it is there as long as that is."""
+    """Returns the struct in a capsule of that name. It keeps the capsule alive."""
     if not _python.PyCapsule_IsValid(capsule, name):
         raise TypeError(f"expected a capsule named {name.decode()}, not {capsule!r}")
     struct = KINDS[name].from_address(_python.PyCapsule_GetPointer(capsule, name))

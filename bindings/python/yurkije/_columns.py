@@ -1,4 +1,5 @@
-"""Columns of Python as borrowed columns: numpy arrays with masks, pandas series, lists, and arrays of Arrow."""
+"""Columns of Python as borrowed columns: numpy arrays with masks, pandas series, lists, and arrays
+of Arrow."""
 from __future__ import annotations
 
 import ctypes as c
@@ -15,15 +16,15 @@ from ._errors import ColumnError, ExpressionError, Told
 from ._library import KINDS, LARGE, NAMES, Column, Field, Slice, lib
 
 SCOPE_MISMATCH, NAME_TWICE, UNKNOWN_TYPE, UNTAKEN = 11, 111, 113, 140
-# The types of whole numbers by numpy's.
+# The types of whole numbers, by numpy's.
 INTEGERS: dict[Any, str] = {np.dtype(f"{kind}{size}"): f"{kind}{8 * size}" for kind in "iu" for size in (1, 2, 4, 8)}
 INTEGER_TYPES: dict[str, Any] = {name: dtype for dtype, name in INTEGERS.items()}
-# The kinds that an Arrow array may come in, by type.
+# The Arrow kinds of each type.
 LAYOUTS: dict[int, int] = {11: 10, 12: 10, 14: 13, 15: 13}
 
 
 class Borrowed:
-    """A column of the library, and what its addresses point into."""
+    """A column of the library, and the objects that its addresses point into."""
 
     __slots__ = ("raw", "type", "nullable", "keeps")
 
@@ -34,13 +35,13 @@ class Borrowed:
         self.keeps: list[Any] = []
 
     def lend(self, slot: str, array: Any) -> None:
-        """Lends the items of a contiguous array."""
+        """Borrows the items of a contiguous array."""
         place = getattr(self.raw, slot)
         place.at, place.length = array.ctypes.data, len(array)
         self.keeps.append(array)
 
     def mask(self, nulls: Optional[Any]) -> None:
-        """Says which rows are null: an array of truth values, or None where the column has no mask."""
+        """Sets which rows are null: an array of truth values, or None if the column has no mask."""
         if nulls is None:
             return
         self.nullable = True
@@ -49,12 +50,13 @@ class Borrowed:
 
 
 def refuse(name: str, words: str, row: Optional[int] = None) -> ColumnError:
-    """Returns the refusal of a column, or of a row in it, of a type that is not taken."""
+    """Returns the error for a column, or a row in it, of an unsupported type."""
     return ColumnError(UNTAKEN, f'column "{name}": {words}', name, row)
 
 
 def untaken(name: str, words: str, wanted: Optional[str]) -> ColumnError:
-    """Returns the refusal of a column of a type that is not taken, which names the type that the expression has for it."""
+    """Returns the error for a column of an unsupported type, naming the type that the expression
+    has for it."""
     return refuse(name, f"{words} is not taken" + (f", and the expression has {wanted}" if wanted else ""))
 
 
@@ -78,14 +80,14 @@ def _nulls_of(values: list[Any]) -> Any:
 
 
 def _of_bytes(values: list[Optional[bytes]], has_null: bool, type_name: str) -> Borrowed:
-    """Byte strings by offsets: of 64 bits where 32 are too few."""
+    """Byte strings by offsets: of 64 bits if 32 are too few."""
     held: list[Any] = [value or b"" for value in values] if has_null else values
     ends = np.cumsum(np.fromiter(map(len, held), np.int64, len(held)))
     return _by_ends(ends, b"".join(held), _nulls_of(values) if has_null else None, type_name)
 
 
 def _by_ends(ends: Any, data: bytes, nulls: Optional[Any], type_name: str) -> Borrowed:
-    """Byte strings that lie one behind the other, by where each ends."""
+    """Concatenated byte strings, by the end of each."""
     column = Borrowed(type_name, len(ends))
     is_large = len(data) > 0x7FFFFFFF
     offsets = np.zeros(len(ends) + 1, np.int64 if is_large else np.int32)
@@ -100,7 +102,8 @@ def _by_ends(ends: Any, data: bytes, nulls: Optional[Any], type_name: str) -> Bo
 
 
 def _of_texts(values: list[Optional[str]], has_null: bool) -> Borrowed:
-    """Texts by offsets. They are encoded in one call, with a zero byte behind each, which tells where it ends."""
+    """Texts by offsets. They are encoded in one call, with a zero byte after each, which marks its
+    end."""
     held: list[Any] = [value or "" for value in values] if has_null else values
     nulls = _nulls_of(values) if has_null else None
     data = "\0".join([*held, ""]).encode()
@@ -108,23 +111,25 @@ def _of_texts(values: list[Optional[str]], has_null: bool) -> Borrowed:
     if len(ends) == len(held):
         ends -= np.arange(len(held))
         return _by_ends(ends, data.translate(None, b"\0"), nulls, "utf8")
-    # some text has a zero byte of its own
+    # some text contains a zero byte
     return _of_bytes([None if value is None else value.encode() for value in values], has_null, "utf8")
 
 
-# The types of single values by their classes, in the order in which they are asked; of numpy's whole numbers INTEGERS has them.
+# The types of single values by their classes, in the order of the tests; INTEGERS has those of
+# numpy's whole numbers.
 CLASSES: tuple[tuple[Any, str], ...] = ((bool, "bool"), (np.bool_, "bool"), (int, "i64"), (str, "utf8"), (bytes, "binary"))
 
 
 def _type_of(cls: type) -> Optional[str]:
-    """Returns the type of the values of a class, or None where it is not taken."""
+    """Returns the type of the values of a class, or None if it is not supported."""
     if issubclass(cls, np.integer):
         return INTEGERS.get(np.dtype(cls))
     return next((name for base, name in CLASSES if issubclass(cls, base)), None)
 
 
 def _is_of(cls: type, kind: str) -> bool:
-    """Whether values of a class may be of a type: whole numbers of each class may be of each integer type."""
+    """Whether values of a class may have a type: whole numbers of each class may have each integer
+    type."""
     found = _type_of(cls)
     return found == kind or (kind in INTEGER_TYPES and found in INTEGER_TYPES)
 
@@ -135,7 +140,7 @@ def _is_pandas_null(cls: type) -> bool:
 
 
 def _with_none(values: list[Any]) -> tuple[list[Any], set[type]]:
-    """Returns values with None in the place of NaN and of `pandas.NA`, and their classes."""
+    """Returns values with None for NaN and `pandas.NA`, and their classes."""
     classes = set(map(type, values))
     floats = {cls for cls in classes if issubclass(cls, (float, np.floating))}
     nulls = {cls for cls in classes if _is_pandas_null(cls)}
@@ -146,10 +151,10 @@ def _with_none(values: list[Any]) -> tuple[list[Any], set[type]]:
 
 
 def _of_objects(name: str, values: list[Any], wanted: Optional[str]) -> Borrowed:
-    """A list of one type and of nulls: None, NaN and `pandas.NA`. Where no type is wanted, the first value that is not null
-    has it."""
+    """A list of one type and of nulls: None, NaN and `pandas.NA`. Without an expected type, the
+    first value that is not null determines it."""
     if wanted in (None, "utf8") and values and type(values[0]) is str:
-        # joining tells sooner than a look at each whether all are texts
+        # joining is a faster test of whether all are texts
         with suppress(TypeError):
             return _of_texts(values, False)
     held, classes = _with_none(values)
@@ -167,13 +172,13 @@ def _of_objects(name: str, values: list[Any], wanted: Optional[str]) -> Borrowed
     if kind == "bool":
         return _of_bools(np.array([value or 0 for value in held] if has_null else held, np.bool_), nulls)
     if any(issubclass(cls, np.integer) for cls in classes):
-        # numpy makes one of its own numbers another without a look at whether it fits
+        # numpy converts its own numbers without checking that they fit
         held = [value if value is None else int(value) for value in held]
     return _of_numbers(name, held, nulls, kind)
 
 
 def _words_of(cls: type) -> str:
-    """Returns the type of a class, or its name where it is not taken."""
+    """Returns the type of a class, or its name if it is not supported."""
     return _type_of(cls) or cls.__name__
 
 
@@ -190,7 +195,7 @@ def _first_type(name: str, values: list[Any]) -> str:
 
 
 def _of_numbers(name: str, values: list[Any], nulls: Optional[Any], kind: str) -> Borrowed:
-    """Whole numbers, each of which has to be one of its type."""
+    """Whole numbers, each of which must fit its type."""
     held = values if nulls is None else [value or 0 for value in values]
     ends = np.iinfo(INTEGER_TYPES[kind])
     if held and not ends.min <= min(held) <= max(held) <= ends.max:
@@ -200,7 +205,7 @@ def _of_numbers(name: str, values: list[Any], nulls: Optional[Any], kind: str) -
 
 
 def _of_array(name: str, array: Any, wanted: Optional[str]) -> Borrowed:
-    """A numpy array, with a mask or none."""
+    """A numpy array, with or without a mask."""
     if array.ndim != 1:
         raise untaken(name, f"an array of {array.ndim} dimensions", wanted)
     nulls = np.ma.getmaskarray(array) if isinstance(array, np.ma.MaskedArray) else None
@@ -221,7 +226,8 @@ def _of_array(name: str, array: Any, wanted: Optional[str]) -> Borrowed:
 
 
 def _of_series(name: str, series: Any, wanted: Optional[str]) -> Borrowed:
-    """A pandas series or index: of its nullable types the mask is taken, of objects None and NaN are null."""
+    """A pandas series or index: the mask of its nullable types is used; in objects, None and NaN
+    are null."""
     if isinstance(series.dtype, np.dtype) and series.dtype != object:
         return _of_array(name, series.to_numpy(), wanted)
     nulls = np.asarray(series.isna(), dtype=np.bool_)
@@ -240,7 +246,7 @@ def _of_series(name: str, series: Any, wanted: Optional[str]) -> Borrowed:
 
 
 def _of_arrow(name: str, array: Any) -> Borrowed:
-    """An array of Arrow, borrowed where it lies."""
+    """An array of Arrow, borrowed."""
     schema_capsule, array_capsule = array.__arrow_c_array__()
     schema = capsules.struct_in(schema_capsule, b"arrow_schema")
     raw = capsules.struct_in(array_capsule, b"arrow_array")
@@ -258,10 +264,11 @@ def _of_arrow(name: str, array: Any) -> Borrowed:
 
 
 def borrow(name: str, values: Any, wanted: Optional[str] = None) -> Borrowed:
-    """Returns the column that values say: a numpy array, a pandas series, an array of Arrow, or a sequence.
+    """Returns the column of values: a numpy array, a pandas series, an array of Arrow, or a
+    sequence.
 
-    `wanted` is the type that the expression has for the column, where one is said: a sequence or an array of objects is read
-    as it, and columns of another type are refused.
+    `wanted` is the type that the expression has for the column, if any: a sequence or an array of
+    objects is read as that type, and columns of another type are an error.
     """
     column = _borrowed(name, values, wanted)
     if wanted not in (None, column.type):
@@ -282,29 +289,32 @@ def _borrowed(name: str, values: Any, wanted: Optional[str]) -> Borrowed:
 
 
 def name_of(label: Any) -> str:
-    """Returns the name by which a text calls the column of a label: as it is printed, where it is no text, as the 0 of a frame."""
+    """Returns the name by which a text refers to the column of a label: its printed form if it is
+    no text, as for the 0 of a frame."""
     return label if isinstance(label, str) else str(label)
 
 
 def column_of(columns: Any, name: str) -> Any:
-    """Returns the column of a name. The label that is this very text comes before others that are printed so."""
+    """Returns the column of a name. A label that equals the text comes before others that print
+    like it."""
     labels = [name] if name in columns.keys() else [label for label in columns.keys() if name_of(label) == name]
     if not labels:
         raise KeyError(name)
     column = columns[labels[0]]
-    # of a frame in which two columns have one label, that label has a frame
+    # in a frame with two columns of one label, that label gives a frame
     if len(labels) > 1 or (getattr(columns, "ndim", 1) == 2 and getattr(column, "ndim", 1) == 2):
         raise ExpressionError(NAME_TWICE, f'more than one column is named "{name}"', name)
     return column
 
 
 def type_of(column: Borrowed) -> str:
-    """Returns the type of a column, with a question mark where it may have nulls."""
+    """Returns the type of a column, with a question mark if it may have nulls."""
     return column.type + "?" * column.nullable
 
 
 def type_said(name: str, said: Any) -> str:
-    """Returns the type that is said of a column: by its name, as `i64?`, or by a type of numpy or pandas, as `np.dtype("i8")`."""
+    """Returns the declared type of a column: by its name, as `i64?`, or by a type of numpy or
+    pandas, as `np.dtype("i8")`."""
     found = said if isinstance(said, str) else _type_of_dtype(said)
     if found is None or found.removesuffix("?") not in KINDS:
         told = f'"{said}"' if isinstance(said, str) else repr(said)
@@ -314,7 +324,7 @@ def type_said(name: str, said: Any) -> str:
 
 
 def _type_of_dtype(said: Any) -> Optional[str]:
-    """Returns the type that a dtype of numpy or pandas is, or a class of single values."""
+    """Returns the type for a dtype of numpy or pandas, or for a class of single values."""
     if hasattr(said, "numpy_dtype"):
         # of pandas, which has null
         found = _type_of_dtype(said.numpy_dtype)
@@ -324,7 +334,8 @@ def _type_of_dtype(said: Any) -> Optional[str]:
 
 
 def fields_of(types: Sequence[tuple[str, str]]) -> tuple[Any, list[Any]]:
-    """Returns the fields of names and types, as `i64?`, and what their addresses point into."""
+    """Returns the fields of names and types, as `i64?`, and the objects that their addresses point
+    into."""
     fields, keeps = (Field * max(len(types), 1))(), []
     for field, (name, type_name) in zip(fields, types):
         encoded = name.encode()

@@ -1,4 +1,4 @@
-"""Refusals as exceptions."""
+"""Errors as exceptions."""
 from __future__ import annotations
 
 import ctypes as c
@@ -9,11 +9,12 @@ from ._library import NONE, STATUSES, RawError
 
 
 class Error(Exception):
-    """A refusal of the library.
+    """An error of the library.
 
-    number     the number of yurkije.h: 1 to 13 for E1 to E13 of docs/REFUSALS.md, from 100 on what the interface refuses
+    number     the number of yurkije.h: 1 to 13 for E1 to E13 of docs/REFUSALS.md,
+               from 100 on errors of the interface
     name       its name, as `Arithmetic`
-    message    the refusal in words
+    message    the error in words
     column     the name of the column that is wrong, or None
     row        the row that is wrong or faults, from 0 on, or None
     answer     the number of the answer that faults, or None
@@ -35,11 +36,12 @@ class Error(Exception):
 
 
 class ExpressionError(Error, ValueError):
-    """A text is no expression over the columns that there are."""
+    """A text is no expression over these columns."""
 
 
 class ColumnError(Error, ValueError):
-    """A column is not of the field's type, too short, or malformed; or is of a type that is not taken, as floats are."""
+    """A column is not of the field's type, too short, or malformed; or has an unsupported type, as
+    floats."""
 
 
 class ArithmeticRefusal(Error, ArithmeticError):
@@ -47,7 +49,7 @@ class ArithmeticRefusal(Error, ArithmeticError):
 
 
 class OutOfMemory(Error, MemoryError):
-    """Memory was refused (E9)."""
+    """An allocation failed (E9)."""
 
 
 def _class_of(raw: RawError) -> type[Error]:
@@ -67,7 +69,7 @@ def _known(number: int) -> Optional[int]:
 
 
 class Told:
-    """Room for what the library tells of a refusal."""
+    """A buffer for the library's error message."""
 
     def __init__(self) -> None:
         self.room = c.create_string_buffer(500)
@@ -76,13 +78,13 @@ class Told:
         self.raw.message.length = len(self.room)
 
     def check(self, status: int, columns: Sequence[str] = ()) -> None:
-        """Raises what was told, unless the status is 0."""
+        """Raises the reported error, unless the status is 0."""
         if status:
             raise error_of(self.raw, columns)
 
 
 def error_of(raw: RawError, columns: Sequence[str] = ()) -> Error:
-    """Returns the exception of what was told, over columns of these names."""
+    """Returns the exception for the reported error, over columns of these names."""
     message = c.string_at(raw.message.at, raw.message_length).decode(errors="replace") if raw.message_length else ""
     column = columns[raw.column] if raw.column < len(columns) else None
     error = _class_of(raw)(raw.status, message or STATUSES.get(raw.status, ""), column, _known(raw.row))

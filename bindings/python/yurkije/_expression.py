@@ -21,15 +21,16 @@ from ._library import NAMES, Column, Handle, Type, lib, text_of
 TOKEN = re.compile(r"""'[^']*'|(--[^\r\n]*)|(::)|(\w+)|"((?:[^"]|"")*)\"""", re.A)
 KEYWORDS = frozenset("and or not is null between like ilike escape true false cast as".split())
 
-# Types that stand for the unknown ones of columns that are not taken, to see whether a text is wrong whatever they are.
+# Types for unknown columns, to see whether a text is wrong whatever their types are.
 STAND_INS = ("i64", "utf8", "bool")
-# What no column's type has a part in: the text names no column, is not UTF-8, is not written as expressions are, names no type,
-# has a null beside nothing, or an escape of two characters.
+# Errors that do not depend on column types: the text names no column, is not UTF-8, has a syntax
+# error, names no type, has a null next to nothing, or an escape of two characters.
 OF_TEXT_ALONE = (11, 110, 112, 113, 115, 116)
 
 
 class _Owner:
-    """What one thread still has to free: handles that it made, and that were dropped by another. Dropped where the thread ends."""
+    """What one thread still has to free: handles that it made, and that another dropped. Dropped
+    when the thread ends."""
 
     def __init__(self) -> None:
         self.left: list[Handle] = []
@@ -50,7 +51,8 @@ _owners = _Owners()
 
 
 class _Program:
-    """A handle, which stays on its thread: where another drops it, it is freed by its own thread's next call."""
+    """A handle, which stays on its thread: if another drops it, its own thread frees it in its next
+    call."""
 
     def __init__(self) -> None:
         _owners.owner.free()
@@ -64,7 +66,7 @@ class _Program:
 
 
 class _Programs(threading.local):
-    """A handle for each thread: one may not be used by two."""
+    """A handle for each thread: two threads must not use one."""
 
     program: Optional[_Program] = None
 
@@ -73,7 +75,8 @@ _Made = TypeVar("_Made")
 
 
 def _each(text: str, columns: Any, make: Callable[[str], _Made]) -> tuple[dict[str, Optional[_Made]], Optional[Error]]:
-    """Returns what is made of each column that a text names, or None where it is refused, and the first such refusal."""
+    """Returns the result for each column that a text names, or None if it is an error, and the
+    first such error."""
     named = names_in(text)
     made: dict[str, Optional[_Made]] = {}
     refused: Optional[Error] = None
@@ -87,7 +90,8 @@ def _each(text: str, columns: Any, make: Callable[[str], _Made]) -> tuple[dict[s
 
 
 def names_in(text: str) -> set[str]:
-    """Returns each name that a text may read as a column: no keyword, no number, no type behind `::`, no name behind `as`."""
+    """Returns each name that a text may read as a column: no keyword, no number, no type after
+    `::`, no name after `as`."""
     names, is_other = set(), False
     for token in TOKEN.finditer(text):
         comment, colons, word, quoted = token.groups()
@@ -110,7 +114,7 @@ def _names_of(columns: Any) -> list[str]:
 
 
 def _is_batch(source: Any) -> bool:
-    """Whether columns are handed over as a batch of Arrow."""
+    """Whether columns are passed as a batch of Arrow."""
     return hasattr(source, "__arrow_c_array__")
 
 
@@ -125,23 +129,23 @@ def _rows_of(columns: list[Borrowed], rows: Optional[int], source: Any) -> int:
 
 
 def _raws(borrowed: list[Borrowed]) -> Any:
-    """Returns the columns one behind the other, as the library reads them."""
+    """Returns the columns as an array, as the library reads them."""
     return (Column * max(len(borrowed), 1))(*[column.raw for column in borrowed])
 
 
 class Expression:
-    """An expression over columns of types that are said, read once and run over many batches.
+    """An expression over columns of given types, read once and run over many batches.
 
     >>> worth = Expression("price * stock as worth, price > 100", {"price": "i64", "stock": "i64?"})
     >>> worth.answers
     (Answer(name='worth', type='i64?'), Answer(name='price > 100', type='bool'))
 
-    `columns` has the type of each column: bool, i8 to i64, u8 to u64, utf8 or binary, with a question mark where a row may
-    be null; or a type of numpy or pandas, as `np.dtype("i8")`. Columns that the text does not name may be among them, of any
-    type. docs/EXPRESSIONS.md has the language.
+    `columns` has the type of each column: bool, i8 to i64, u8 to u64, utf8 or binary, with a
+    question mark if a row may be null; or a type of numpy or pandas, as `np.dtype("i8")`. Columns
+    that the text does not name may have any type. docs/EXPRESSIONS.md has the language.
 
-    Threads may share an Expression: the first call in each reads the text anew, since a handle of the library is of one
-    thread. Calls of the library run beside Python's other threads.
+    Threads may share an Expression: the first call in each reads the text anew, since a handle of
+    the library belongs to one thread. Calls of the library release Python's lock.
     """
 
     def __init__(self, text: str, columns: Mapping[str, Any]) -> None:
@@ -149,8 +153,8 @@ class Expression:
         self._read_text(text, types, _names_of(columns), refused)
 
     def _read_text(self, text: str, types: Mapping[str, Optional[str]], names: Iterable[str], refused: Optional[Error]) -> None:
-        """Reads a text over the columns that it names, of their types, or None where a column is refused. Raises what is wrong
-        with the text, and else that refusal."""
+        """Reads a text over the columns that it names, of their types, or None if a column is an
+        error. Raises what is wrong with the text, else that error."""
         self.text = text
         self._encoded, self._local = text.encode(), _Programs()
         if refused is None:
@@ -163,8 +167,9 @@ class Expression:
         raise self._wrong_text(types, names) or refused
 
     def _wrong_text(self, types: Mapping[str, Optional[str]], names: Iterable[str]) -> Optional[Error]:
-        """Returns why the text is no expression, whatever type the columns have that have none here, or None. What is told
-        knows the names of all columns; those that the text does not name may be of any type."""
+        """Returns why the text is no expression, whatever the types of columns without one here, or
+        None. The message knows the names of all columns; those that the text does not name may have
+        any type."""
         told: list[Error] = []
         for stand_in in STAND_INS:
             self._read = [(name, types.get(name) or stand_in) for name in names]
@@ -187,7 +192,8 @@ class Expression:
 
     @classmethod
     def _over(cls, text: str, columns: Any) -> tuple[Expression, list[Borrowed]]:
-        """Returns the expression over the types that columns have, and the columns that it reads, borrowed. No other is looked at."""
+        """Returns the expression over the types that columns have, and the columns that it reads,
+        borrowed. No other column is read."""
         borrowed, refused = _each(text, columns, lambda name: borrow(name, column_of(columns, name)))
         made = cls.__new__(cls)
         types = {name: type_of(column) if column else None for name, column in borrowed.items()}
@@ -260,9 +266,9 @@ class Expression:
         """Returns the answers over columns of one length: a mapping of them by name, a frame of pandas, or a batch with
         `__arrow_c_array__`.
 
-        A column is a numpy array (a masked one has nulls), a pandas series, a list with None, NaN or pandas' NA for null, or an
-        array of Arrow.
-        Raises what is refused, with the row in which an answer faults. `rows` is needed where there are no columns.
+        A column is a numpy array (a masked one has nulls), a pandas series, a list with None, NaN
+        or pandas' NA for null, or an array of Arrow. Raises errors, with the row in which an answer
+        faults. `rows` is needed if there are no columns.
         """
         if not _is_batch(columns):
             return self._run(self._borrowed(columns), columns, rows)
@@ -295,12 +301,12 @@ class Expression:
             self._handle(), answer, _raws(borrowed), len(borrowed), count, numbers.ctypes.data, c.byref(selected), told.raw
         )
         told.check(status, self._names())
-        # shrinks where it lies; nothing else points to it yet
+        # shrinks in place; nothing else points to it yet
         numbers.resize(selected.value, refcheck=False)
         return numbers
 
     def _check_truth(self, answer: int) -> None:
-        """Raises where there is no such answer, or where it is no truth value."""
+        """Raises if there is no such answer, or if it is no truth value."""
         if not 0 <= answer < len(self.answers):
             raise Error(101, f"there is no answer {answer}, of {len(self.answers)}, from 0 on")
         name, kind = self.answers[answer]
@@ -313,8 +319,8 @@ class Expression:
         return np.ma.filled(self.run(batch).column(answer), False)
 
     def mask(self, columns: Any, answer: int = 0, rows: Optional[int] = None) -> Any:
-        """Returns whether an answer, a truth value, is true in each row: an array of bool, False where it is null, as filters of
-        numpy and pandas take it, `frame[wanted.mask(frame)]`."""
+        """Returns whether an answer, a truth value, is true in each row: an array of bool, False
+        for null, as filters of numpy and pandas expect it, `frame[wanted.mask(frame)]`."""
         if _is_batch(columns):
             return self._true(columns, answer)
         return self._mask(self._borrowed(columns), columns, answer, rows)
@@ -328,7 +334,7 @@ class Expression:
         return mask
 
     def __reduce__(self) -> Any:
-        """Pickles as its text, and is read anew where it arrives."""
+        """Pickles as its text, and is read again where it is unpickled."""
         return Expression, (self.text, dict(self._read))
 
     def __repr__(self) -> str:
@@ -336,8 +342,9 @@ class Expression:
 
 
 class Stream:
-    """The answers of a text over a stream of Arrow's batches: read once, either by going over it, or by another library
-    through `__arrow_c_stream__`. Rows are told by their number in the whole stream. One thread at a time goes on with it."""
+    """The answers of a text over a stream of Arrow's batches: read once, either by iteration, or by
+    another library through `__arrow_c_stream__`. Rows are numbered over the whole stream. One
+    thread at a time may use it."""
 
     def __init__(self, text: str, source: Any) -> None:
         encoded, told = text.encode(), Told()
@@ -374,13 +381,13 @@ class Stream:
             yield Answers(self.answers, held, self._schema_capsule)
 
     def __arrow_c_stream__(self, requested_schema: object = None) -> object:
-        """Hands the stream over, as a capsule."""
+        """Exports the stream, as a capsule."""
         return self._capsule
 
 
 def evaluate(text: str, columns: Any, rows: Optional[int] = None) -> Union[Answers, Stream]:
-    """Returns what a text answers over columns, whose types are taken as they are; of a source with `__arrow_c_stream__`
-    a stream of answers.
+    """Returns the answers of a text over columns, with the types that they have; for a source with
+    `__arrow_c_stream__` a stream of answers.
 
     >>> evaluate("a + b as sum", {"a": np.array([1, 2]), "b": [3, None]})["sum"]
     masked_array(data=[4, --], mask=[False,  True], fill_value=999999)
@@ -394,8 +401,8 @@ def evaluate(text: str, columns: Any, rows: Optional[int] = None) -> Union[Answe
 
 
 def select(text: str, columns: Any) -> Any:
-    """Returns the numbers of the rows in which a text is true, over columns whose types are taken as they are. Columns that it
-    does not name are not looked at."""
+    """Returns the numbers of the rows in which a text is true, over columns with the types that
+    they have. Columns that it does not name are not read."""
     if _is_batch(columns):
         return Expression.of(text, columns).select(columns)
     expression, borrowed = Expression._over(text, columns)
@@ -403,8 +410,8 @@ def select(text: str, columns: Any) -> Any:
 
 
 def mask(text: str, columns: Any) -> Any:
-    """Returns whether a text is true in each row, over columns whose types are taken as they are: an array of bool, False where
-    it is false or null, as `frame[yurkije.mask(text, frame)]` takes it.
+    """Returns whether a text is true in each row, over columns with the types that they have: an
+    array of bool, False where it is false or null, as for `frame[yurkije.mask(text, frame)]`.
 
     >>> mask("a > 1", {"a": [1, None, 3]})
     array([False, False,  True])

@@ -1,4 +1,4 @@
-"""The shared object, its structs and its calls. Nothing above this file knows of addresses but by it."""
+"""The shared object, its structs and its calls. Only this file deals with addresses."""
 from __future__ import annotations
 
 import ctypes as c
@@ -56,7 +56,7 @@ STATUSES: dict[int, str] = {
     142: "StreamFailed",
 }
 
-# The types of fields and answers by their names, and the kinds of yurkije.h.
+# The types of fields and answers by name, and the kinds of yurkije.h.
 KINDS: dict[str, int] = {
     "bool": 1,
     "i8": 2,
@@ -81,7 +81,7 @@ class Slice(c.Structure):
 
 
 class Handle(c.Structure):
-    """What the library has, moved and never copied. Zeroed, it holds nothing."""
+    """A handle of the library: it may be moved, never copied. Zeroed, it is empty."""
 
     _fields_ = [("at", c.c_void_p), ("live", c.c_bool)]
 
@@ -225,7 +225,7 @@ lib = _load()
 
 
 def text_of(call: Any, *arguments: Any) -> str:
-    """Returns the text that a call writes into a room, whose size it tells."""
+    """Returns the text that a call writes into a buffer, whose size it returns."""
     length = c.c_size_t()
     call(*arguments, None, 0, c.byref(length))
     room = c.create_string_buffer(max(length.value, 1))

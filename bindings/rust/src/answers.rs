@@ -1,10 +1,10 @@
-//! Answers, as they are copied out of the library.
+//! Answers, copied out of the library.
 use crate::column::{Integer, Kind};
 use crate::error::{checked, Error, Status};
 use crate::raw::{self, Handle, Rooms, Size};
 use std::cell::UnsafeCell;
 
-/// What an expression answers over a batch. It is of one thread.
+/// The answers of an expression over a batch. They belong to one thread.
 ///
 /// ```compile_fail
 /// fn sends<T: Send>() {}
@@ -19,9 +19,9 @@ pub struct Answers {
 /// An answer of whole numbers.
 #[derive(Clone, Debug, PartialEq, Eq)]
 pub struct Integers<T> {
-    /// A bit a row, set where it is not null, from the least significant of the first byte on.
+    /// A bit for each row, set where it is not null, least significant first.
     pub validity: Vec<u8>,
-    /// A number a row; any where it is null.
+    /// A number for each row; arbitrary where it is null.
     pub values: Vec<T>,
 }
 
@@ -29,7 +29,7 @@ pub struct Integers<T> {
 #[derive(Clone, Debug, PartialEq, Eq)]
 pub struct Bools {
     pub validity: Vec<u8>,
-    /// A bit a row, set where it is true; any where it is null.
+    /// A bit for each row, set where it is true; arbitrary where it is null.
     pub bits: Vec<u8>,
     pub rows: usize,
 }
@@ -38,7 +38,7 @@ pub struct Bools {
 #[derive(Clone, Debug, PartialEq, Eq)]
 pub struct ByteStrings {
     pub validity: Vec<u8>,
-    /// Where row `i` begins in the data, and, one further, where it ends.
+    /// Row `i` begins at this offset in the data, and ends at the next.
     pub offsets: Vec<i64>,
     pub data: Vec<u8>,
 }
@@ -48,21 +48,21 @@ fn bit(bytes: &[u8], row: usize) -> bool {
 }
 
 impl<T: Copy> Integers<T> {
-    /// The rows, `None` where one is null.
+    /// The rows, `None` for null.
     pub fn iter(&self) -> impl Iterator<Item = Option<T>> + '_ {
         self.values.iter().enumerate().map(move |(row, value)| if bit(&self.validity, row) { Some(*value) } else { None })
     }
 }
 
 impl Bools {
-    /// The rows, `None` where one is null.
+    /// The rows, `None` for null.
     pub fn iter(&self) -> impl Iterator<Item = Option<bool>> + '_ {
         (0..self.rows).map(move |row| if bit(&self.validity, row) { Some(bit(&self.bits, row)) } else { None })
     }
 }
 
 impl ByteStrings {
-    /// The rows, `None` where one is null.
+    /// The rows, `None` for null.
     pub fn iter(&self) -> impl Iterator<Item = Option<&[u8]>> + '_ {
         self.offsets.windows(2).enumerate().map(move |(row, ends)| {
             if bit(&self.validity, row) {
@@ -73,7 +73,7 @@ impl ByteStrings {
         })
     }
 
-    /// The same of texts.
+    /// The same for texts.
     pub fn texts(&self) -> impl Iterator<Item = Option<&str>> + '_ {
         self.iter().map(|row| row.and_then(|bytes| std::str::from_utf8(bytes).ok()))
     }
@@ -89,7 +89,7 @@ impl Answers {
         self.kinds.len()
     }
 
-    /// Never: an expression has at least one answer.
+    /// Always false: an expression has at least one answer.
     pub fn is_empty(&self) -> bool {
         self.kinds.is_empty()
     }
@@ -101,13 +101,14 @@ impl Answers {
             None => return Err(Error::Use { status: Status::NoSuchNumber }),
         }
         let mut size = Size::default();
-        // SAFETY: the handle is of this value alone, and the size is a struct of Rust.
+        // SAFETY: the handle belongs to this value alone, and the size is a struct of Rust.
         checked(unsafe { raw::yk_answer_size(self.handle(), answer, &mut size) })?;
         Ok(size)
     }
 
     fn copy(&self, answer: usize, mut rooms: Rooms<'_>) -> Result<(), Error> {
-        // SAFETY: the handle is of this value alone, and the rooms borrow slices of Rust that nothing else is handed.
+        // SAFETY: the handle belongs to this value alone, and the rooms borrow slices of Rust that
+        // nothing else uses.
         checked(unsafe { raw::yk_answer_copy(self.handle(), answer, &mut rooms) })
     }
 
@@ -155,7 +156,7 @@ impl Answers {
     pub fn select(&self, answer: usize) -> Result<Vec<u64>, Error> {
         let rows = self.size(answer, &[Kind::Bool])?.rows;
         let (mut numbers, mut count) = (vec![0; rows], 0);
-        // SAFETY: the handle is of this value alone, and the room is a slice of Rust.
+        // SAFETY: the handle belongs to this value alone, and the room is a slice of Rust.
         checked(unsafe { raw::yk_select(self.handle(), answer, numbers.as_mut_ptr(), rows, &mut count) })?;
         numbers.truncate(count);
         Ok(numbers)
@@ -164,7 +165,7 @@ impl Answers {
 
 impl Drop for Answers {
     fn drop(&mut self) {
-        // SAFETY: the handle is as the library left it, and nothing uses it behind this.
+        // SAFETY: the handle is as the library left it, and nothing uses it after this.
         unsafe { raw::yk_answers_free(self.handle()) }
     }
 }

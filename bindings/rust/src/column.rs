@@ -1,4 +1,4 @@
-//! Columns that are borrowed where they lie, and columns that are made.
+//! Borrowed columns, and owned columns.
 use crate::raw;
 
 /// The types of fields, columns and answers.
@@ -83,7 +83,7 @@ mod sealed {
     pub trait Sealed {}
 }
 
-/// The eight types of whole numbers.
+/// The eight integer types.
 pub trait Integer: sealed::Sealed + Copy + Default + 'static {
     const KIND: Kind;
     #[doc(hidden)]
@@ -112,7 +112,7 @@ macro_rules! integers {
 
 integers! { i8 I8 i16 I16 i32 I32 i64 I64 u8 U8 u16 U16 u32 U32 u64 U64 }
 
-/// A column in Arrow's layout, borrowed where it lies. It is begun by what its values are, and says more by turns:
+/// A column in Arrow's layout, borrowed. Begin with its values, then add the rest:
 ///
 /// ```
 /// use yurkije::Column;
@@ -122,7 +122,7 @@ integers! { i8 I8 i16 I16 i32 I32 i64 I64 u8 U8 u16 U16 u32 U32 u64 U64 }
 /// assert_eq!(column.rows(), 3);
 /// ```
 ///
-/// What does not fit, as too few bits, is refused when the column is run.
+/// What does not fit, such as too few bits, is an error when the column is run.
 #[derive(Clone, Copy, Debug)]
 pub struct Column<'a> {
     pub(crate) raw: raw::Column<'a>,
@@ -140,7 +140,7 @@ impl<'a> Column<'a> {
         column
     }
 
-    /// Truth values, a bit a row, from the least significant of the first byte on.
+    /// Truth values, a bit for each row, least significant first.
     pub fn bools(bits: &'a [u8], rows: usize) -> Column<'a> {
         let mut column = Column::new(Kind::Bool.number(), rows);
         column.raw.bools = bits.into();
@@ -181,7 +181,7 @@ impl<'a> Column<'a> {
         column
     }
 
-    /// Texts by 16-byte views, in little endian, over buffers that `Buffers` has.
+    /// Texts by 16-byte views, little-endian, over buffers in `Buffers`.
     pub fn text_views(views: &'a [[u8; 16]], buffers: &'a Buffers<'a>) -> Column<'a> {
         Column::by_views(UTF8_VIEW, views, buffers)
     }
@@ -198,15 +198,15 @@ impl<'a> Column<'a> {
         column
     }
 
-    /// The column whose rows can be null: a bit a row, set where it is not, from the least significant of the first byte on;
-    /// or none, where no row is null after all.
+    /// The column as a nullable one: a bit for each row, set where it is not null, least
+    /// significant first; or none if no row is null.
     pub fn nullable(mut self, validity: Option<&'a [u8]>) -> Column<'a> {
         self.raw.nullable = true;
         self.raw.validity = validity.unwrap_or(&[]).into();
         self
     }
 
-    /// So many rows from one on: of the values, and of the bits.
+    /// That many rows from one on: of the values, and of the bits.
     pub fn slice(mut self, first: usize, rows: usize) -> Column<'a> {
         self.raw.offset = self.raw.offset.saturating_add(first);
         self.raw.rows = rows;
@@ -219,7 +219,7 @@ impl<'a> Column<'a> {
     }
 }
 
-/// The buffers that views name.
+/// The buffers that views refer to.
 #[derive(Clone, Debug, Default)]
 pub struct Buffers<'a>(Vec<raw::Slice<'a, u8>>);
 
@@ -230,7 +230,7 @@ impl<'a> Buffers<'a> {
     }
 }
 
-/// Bits, a row each.
+/// Bits, one for each row.
 #[derive(Clone, Debug, Default, PartialEq, Eq)]
 struct Bits {
     bytes: Vec<u8>,
@@ -247,7 +247,7 @@ impl Bits {
     }
 }
 
-/// A column that is made of values, some of them null, and owns its buffers.
+/// A column made from values, some of them null. It owns its buffers.
 ///
 /// ```
 /// use yurkije::ColumnBuf;
@@ -277,13 +277,13 @@ impl<T: Integer> ColumnBuf<T> {
     }
 }
 
-/// What texts by offsets are made of.
+/// The buffers of texts by offsets.
 #[derive(Clone, Copy, Debug)]
 #[repr(transparent)]
 pub struct Offset(i32);
 
 impl ColumnBuf<Offset> {
-    /// Texts; `None` where they have more than 2,147,483,647 bytes together.
+    /// Texts; `None` if they have more than 2,147,483,647 bytes together.
     pub fn texts<'t>(values: impl IntoIterator<Item = Option<&'t str>>) -> Option<ColumnBuf<Offset>> {
         ColumnBuf::collect(Kind::Utf8, values.into_iter().map(|value| value.map(str::as_bytes)))
     }
@@ -304,7 +304,7 @@ impl ColumnBuf<Offset> {
     }
 }
 
-/// What truth values are made of.
+/// The buffers of truth values.
 #[derive(Clone, Copy, Debug)]
 pub struct Truth;
 
@@ -322,7 +322,7 @@ impl ColumnBuf<Truth> {
     }
 }
 
-/// What a `ColumnBuf` is made of.
+/// The buffers of a `ColumnBuf`.
 pub trait Stored: Sized {
     #[doc(hidden)]
     fn lend<'a>(values: &'a [Self], data: &'a [u8], column: &mut raw::Column<'a>);
@@ -336,7 +336,7 @@ impl<T: Integer> Stored for T {
 
 impl Stored for Offset {
     fn lend<'a>(values: &'a [Self], data: &'a [u8], column: &mut raw::Column<'a>) {
-        // SAFETY: an `Offset` is an `i32` and nothing else.
+        // SAFETY: an `Offset` is exactly an `i32`.
         let offsets = unsafe { std::slice::from_raw_parts(values.as_ptr().cast::<i32>(), values.len()) };
         column.offsets32 = offsets.into();
         column.data = data.into();
@@ -355,7 +355,7 @@ impl<T: Stored> ColumnBuf<T> {
         self.column_without_null().nullable(Some(&self.validity.bytes))
     }
 
-    /// The column of a field that is not nullable: a null is refused when it is run.
+    /// The column of a field that is not nullable: a null is an error when it is run.
     pub fn column_without_null(&self) -> Column<'_> {
         let mut column = Column::new(self.kind.number(), self.validity.rows);
         column.raw.validity = self.validity.bytes[..].into();

@@ -1,10 +1,11 @@
-//! Refusals.
+//! Errors.
 use crate::raw::{Room, Told, NONE};
 use std::fmt;
 
 macro_rules! statuses {
     ($($name:ident = $number:literal, $words:literal;)*) => {
-        /// What the library refuses, by number and name: 1 to 13 are E1 to E13 of `docs/REFUSALS.md`.
+        /// The errors of the library, by number and name: 1 to 13 are E1 to E13 of
+        /// `docs/REFUSALS.md`.
         #[derive(Clone, Copy, Debug, PartialEq, Eq, Hash)]
         #[non_exhaustive]
         pub enum Status {
@@ -86,31 +87,32 @@ impl Status {
     }
 }
 
-/// Where in the text of an expression.
+/// A position in the text of an expression.
 #[derive(Clone, Copy, Debug, PartialEq, Eq)]
 pub struct Place {
     /// The byte, from 0 on.
     pub byte: Option<usize>,
-    /// The line, from 1 on, and 0 where none is told.
+    /// The line, from 1 on, or 0 if unknown.
     pub line: usize,
-    /// The character in that line, from 1 on, and 0 where none is told.
+    /// The character in that line, from 1 on, or 0 if unknown.
     pub character: usize,
 }
 
-/// Why a call was refused.
+/// Why a call failed.
 #[derive(Clone, Debug, PartialEq, Eq)]
 pub enum Error {
-    /// Memory was refused (E9).
+    /// An allocation failed (E9).
     OutOfMemory,
     /// A text is no expression over its fields.
     Expression { status: Status, place: Place, message: String },
-    /// A field or a column, by its number, is wrong, in that row if it is one row's fault.
+    /// A field or a column, by its number, is wrong, in that row if one row is wrong.
     Column { status: Status, column: Option<usize>, row: Option<usize>, message: String },
-    /// In that row an answer faults (E7): the first row in which one does, and the first answer that does there.
+    /// In that row an answer faults (E7): the first row in which one does, and the first answer
+    /// that does there.
     Fault { status: Status, answer: Option<usize>, row: usize, message: String },
-    /// The call itself is wrong: an answer that is not there, or is of another type.
+    /// The call itself is wrong: an answer that does not exist, or has another type.
     Use { status: Status },
-    /// A refusal of a later library.
+    /// An error of a later library.
     Unknown { number: u32, message: String },
 }
 
@@ -154,7 +156,7 @@ impl Error {
         }
     }
 
-    /// The place in the text.
+    /// The position in the text.
     pub fn place(&self) -> Option<Place> {
         match self {
             Error::Expression { place, .. } => Some(*place),
@@ -162,7 +164,7 @@ impl Error {
         }
     }
 
-    /// A refusal that tells nothing but its status.
+    /// An error with only its status.
     pub(crate) fn of_status(number: u32) -> Error {
         match Status::of(number) {
             Some(Status::OutOfMemory) => Error::OutOfMemory,
@@ -195,7 +197,7 @@ fn known(number: usize) -> Option<usize> {
     }
 }
 
-/// Makes a call that tells why it was refused.
+/// Makes a call that reports why it failed.
 pub(crate) fn told(call: impl FnOnce(&mut Told<'_>) -> u32) -> Result<(), Error> {
     let mut room = [0; 500];
     let mut told = Told {
@@ -225,7 +227,7 @@ pub(crate) fn told(call: impl FnOnce(&mut Told<'_>) -> u32) -> Result<(), Error>
     })
 }
 
-/// Makes a call that tells its status alone.
+/// Makes a call that reports only its status.
 pub(crate) fn checked(number: u32) -> Result<(), Error> {
     if number == 0 {
         Ok(())

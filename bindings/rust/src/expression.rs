@@ -1,11 +1,11 @@
-//! Expressions, which are read once and run over many batches.
+//! Expressions, read once and run over many batches.
 use crate::answers::Answers;
 use crate::column::{Column, Field, Kind, Type};
 use crate::error::{checked, told, Error};
 use crate::raw::{self, Handle};
 use std::cell::UnsafeCell;
 
-/// An expression over the fields of a scope. It is of one thread: each thread reads its own.
+/// An expression over the fields of a scope. It belongs to one thread: each thread reads its own.
 ///
 /// ```compile_fail
 /// fn sends<T: Send>() {}
@@ -16,7 +16,7 @@ pub struct Expression {
     raw: UnsafeCell<Handle>,
 }
 
-/// Takes a text that a call writes into a room, and whose length it tells.
+/// Takes a text that a call writes into a buffer, and whose length it returns.
 fn text_of(call: impl Fn(*mut u8, usize, &mut usize) -> u32) -> Result<String, Error> {
     let mut length = 0;
     call(std::ptr::NonNull::dangling().as_ptr(), 0, &mut length);
@@ -26,13 +26,14 @@ fn text_of(call: impl Fn(*mut u8, usize, &mut usize) -> u32) -> Result<String, E
 }
 
 impl Expression {
-    /// Reads the answers of a text over fields, `price * stock as worth, price > 100` (`docs/EXPRESSIONS.md`). Refused with
-    /// the place in the text where it is wrong.
+    /// Reads the answers of a text over fields, `price * stock as worth, price > 100`
+    /// (`docs/EXPRESSIONS.md`). Fails with the position in the text where it is wrong.
     pub fn new(text: &str, fields: &[Field<'_>]) -> Result<Expression, Error> {
         let expression = Expression { raw: UnsafeCell::new(Handle::EMPTY) };
         let fields: Vec<raw::Field<'_>> = fields.iter().map(lend).collect();
         told(|told| {
-            // SAFETY: the handle is empty, and text and fields are slices of Rust that live as long as the call.
+            // SAFETY: the handle is empty, and text and fields are slices of Rust that live as long
+            // as the call.
             unsafe {
                 raw::yk_expression_new(text.as_ptr(), text.len(), fields.as_ptr(), fields.len(), expression.handle(), told)
             }
@@ -47,7 +48,8 @@ impl Expression {
     /// The fields: their names and types.
     pub fn fields(&self) -> Result<Vec<(String, Type)>, Error> {
         let mut count = 0;
-        // SAFETY: here and below the handle is of this value alone, and what is written is a value of Rust.
+        // SAFETY: here and below the handle belongs to this value alone, and values of Rust are
+        // written.
         checked(unsafe { raw::yk_field_count(self.handle(), &mut count) })?;
         let name = |field| text_of(|room, size, length| unsafe { raw::yk_field_name(self.handle(), field, room, size, length) });
         let of = |field| type_of(|kind| unsafe { raw::yk_field_type(self.handle(), field, kind) });
@@ -63,19 +65,21 @@ impl Expression {
         (0..count).map(|answer| Ok((name(answer)?, of(answer)?))).collect()
     }
 
-    /// The text of an answer, as it was read, or as it is run: optimized.
+    /// The text of an answer, as it was read, or as it is run, optimized.
     pub fn answer_text(&self, answer: usize, optimized: bool) -> Result<String, Error> {
         text_of(|room, size, length| unsafe { raw::yk_answer_text(self.handle(), answer, optimized, room, size, length) })
     }
 
-    /// Runs the expression over a batch: as many columns as there are fields, in their order, each of the field's type and
-    /// of `rows` rows. Refused with the column and row that are wrong, or with the first row in which an answer faults.
+    /// Runs the expression over a batch: as many columns as there are fields, in their order, each
+    /// of the field's type and of `rows` rows. Fails with the column and row that are wrong, or
+    /// with the first row in which an answer faults.
     pub fn run(&self, columns: &[Column<'_>], rows: usize) -> Result<Answers, Error> {
         let raws: Vec<raw::Column<'_>> = columns.iter().map(|column| column.raw).collect();
         let kinds: Vec<Kind> = self.answers()?.into_iter().map(|(_, of)| of.kind).collect();
         let answers = Answers { raw: UnsafeCell::new(Handle::EMPTY), kinds };
         told(|told| {
-            // SAFETY: both handles are of these values alone, and the columns borrow slices of Rust.
+            // SAFETY: both handles belong to these values alone, and the columns borrow slices of
+            // Rust.
             unsafe { raw::yk_run(self.handle(), raws.as_ptr(), raws.len(), rows, answers.raw.get(), told) }
         })?;
         Ok(answers)
@@ -94,7 +98,7 @@ fn type_of(call: impl Fn(&mut raw::Type) -> u32) -> Result<Type, Error> {
 
 impl Drop for Expression {
     fn drop(&mut self) {
-        // SAFETY: the handle is as the library left it, and nothing uses it behind this.
+        // SAFETY: the handle is as the library left it, and nothing uses it after this.
         unsafe { raw::yk_expression_free(self.handle()) }
     }
 }
@@ -104,7 +108,7 @@ pub fn version() -> String {
     text_of(|room, size, length| unsafe { raw::yk_version(room, size, length) }).unwrap_or_default()
 }
 
-/// Whether the library that was linked has the interface that this crate is for.
+/// Whether the linked library has the interface that this crate needs.
 pub fn is_compatible() -> bool {
     // SAFETY: the call reads and writes nothing.
     unsafe { raw::yk_abi_version() == raw::ABI_VERSION }

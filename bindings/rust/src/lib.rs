@@ -24,7 +24,7 @@
 //! ```
 //!
 //! Columns are borrowed for a call and copied once; answers are copied out. An [`Expression`] and its [`Answers`] are of the
-//! thread that made them: neither is `Send`. Batches of some 8,192 rows run fastest.
+//! thread that made them: neither is `Send`. Batches with texts run fastest at some 8,192 rows.
 #![allow(clippy::unit_arg)]
 
 mod answers;

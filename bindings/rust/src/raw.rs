@@ -4,8 +4,8 @@ use std::marker::PhantomData;
 pub const ABI_VERSION: u32 = 1;
 pub const NONE: usize = usize::MAX;
 
-/// What the library has. Zeroed it holds nothing; moved and never copied. The pointer makes it, and all that has it, neither
-/// `Send` nor `Sync`: a handle is of one thread.
+/// A handle of the library. Zeroed it is empty; it may be moved, never copied. The pointer makes
+/// it, and its owners, neither `Send` nor `Sync`: a handle belongs to one thread.
 #[repr(C)]
 #[derive(Debug)]
 pub struct Handle {
@@ -17,7 +17,7 @@ impl Handle {
     pub const EMPTY: Handle = Handle { at: std::ptr::null_mut(), live: false };
 }
 
-/// A slice that is read.
+/// A slice for reading.
 #[repr(C)]
 #[derive(Debug)]
 pub struct Slice<'a, T> {
@@ -46,7 +46,7 @@ impl<T> Default for Slice<'_, T> {
     }
 }
 
-/// A slice that is written.
+/// A slice for writing.
 #[repr(C)]
 #[derive(Debug)]
 pub struct Room<'a, T> {

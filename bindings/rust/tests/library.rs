@@ -1,4 +1,4 @@
-//! What a caller of the crate sees. Expected values are by hand.
+//! The crate from a caller's side. Expected values are by hand.
 use yurkije::{Buffers, Column, ColumnBuf, Error, Expression, Field, Kind, Status, Type, STATUSES};
 
 fn prices() -> Vec<i64> {

@@ -1,4 +1,5 @@
--- The function that answers its first argument: its answer, and what its rules make of a call.
+-- The function that returns its first argument: its result, and the results of its rules for a
+-- call.
 use Rattle.std.proofs.Common.{◌≡◌, ℕ, zero, suc, ◌<◌, List, [], ◌∷◌, length, Option, Some, None, true}
 use Rattle.std.proofs.Common.{sym, ap, ◌∙◌, arith}
 use Rattle.std.specs.Prelude.{slice_get, Result}
@@ -29,7 +30,7 @@ module _ {V O : Type 0} where
   has_first t f o k c h =
       at_least_one (length (children_of t)) (children_fit first_meaning t (custom f o) k c h)
 
-  -- and that one stands in the place of the call
+  -- and that one replaces the call
   pub first_reduced : (t u : Tree V O) (f : V) (o : O) → called t ≡ Some (custom f o)
       → slice_get (children_of t) 0 ≡ Some u → Some u ≡ reduce first_meaning first_rules t
   first_reduced (leaf l) u f o c h = cc
@@ -58,7 +59,7 @@ module _ (type : List LogicalType → Option LogicalType) where
         each = λ i lt. ap (λ (z : ColumnView). gives (row z.rows i)) all;
       }
 
-  -- a copy of the first input is the answer of a function whose value is the first
+  -- a copy of the first input is the result of a function whose value is the first
   pub copy_answers : (cs : List ColumnView) (c : ColumnView) (n : ℕ)
       (answer : Result ColumnView VortexError) → type (types_in cs) ≡ Some c.dtype
       → slice_get cs 0 ≡ Some c → length c.rows ≡ n → AnswersUnlessMemory answer (λ d. d ≡ c)

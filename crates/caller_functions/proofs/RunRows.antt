@@ -1,27 +1,23 @@
 -- The rows of runs, and what a kernel says of the value of each run.
 use Rattle.std.proofs.Common.{◌≡◌, ℕ, ◌<◌, Bool, true, false, List, length, refl, sym, ap}
 use Rattle.std.proofs.Common.{subst, ◌∙◌, arith, cond}
-use Rattle.std.specs.Prelude.{not, map, nat_le, ℤ, pos, Result, slice_index_or}
+use Rattle.std.specs.Prelude.{not, nat_le, Result}
 use Rattle.std.proofs.lemmas.List.{ext_get_or}
 use Rattle.std.proofs.lemmas.List.FromFn.{get_or-map-range_with_len, length-map-range_with_len}
 use Rattle.std.proofs.lemmas.List.Sums.{count_by-le-length}
 use Rattle.vortex_errors.specs.declared.error.VortexError.{VortexError}
 use Rattle.vortex_errors.specs.declared.error.VortexError.TheVariants.{InvalidColumn}
 use Rattle.vortex_errors.specs.Answers.{AnswersUnlessMemory, AnswersWhere}
-use Rattle.vortex_errors.proofs.Answering.{answers_where}
 use Rattle.vortex_bits.specs.Rows.{AreRows}
-use Rattle.vortex_types.specs.declared.dtype.PType.{PType}
-use Rattle.vortex_types.specs.LogicalTypes.{LogicalType, bool_type, integer_type, is_bool_type}
+use Rattle.vortex_types.specs.LogicalTypes.{LogicalType, bool_type, is_bool_type}
 use Rattle.vortex_types.specs.LogicalTypes.{is_nullable}
 use Rattle.vortex_types.specs.ScalarView.{ScalarView}
 use Rattle.vortex_types.specs.Typing.{HasType}
 use Rattle.vortex_types.specs.Values.{Value, null, truth, number, text, bytes, list, is_null}
 use Rattle.vortex_types.proofs.NullValues.{not_null}
-use Rattle.vortex_columns.specs.ColumnView.{ColumnView, row, constant_column, AreTyped, AreInts}
-use Rattle.vortex_columns.specs.ColumnView.{HasInts, IsIntegerType}
-use Rattle.vortex_columns.specs.Made.{int_column}
+use Rattle.vortex_columns.specs.ColumnView.{ColumnView, row, constant_column, AreTyped}
 use Rattle.vortex_columns.specs.Stored.{bool_column}
-use Rattle.vortex_columns.specs.ValidityView.{ValidityView, is_valid_row, FitsRows}
+use Rattle.vortex_columns.specs.ValidityView.{ValidityView, FitsRows}
 use Rattle.std.proofs.lemmas.List.Elements.{All-get_or}
 use Rattle.vortex_kernels.specs.Rows.{HasRows}
 use Rattle.vortex_kernels.specs.Comparison.{AnswersCompare, RefusesCompare, HasComparisonRows}
@@ -29,14 +25,11 @@ use Rattle.vortex_kernels.specs.Comparison.{uneven, unlike}
 use Rattle.vortex_operators.specs.declared.operators.CompareOperator.{CompareOperator}
 use Rattle.vortex_types.specs.TypeEquality.{alike_types}
 use Rattle.vortex_kernels.proofs.Comparing.{constant_row}
-use Rattle.vortex_kernels.proofs.RowLemmas.{bool_answers, bool_dtype, get_or-last, get_or-before}
+use Rattle.vortex_kernels.proofs.RowLemmas.{bool_answers, bool_dtype}
 use Rattle.vortex_arrays.specs.Encoded.{IsDecoded}
 use Rattle.caller_functions.specs.RunLength.{run_at, run_column, HasRunRows, IsRunValidity}
-use Rattle.caller_functions.specs.RunLength.{AreRunInts, is_true, is_i32, are_kept}
-use Rattle.vortex_types.specs.declared.dtype.PType.TheVariants.{I32}
-use Rattle.std.specs.Prelude.{◌||◌, ◌&&◌, is_some, Option, Some, None}
-use Rattle.std.proofs.lemmas.List.{get_or-map}
-use Rattle.std.proofs.Common.{get_or, ◌+◌, ◌++◌, [], ◌∷◌, ◌⊎◌, inl, inr, length-append}
+use Rattle.caller_functions.specs.RunLength.{is_true}
+use Rattle.std.specs.Prelude.{◌||◌}
 use Rattle.vortex_kernels.specs.Comparison.{is_settled}
 use Rattle.vortex_kernels.specs.Boolean.{AnswersBoolean, HasBooleanRows, are_bools}
 use Rattle.vortex_operators.specs.Operators.{is_boolean}
@@ -85,65 +78,6 @@ bool_run_rows c starts n bits v r bool within typed valid are answered =
     ∙ truth_row c.dtype (row c.rows (run_at starts i)) bool
     (typed_row c (run_at starts i) typed (run_within starts i (length c.rows) within)))
     answered)
-
-integer_dtype : (p : PType) (t : LogicalType) → IsIntegerType p t
-    → integer_type p (is_nullable t) ≡ t
-integer_dtype p (integer_type q n) h = ap (λ x. integer_type x n) (sym h)
-integer_dtype p t h = absurd h
-
--- a row that is not null is its number
-number_row : (v : Value) (z : ℤ) → (is_null v ≡ false → v ≡ number z)
-    → cond (not (is_null v)) (number z) null ≡ v
-number_row null z h = refl
-number_row (truth b) z h = sym (h refl)
-number_row (number y) z h = sym (h refl)
-number_row (text bs) z h = sym (h refl)
-number_row (bytes bs) z h = sym (h refl)
-number_row (list vs) z h = sym (h refl)
-
-module _ {A : Type 0} (p : PType) (number_of : A → ℤ) (c : ColumnView) (starts : List ℕ) (n : ℕ)
-    (values : List ℤ) (xs : List A) (v : ValidityView)
-    (ints : HasInts p c × AreInts c values) (within : length starts < length c.rows)
-    (valid : IsRunValidity c starts n v) (are : AreRunInts values starts n (map number_of xs))
-    (count : length xs ≡ n)
-  where
-    int_run_row : (i : ℕ) → i < n
-        → cond (is_valid_row v i) (number (slice_index_or (map number_of xs) i (pos 0))) null
-        ≡ row c.rows (run_at starts i)
-    int_run_row i lt =
-        let below = run_within starts i (length c.rows) within in
-        (λ j. cond (valid.each i lt j) (number (are.each i lt j)) null)
-        ∙ number_row (row c.rows (run_at starts i))
-        (slice_index_or values (run_at starts i) (pos 0))
-        (λ h. ints.1.each (run_at starts i) (omega (arith, ints.1.count, below)) h)
-
-    int_run_made : (d : ColumnView) → d ≡ int_column p number_of xs v → HasRunRows c starts n d
-    int_run_made d e = record {
-      dtype =
-          ap (λ (x : ColumnView). x.dtype) e ∙ ap (integer_type p) valid.nullability
-          ∙ integer_dtype p c.dtype ints.0.integers;
-      count =
-          ap (λ (x : ColumnView). length x.rows) e ∙ length-map-range_with_len cell 0 (length xs)
-          ∙ count;
-      each = λ i lt.
-          ap (λ (x : ColumnView). row x.rows i) e
-          ∙ get_or-map-range_with_len cell 0 (length xs) i i null (omega (arith, count, lt))
-          (omega arith)
-          ∙ int_run_row i lt;
-    }
-      where
-        cell : ℕ → Value
-        cell k = cond (is_valid_row v k) (number (slice_index_or (map number_of xs) k (pos 0))) null
-
-    pub int_run_rows : (r : Result ColumnView VortexError)
-        → AnswersWhere r (FitsRows v (length xs)) (λ d. d ≡ int_column p number_of xs v)
-        InvalidColumn
-        → AnswersUnlessMemory r (HasRunRows c starts n)
-    int_run_rows r answered =
-        answers_where r (FitsRows v (length xs)) (λ d. d ≡ int_column p number_of xs v)
-        (HasRunRows c starts n) InvalidColumn
-        (subst (λ (m : ℕ). FitsRows v m) (sym count) valid.fits)
-        int_run_made answered
 
 -- the rows of the column that runs stand for
 pub run_count : (c : ColumnView) (starts : List ℕ) (n : ℕ)
@@ -198,36 +132,9 @@ rows_of_runs f t c other runs d s starts n within is same told h = record {
         → constant_column s m ≡ constant_column s (length (constant_column s m).rows)
     refl_of s m = ap (constant_column s) (sym (length_of s m))
 
--- which columns are kept
-i32_is : (t : LogicalType) → IsIntegerType I32 t → is_i32 t ≡ true
-i32_is (integer_type I32 n) h = refl
-i32_is (integer_type p n) h = ap (λ q. is_i32 (integer_type q n)) h
-i32_is t h = absurd h
-
-is_i32_type : (t : LogicalType) → is_i32 t ≡ true → IsIntegerType I32 t
-is_i32_type (integer_type I32 n) h = refl
-is_i32_type t h = cc
-
 either_true : (a b : Bool) → b ≡ true → (a || b) ≡ true
 either_true true b h = refl
 either_true false b h = h
-
-pub ints_kept : (c : ColumnView) → HasInts I32 c → are_kept c ≡ true
-ints_kept c h =
-    either_true (is_bool_type c.dtype) (is_i32 c.dtype && not (is_some c.constant))
-    (λ i. i32_is c.dtype h.integers i && not (is_some (h.computed i)))
-
-pub bool_kept : (c : ColumnView) → are_kept c ≡ true → (¬ HasInts I32 c)
-    → is_bool_type c.dtype ≡ true
-bool_kept c kept none = by (is_bool_type c.dtype) (is_i32 c.dtype) c.constant kept refl refl
-  where
-    by : (a b : Bool) (o : Option ScalarView) → (a || (b && not (is_some o))) ≡ true
-        → is_i32 c.dtype ≡ b → c.constant ≡ o → a ≡ true
-    by true b o h e f = refl
-    by false true None h e f = absurd (none record
-        { integers = is_i32_type c.dtype e; computed = f })
-    by false true (Some s) h e f = cc
-    by false false o h e f = cc
 
 pub constant_length : (s : ScalarView) (m : ℕ) (d : ColumnView) → d ≡ constant_column s m
     → m ≡ length d.rows
@@ -292,38 +199,3 @@ comparison_of_runs op c v other runs r d s starts n at from within is lengths al
         each = rows.each;
       };
     }
-
--- one integer more
-pub no_ints : (values : List ℤ) (starts : List ℕ) → AreRunInts values starts 0 []
-no_ints values starts = record { count = refl; each = λ i lt. absurd (omega arith) }
-
-pub more_ints : (values : List ℤ) (starts : List ℕ) (n : ℕ) (rows : List ℤ) (z : ℤ)
-    → AreRunInts values starts n rows → z ≡ slice_index_or values (run_at starts n) (pos 0)
-    → AreRunInts values starts (n + 1) (rows ++ z ∷ [])
-more_ints values starts n rows z are is = record {
-  count = length-append rows (z ∷ []) ∙ ap (λ m. m + 1) are.count;
-  each = λ i lt. by i (is_or_less i lt);
-}
-  where
-    is_or_less : (i : ℕ) → i < n + 1 → (i < n) ⊎ (i ≡ n)
-    is_or_less i lt = grind arith
-
-    by : (i : ℕ) → (i < n) ⊎ (i ≡ n)
-        → slice_index_or (rows ++ z ∷ []) i (pos 0)
-        ≡ slice_index_or values (run_at starts i) (pos 0)
-    by i (inl lt) =
-        get_or-before (pos 0) rows z i (omega (arith, are.count, lt)) ∙ are.each i lt
-    by i (inr e) =
-        ap (λ k. slice_index_or (rows ++ z ∷ []) k (pos 0)) (e ∙ sym are.count)
-        ∙ get_or-last (pos 0) rows z ∙ is
-        ∙ ap (λ k. slice_index_or values (run_at starts k) (pos 0)) (sym e)
-
--- the number of what is read
-pub read_map : {A : Type 0} (of : A → ℤ) (values : List A) (starts : List ℕ) (i k : ℕ) (x : A)
-    → k ≡ run_at starts i → length starts < length values → x ≡ get_or values k x
-    → of x ≡ slice_index_or (map of values) (run_at starts i) (pos 0)
-read_map of values starts i k x e within is =
-    ap of is
-    ∙ sym (get_or-map of values k x (pos 0)
-    (subst (λ (j : ℕ). j < length values) (sym e) (run_within starts i (length values) within)))
-    ∙ ap (λ j. slice_index_or (map of values) j (pos 0)) e

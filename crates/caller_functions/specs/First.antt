@@ -1,4 +1,4 @@
--- A caller's function that answers its first argument, and its rules.
+-- A caller's function that returns its first argument, and its rules.
 use Rattle.std.specs.Prelude.{◌≡◌, codes, List, [], ◌∷◌, Option, Some, None, true, false, refl}
 use Rattle.std.proofs.Common.{subst}
 use Rattle.vortex_errors.specs.declared.arity.Arity.TheVariants.{Variadic}

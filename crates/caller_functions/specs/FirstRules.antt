@@ -1,4 +1,4 @@
--- The rules of the function that answers its first argument are lawful.
+-- The rules of the function that returns its first argument are lawful.
 use Rattle.std.specs.Prelude.{◌≡◌, codes, get_or, Some}
 use Rattle.std.proofs.Common.{sym, ap, ◌∙◌, subst, arith, inl}
 use Rattle.vortex_types.specs.LogicalTypes.{LogicalType}
@@ -12,7 +12,7 @@ use Rattle.caller_functions.specs.First.{first_value, first_type, first_tree, fi
 use Rattle.caller_functions.specs.First.{first_rules}
 
 module _ {V O : Type 0} where
-  -- the first argument in the place of the call
+  -- the first argument replaces the call
   first_rewrites : (f : V) (o : O) (ts : Trees V O) (t : LogicalType) (u : Tree V O)
       → tree_type first_meaning (call (custom f o) ts) ≡ Some t → first_tree ts ≡ Some u
       → Rewrites first_meaning (call (custom f o) ts) u

@@ -1,4 +1,4 @@
--- A caller's function over Bool that faults with the number 1 where its argument is false; a null
+-- A caller's function over Bool that faults with the number 1 if its argument is false; a null
 -- stays null.
 use Rattle.std.specs.Prelude.{◌≡◌, codes, List, [], ◌∷◌, Some, true, false, Any, refl}
 use Rattle.std.specs.Prelude.{ℕ, zero, suc, ◌<◌, slice_index_or}

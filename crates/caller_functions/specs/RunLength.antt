@@ -1,9 +1,7 @@
 -- Columns by their runs of equal rows.
-use Rattle.std.specs.Prelude.{◌≡◌, ℕ, ◌<◌, ℤ, pos, List, nat_le, map, None, not, length, Bool, true}
-use Rattle.std.specs.Prelude.{false, slice_index_or, is_some, ◌||◌, ◌&&◌}
+use Rattle.std.specs.Prelude.{◌≡◌, ℕ, List, nat_le, map, None, not, length, Bool, false}
 use Rattle.std.specs.List.{count_by, range_with_len}
-use Rattle.vortex_types.specs.LogicalTypes.{LogicalType, integer_type, is_bool_type, is_nullable}
-use Rattle.vortex_types.specs.declared.dtype.PType.TheVariants.{I32}
+use Rattle.vortex_types.specs.LogicalTypes.{is_nullable}
 use Rattle.vortex_types.specs.ScalarView.{ScalarView}
 use Rattle.vortex_types.specs.Values.{Value, truth, is_null}
 use Rattle.vortex_columns.specs.ColumnView.{ColumnView, row, constant_column}
@@ -23,11 +21,6 @@ abbrev pub IsRunValidity : ColumnView → List ℕ → ℕ → ValidityView → 
 IsRunValidity values starts n =
     IsValidity (is_nullable values.dtype) n (λ i. not (is_null (row values.rows (run_at starts i))))
 
-pub record AreRunInts (values : List ℤ) (starts : List ℕ) (n : ℕ) (rows : List ℤ) : Type 0 where
-  pub count : length rows ≡ n
-  pub each : (i : ℕ) → i < n
-      → slice_index_or rows i (pos 0) ≡ slice_index_or values (run_at starts i) (pos 0)
-
 -- the column that runs stand for
 abbrev pub run_column : ColumnView → List ℕ → ℕ → ColumnView
 run_column values starts n =
@@ -45,11 +38,3 @@ is_true v = false
 -- a constant column of that scalar
 abbrev pub IsConstantOfScalar : ColumnView → ScalarView → Type 0
 IsConstantOfScalar c s = c ≡ constant_column s (length c.rows)
-
--- a column of Bool, or of i32 and no constant
-abbrev pub is_i32 : LogicalType → Bool
-is_i32 (integer_type I32 n) = true
-is_i32 t = false
-
-abbrev pub are_kept : ColumnView → Bool
-are_kept c = is_bool_type c.dtype || (is_i32 c.dtype && not (is_some c.constant))

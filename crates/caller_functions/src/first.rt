@@ -1,4 +1,4 @@
-//! A caller's function with rules of its own.
+//! A caller's function with its own rules.
 ghost use Rattle.caller_functions.specs.First.{first_meaning, first_lawful, first_rules};
 ghost use Rattle.caller_functions.specs.FirstRules.{first_rules_lawful, first_identity};
 
@@ -11,8 +11,8 @@ use vortex_functions::{
 };
 use vortex_rewriting::{ReduceNodeValidity, ReduceTree, ScalarFnRules};
 
-/// The first of one argument or more, of any types. Both rules put the first argument in the place
-/// of the call.
+/// Returns the first of one or more arguments, of any types. Both rules replace the call by the
+/// first argument.
 #[derive(Clone, Drop)]
 pub struct First;
 

@@ -1,4 +1,4 @@
-//! A caller's function with options that have a text, and are written as bytes.
+//! A caller's function whose options have a text and bytes.
 ghost use Rattle.std.specs.Prelude.{Some, codes};
 ghost use Rattle.vortex_interface.specs.Shipped.{shipped_lawful};
 ghost use Rattle.vortex_interface.specs.Shipped as shipped;
@@ -18,7 +18,7 @@ use vortex_functions::{
 };
 use vortex_rewriting::{ReduceNodeValidity, ReduceTree, ScalarFnRules, default_validity};
 
-/// Options that have a text and are one byte.
+/// Options with a text, stored in one byte.
 #[derive(Clone, Debug, PartialEq, Eq, Hash, Drop)]
 pub struct Level {
     pub level: u8,
@@ -58,7 +58,7 @@ impl ScalarFnVTable for Levelled {
         Ok(Some(bytes))
     }
 
-    /// E8 exactly for bytes that are not one; takes no memory.
+    /// E8 exactly if there is not one byte; allocates nothing.
     fn deserialize(&self, _alloc: Global, bytes: &[u8]) -> VortexResult<Level>
         ensures { ReadsOptions (level_read bytes.now) result }
     {

@@ -1,5 +1,5 @@
-//! What callers bring, for tests: a function with options, one that faults, one with rules, and a
-//! column by its runs.
+//! Custom code of callers, for tests: a function with options, one that faults, one with rules, and
+//! a run-length column.
 #![tactic(auto)]
 
 pub mod first;

@@ -1,4 +1,4 @@
-//! A caller's function with a fault of its own.
+//! A caller's function with its own fault.
 ghost use Rattle.std.specs.Prelude.{◌≡◌, ◌<◌, length, true};
 ghost use Rattle.vortex_errors.specs.Answers.{Answers};
 ghost use Rattle.vortex_types.specs.LogicalTypes.{is_bool_type};
@@ -12,7 +12,7 @@ use vortex_columns::{
 };
 use vortex_functions::{ChildName, EmptyOptions, ExecutionArgs, ScalarFnId, ScalarFnVTable};
 
-/// Over Bool: E10 with the number 1 where its argument is false; true stays true, and a null stays
+/// Over Bool: E10 with the number 1 if its argument is false; true stays true, and a null stays
 /// null.
 #[derive(Clone, Drop)]
 pub struct MustBeTrue;

@@ -1,63 +1,35 @@
-//! A column of Bool or i32 that is kept by its runs.
-ghost use Rattle.std.specs.Prelude.{◌≡◌, ◌<◌, ◌&&◌, false, length, true, IsTrue, MatchOption};
-ghost use Rattle.caller_functions.specs.Words.{AnswersUnlessMemory, HasBooleanRows, are_kept};
-ghost use Rattle.caller_functions.specs.Words.{HasComparisonRows, HasRunRows, IsConstantOfScalar};
-ghost use Rattle.caller_functions.specs.Words.{are_bools, alike_types, constant_column};
+//! A column of Bool that is kept by its runs.
+ghost use Rattle.std.specs.Prelude.{◌≡◌, ◌<◌, ◌&&◌, false, length, true, MatchOption};
+ghost use Rattle.caller_functions.specs.Words.{AnswersUnlessMemory, HasBooleanRows, alike_types};
+ghost use Rattle.caller_functions.specs.Words.{HasComparisonRows, IsConstantOfScalar, are_bools};
+ghost use Rattle.caller_functions.specs.Words.{constant_column};
 ghost use Rattle.caller_functions.specs.Words.{is_bool_type, is_boolean, is_null_constant};
 ghost use Rattle.caller_functions.specs.Words.{is_value_constant, run_column};
 
-use crate::runs::{bool_runs, int_runs};
+use crate::runs::bool_runs;
 use vortex_arrays::{BooleanKernel, CompareKernel, EncodedColumn};
 use vortex_columns::{Column, DType, ExecutionCtx, Scalar, VortexError, VortexResult};
 use vortex_kernels::{CompareOperator, Operator, execute_boolean, execute_compare};
 
-/// A column of Bool or i32 by its runs: the value of each, the row in which each but the first
-/// begins, and how many rows there are. Its kernels answer beside constants: And and Or beside
-/// null, comparisons beside any other value.
+/// A column of Bool by its runs: the value of each, the row in which each but the first begins, and
+/// how many rows there are. Its kernels answer beside constants: And and Or beside null,
+/// comparisons beside any other value.
 #[derive(Drop)]
 pub struct RunLength {
     values: Box<Column>,
     starts: Vec<usize>,
     len: usize,
     ghost within: { length starts.items < length values.value.rows },
-    ghost kept: { are_kept values.value ≡ true },
-}
-
-/// Whether a column is of Bool, or of i32 and no constant.
-fn is_kept(values: &Column) -> bool
-    ensures { IsTrue result → are_kept values.now ≡ true }
-{
-    match values.ints::<i32>() {
-        Some(_) => true,
-        None => values.dtype().is_boolean(),
-    }
-}
-
-/// The rows of runs of either type.
-fn rows_of(
-    values: &Column,
-    starts: &[usize],
-    len: usize,
-    ctx: &mut ExecutionCtx,
-) -> VortexResult<Column>
-    requires kept { are_kept values.now ≡ true }
-    requires within { length starts.now < length values.now.rows }
-    ensures { AnswersUnlessMemory result (HasRunRows values.now starts.now len) }
-{
-    match values.ints::<i32>() {
-        Some(ints) => int_runs(ctx.alloc(), values, ints, starts, len),
-        None => bool_runs(ctx.alloc(), values, starts, len),
-    }
+    ghost bool: { is_bool_type values.value.dtype ≡ true },
 }
 
 impl RunLength {
-    /// E12 for fewer values than runs, and for values that are neither Bool nor i32, or a constant
-    /// column of the latter.
+    /// E12 for fewer values than runs, and for values that are not Bool.
     pub fn try_new(values: Box<Column>, starts: Vec<usize>, len: usize) -> VortexResult<RunLength> {
         if starts.len() >= values.len() {
             return Err(VortexError::InvalidColumn);
         }
-        if !is_kept(&*values) {
+        if !values.dtype().is_boolean() {
             return Err(VortexError::InvalidColumn);
         }
         Ok(RunLength {
@@ -80,7 +52,7 @@ impl EncodedColumn for RunLength {
     }
 
     fn decode(&self, ctx: &mut ExecutionCtx) -> VortexResult<Column> {
-        rows_of(&*self.values, self.starts.as_slice(), self.len, ctx)
+        bool_runs(ctx.alloc(), &*self.values, self.starts.as_slice(), self.len)
     }
 }
 

@@ -1,15 +1,12 @@
 //! The rows that runs stand for.
-ghost use Rattle.std.specs.Prelude.{◌≡◌, ◌<◌, ◌≤◌, ℕ, false, length, map, not, slice_index_or};
-ghost use Rattle.std.specs.Prelude.{true};
-ghost use Rattle.caller_functions.specs.Words.{AnswersUnlessMemory, AreInts, AreRunInts, HasInts};
-ghost use Rattle.caller_functions.specs.Words.{HasRunRows, IsIntegerType, IsRunValidity};
-ghost use Rattle.caller_functions.specs.Words.{cell_value};
-ghost use Rattle.caller_functions.specs.Words.{is_bool_type, is_null, is_true, row, run_at};
-ghost use Rattle.caller_functions.specs.Words.{validity_of};
+ghost use Rattle.std.specs.Prelude.{◌≡◌, ◌<◌, ◌≤◌, length, not, true};
+ghost use Rattle.caller_functions.specs.Words.{AnswersUnlessMemory, HasRunRows, IsRunValidity};
+ghost use Rattle.caller_functions.specs.Words.{cell_value, is_bool_type, is_null, is_true, row};
+ghost use Rattle.caller_functions.specs.Words.{run_at, validity_of};
 
 use std::alloc::Global;
 use vortex_bits::{RowBits, collect_rows};
-use vortex_columns::{Cell, Column, NativePType, Validity, VortexResult};
+use vortex_columns::{Cell, Column, Validity, VortexResult};
 
 /// The run that a row lies in: how many begin at it or before it, the first, which begins at row 0,
 /// not counted.
@@ -102,39 +99,4 @@ pub(crate) fn bool_runs(
     let validity = run_validity(alloc, values, starts, len)?;
     let bits = collect_rows(alloc, &RunTruths { values, starts }, len)?;
     Column::try_bool(alloc, bits, validity)
-}
-
-/// The integer of each row.
-fn run_ints<T: NativePType>(
-    alloc: Global,
-    values: &[T],
-    starts: &[usize],
-    len: usize,
-) -> VortexResult<Vec<T>>
-    requires { length starts.now < length values.now }
-    ensures { AnswersUnlessMemory result (λ rows. AreRunInts (map T.number values.now)
-        starts.now len (map T.number rows.items)) }
-{
-    let mut rows = Vec::new(alloc);
-    for i in 0..len {
-        rows.push(values[run_of(starts, i)])?;
-    }
-    Ok(rows)
-}
-
-/// The rows of runs of integers.
-pub(crate) fn int_runs<T: NativePType>(
-    alloc: Global,
-    column: &Column,
-    values: &[T],
-    starts: &[usize],
-    len: usize,
-) -> VortexResult<Column>
-    requires ints { HasInts T.ptype column.now × AreInts column.now (map T.number values.now) }
-    requires within { length starts.now < length column.now.rows }
-    ensures { AnswersUnlessMemory result (HasRunRows column.now starts.now len) }
-{
-    let rows = run_ints(alloc, values, starts, len)?;
-    let validity = run_validity(alloc, column, starts, len)?;
-    Column::try_primitive(alloc, rows, validity)
 }

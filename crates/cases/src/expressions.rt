@@ -1,4 +1,4 @@
-//! Cases of expressions: the columns that lines of a script say, and a text that is read over them.
+//! Cases of expressions: columns given by lines, and a text that is read over them.
 
 use rowfn_lines::parse::parse;
 use rowfn_lines::{Line, lines};
@@ -6,18 +6,18 @@ use std::alloc::Global;
 use vortex_columns::{Column, ExecutionCtx, StructFields, VortexError, VortexResult};
 use vortex_expressions::{Answer, read_answers, read_expression, write_expression};
 
-/// What a case asks of a text.
+/// What a case checks of a text.
 #[derive(Clone, Copy)]
 enum Question {
     /// The tree of an expression, and its type.
     Tree,
-    /// The text that this tree is written as.
+    /// The text of this tree.
     Written,
     /// The columns of a list of answers.
     Answers,
 }
 
-/// A text, what is asked of it, and the lines that say its columns.
+/// A text, what is checked of it, and the lines of its columns.
 #[derive(Clone, Copy)]
 pub struct ExpressionCase<'a> {
     question: Question,
@@ -33,7 +33,7 @@ struct Batch {
     columns: Vec<Column>,
 }
 
-/// The case in what is written before the line `--`; none where it is a script.
+/// The case in the text before the line `--`; none if it is a script.
 pub fn expression_case(script: &str) -> Option<ExpressionCase<'_>> {
     let (question, (columns, text)) = if let Some(parts) = script.split_once("\ntree\n") {
         (Question::Tree, parts)
@@ -49,7 +49,7 @@ pub fn expression_case(script: &str) -> Option<ExpressionCase<'_>> {
     })
 }
 
-/// Adds a column that has the row count, under a name that no other has.
+/// Adds a column with the row count and a new name.
 fn add_column(alloc: Global, batch: &mut Batch, name: &str, column: Column) -> VortexResult<()> {
     if column.len() != batch.row_count {
         return Err(VortexError::InvalidColumn);
@@ -63,7 +63,7 @@ fn add_column(alloc: Global, batch: &mut Batch, name: &str, column: Column) -> V
     Ok(())
 }
 
-/// The columns of `rows` and `col` lines. E12 where a line is another.
+/// The columns of `rows` and `col` lines. E12 for any other line.
 fn read_batch(alloc: Global, text: &str) -> VortexResult<Batch> {
     let mut batch = Batch {
         row_count: 0,
@@ -94,8 +94,7 @@ fn tree_text(alloc: Global, scope: &StructFields, text: &str) -> VortexResult<St
     }
 }
 
-/// The text that the tree of a text is written as, followed by the tree of that text where it is
-/// another.
+/// The text of the tree of a text, followed by the tree of that text if it is another.
 fn written_text(alloc: Global, scope: &StructFields, text: &str) -> VortexResult<String> {
     let Ok(tree) = read_expression(alloc, scope, text) else {
         return tree_text(alloc, scope, text);
@@ -146,7 +145,7 @@ fn answers_text(alloc: Global, batch: &Batch, text: &str) -> VortexResult<String
     }
 }
 
-/// What a case answers, in lines. E12 where its columns are badly written; else the fault of the
+/// The result of a case, in lines. E12 for a syntax error in its columns; else the fault of the
 /// first answer that has one.
 pub fn expression_text(alloc: Global, case: ExpressionCase<'_>) -> VortexResult<String> {
     let batch = read_batch(alloc, case.columns)?;

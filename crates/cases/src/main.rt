@@ -1,6 +1,6 @@
-//! Runs cases, and reports each that prints something else than it says.
+//! Runs cases, and reports each whose output differs from the expected one.
 //!
-//! A case is a script of `rowfn` and what it prints, or an expression and what it answers. The
+//! A case is a script of `rowfn` and its output, or an expression and its results. The
 //! arguments name files of cases:
 //!
 //! ```text
@@ -27,7 +27,7 @@
 //!
 //! A line that begins with `== ` begins a case, and a line `--` ends its script. The lines after it
 //! are what the script prints, and last the line that it ends with on standard error, if there is
-//! one. Blank lines at the end of a case are no part of it.
+//! one. Blank lines at the end of a case are ignored.
 //!
 //! An expression follows a line that asks for its `tree`, for the text that this is `written`
 //! as, or for the columns of its `answers`. The lines before it are `rows` and `col` lines.
@@ -42,7 +42,7 @@ use std::process::ExitCode;
 use std::rt::{Env, Files};
 use std::{env, fs, io};
 
-/// A script, and what it prints.
+/// A script, and its output.
 #[derive(Clone, Copy)]
 struct Case<'a> {
     name: &'a str,
@@ -50,14 +50,14 @@ struct Case<'a> {
     wanted: &'a str,
 }
 
-/// How many cases ran, and how many of them printed something else.
+/// How many cases ran, and how many differed.
 #[derive(Clone, Copy)]
 struct Counts {
     cases: u64,
     differ: u64,
 }
 
-/// The case in the text after a `== `; none where no line ends its script.
+/// The case in the text after a `== `; none if no line ends its script.
 fn case_of(text: &str) -> Option<Case<'_>> {
     let (name, body) = text.split_once('\n')?;
     let (script, wanted) = body.split_once("\n--\n")?;
@@ -68,7 +68,7 @@ fn case_of(text: &str) -> Option<Case<'_>> {
     })
 }
 
-/// What a case prints, and how it ends.
+/// The output of a case, and how it ends.
 fn outcome_of(alloc: Global, script: &str) -> (Vec<u8>, End) {
     let Some(case) = expression_case(script) else {
         let outcome = interpret(alloc, script.as_bytes());
@@ -80,7 +80,7 @@ fn outcome_of(alloc: Global, script: &str) -> (Vec<u8>, End) {
     }
 }
 
-/// What a case prints, and after it the line that it ends with.
+/// The output of a case, then the line that it ends with.
 fn printed(alloc: Global, script: &str) -> io::Result<Vec<u8>> {
     let (mut out, ending) = outcome_of(alloc, script);
     let Ok(line) = fault_line(alloc, &ending) else {
@@ -90,7 +90,7 @@ fn printed(alloc: Global, script: &str) -> io::Result<Vec<u8>> {
     Ok(out)
 }
 
-/// Whether a case prints what it says. If not, both are printed.
+/// Whether a case prints the expected output. If not, both are printed.
 fn holds(rt: &(impl Print + AllocGlobal), case: Case<'_>) -> io::Result<bool> {
     let out = printed(rt.alloc(), case.script)?;
     let Ok(got) = std::str::from_utf8(&out) else {
@@ -105,7 +105,7 @@ fn holds(rt: &(impl Print + AllocGlobal), case: Case<'_>) -> io::Result<bool> {
     Ok(false)
 }
 
-/// Runs the cases of a file. One that is badly written counts as one that differs.
+/// Runs the cases of a file. One with a syntax error counts as different.
 fn run_file(
     rt: &(impl Print + Files + AllocGlobal),
     name: &str,
@@ -147,7 +147,7 @@ fn run(rt: &(impl Print + Env + Files + AllocGlobal)) -> io::Result<u64> {
     Ok(differ)
 }
 
-/// Ends with 0 where each case prints what it says, with 1 where one does not, and with 3 where a
+/// Ends with 0 if each case prints the expected output, with 1 if one does not, and with 3 if a
 /// file cannot be read or memory runs out.
 fn main(rt: HostRuntime) -> ExitCode {
     match run(&rt) {

@@ -5,7 +5,7 @@ use fixtures::same;
 use std::alloc::Global;
 use vortex_columns::{BitBuffer, Ints, NativePType, Nullability, PType, Validity, VortexResult};
 
-/// The bits of bytes 0x80, 0x01, 0x00 and 0xFF from place 7 on.
+/// The bits of bytes 0x80, 0x01, 0x00 and 0xFF from bit 7 on.
 fn three_bytes(alloc: Global) -> VortexResult<BitBuffer> {
     BitBuffer::new(Vec::from_array(alloc, [0x80u8, 0x01, 0x00, 0xFF])?, 7, 20)
 }
@@ -33,8 +33,8 @@ fn words_begin_anywhere_and_end_with_the_range(rt: HostRuntime) {
     sure(&rt, is_word(rt, word(alloc, 17, 2), 0b11));
 }
 
-/// Whether a copy of the validity of rows that are valid and not, fits them alone, has the bits
-/// and is nullable.
+/// Whether a copy of the validity of valid and invalid rows, valid only for their number, has the
+/// bits and is nullable.
 fn is_listed(rt: HostRuntime) -> VortexResult<bool> {
     let alloc = rt.alloc();
     let validity = Validity::Array(BitBuffer::from_bools(alloc, &[true, false])?);
@@ -53,7 +53,7 @@ fn validity_is_read(rt: HostRuntime) {
     assert!(rt; Validity::AllValid.is_valid(7) && !Validity::AllInvalid.is_valid(7));
 }
 
-/// Whether integers are of i16 alone, and are those.
+/// Whether integers are only of i16, and are those.
 fn are_shorts(rt: HostRuntime, ints: &Ints, wanted: &[i16]) -> bool {
     let same = match i16::of(ints) {
         Some(values) => same(rt, values, wanted),

@@ -1,7 +1,7 @@
 //! Columns of each kind, and which of their rows are valid.
 
 use crate::questions::sure;
-use fixtures::{Ask, Made, kept, names, nullable_bools, numbers, same};
+use fixtures::{Made, kept, names, nullable_bools, numbers, same};
 use std::alloc::Global;
 use vortex_columns::{Column, ValidRows, Validity, VortexResult, both_valid};
 
@@ -71,21 +71,6 @@ pub fn maps(alloc: Global, offsets: [usize; 2], sizes: [usize; 2]) -> Made {
         alloc,
         Column::try_map(alloc, keys, values, offsets, sizes, Validity::NonNullable),
     )
-}
-
-/// No elements, as lists whose sizes add up to more than usize holds.
-fn past_usize(alloc: Global) -> Made {
-    let (size, len) = (4294967295, 4294967298);
-    let none = Column::null(0);
-    kept(
-        alloc,
-        Column::try_fixed_size_list(alloc, none, size, len, Validity::AllValid),
-    )
-}
-
-#[test]
-fn a_product_past_usize_is_refused(rt: HostRuntime) {
-    assert!(rt; rt.is_refused(past_usize(rt.alloc()), "InvalidColumn"));
 }
 
 /// Whether three truth values and their validity are borrowed as three bits each, the second not valid.

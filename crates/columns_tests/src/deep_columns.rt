@@ -1,4 +1,4 @@
-//! Columns of many levels, for which no calls stand within calls.
+//! Columns too deep for recursion.
 
 use crate::questions::sure;
 use crate::taken::are_below;
@@ -6,10 +6,10 @@ use fixtures::{Made, kept, names};
 use std::alloc::Global;
 use vortex_columns::{Column, ExecutionCtx, Validity, VortexResult};
 
-/// Of columns within columns. Each holds its whole type: their memory goes by the square of this.
+/// Of columns within columns. Each has its whole type, so memory is quadratic in this.
 const COLUMNS: usize = 1_000;
 
-/// Of records, whose types hold names too.
+/// Of records, whose types have names too.
 const RECORDS: usize = 500;
 
 /// Lists of one element within one another, in one row.

@@ -1,4 +1,4 @@
-//! Types and values of many levels, for which no calls stand within calls.
+//! Types and values too deep for recursion.
 
 use crate::questions::sure;
 use fixtures::{Ask, boxed, fields, same};
@@ -8,7 +8,7 @@ use vortex_columns::{DType, Nullability, Scalar, ScalarValue, StructFields, Vort
 
 const NO: Nullability = Nullability::NonNullable;
 
-/// More than calls within calls would reach.
+/// More than recursion would reach.
 const LEVELS: usize = 200_000;
 
 /// Lists within lists, around that type.
@@ -29,7 +29,7 @@ fn pairs(alloc: Global) -> VortexResult<DType> {
     Ok(dtype)
 }
 
-/// Maps within maps, each in the place of the keys.
+/// Maps within maps, each as the keys.
 fn maps_by_key(alloc: Global) -> VortexResult<DType> {
     let mut dtype = DType::Null;
     for _ in 0..LEVELS {
@@ -38,7 +38,7 @@ fn maps_by_key(alloc: Global) -> VortexResult<DType> {
     Ok(dtype)
 }
 
-/// Maps within maps, each in the place of the values.
+/// Maps within maps, each as the values.
 fn maps_by_value(alloc: Global) -> VortexResult<DType> {
     let mut dtype = DType::Null;
     for _ in 0..LEVELS {
@@ -62,7 +62,7 @@ fn structs(alloc: Global) -> VortexResult<DType> {
     Ok(dtype)
 }
 
-/// Structs of two fields within one another, each in the place of the first.
+/// Structs of two fields within one another, each as the first.
 fn structs_by_first(alloc: Global) -> VortexResult<DType> {
     let mut dtype = DType::Null;
     for _ in 0..LEVELS {
@@ -105,7 +105,7 @@ fn deep_structs_are_copied_written_and_compared(rt: HostRuntime) {
     sure(&rt, is_whole(rt, structs_by_first(alloc), 20 * LEVELS + 4));
 }
 
-/// Whether two types differ, and in nullability alone; both are dropped here.
+/// Whether two types differ, and only in nullability; both are dropped here.
 fn differ_by_null(one: VortexResult<DType>, other: VortexResult<DType>) -> VortexResult<bool> {
     let (one, other) = (one?, other?);
     Ok(one != other && one.eq_ignore_nullability(&other))
@@ -145,7 +145,7 @@ fn literal(alloc: Global) -> VortexResult<Scalar> {
 }
 
 /// A struct of two fields that nests in the first, as a literal; with that truth value, or
-/// another value, last of all.
+/// another value, as the last one.
 fn record(alloc: Global, last: ScalarValue) -> VortexResult<Scalar> {
     let mut value = None;
     for _ in 1..LEVELS {
@@ -157,7 +157,7 @@ fn record(alloc: Global, last: ScalarValue) -> VortexResult<Scalar> {
     )
 }
 
-/// Maps of one entry within one another, each in the place of the key, as a literal.
+/// Maps of one entry within one another, each as the key, as a literal.
 fn keyed(alloc: Global) -> VortexResult<Scalar> {
     let mut value = None;
     for _ in 0..LEVELS {

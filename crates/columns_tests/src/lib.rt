@@ -1,5 +1,5 @@
 //! Tests of bits, views, types, values and columns, and of columns in Arrow's format: each call on
-//! its happy path, the texts that no contract says, and depth.
+//! its happy path, texts without contracts, and depth.
 #![tactic(auto)]
 
 #[cfg(test)]

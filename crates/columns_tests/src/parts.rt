@@ -1,4 +1,4 @@
-//! Reads of each kind of column, and the parts that are borrowed of it.
+//! Reads of each kind of column, and its borrowed parts.
 
 use crate::columns::{byte_lists, fixed, lists, maps, pair, records};
 use crate::questions::sure;
@@ -47,7 +47,7 @@ fn rows_read(alloc: Global, copy: &Column, column: &Column) -> VortexResult<bool
     Ok(copy.validity(alloc)?.fits(column.len()) && *copy.dtype() == *column.dtype())
 }
 
-/// Whether the column's copy reads as it does, and these parts alone are borrowed of it.
+/// Whether the column's copy reads the same, and has only these parts.
 fn has_parts(rt: HostRuntime, column: Made, wanted: [bool; 8]) -> VortexResult<bool> {
     let alloc = rt.alloc();
     let column = column?;
@@ -55,7 +55,7 @@ fn has_parts(rt: HostRuntime, column: Made, wanted: [bool; 8]) -> VortexResult<b
     Ok(same(rt, parts(&column), wanted) && rows_read(alloc, &copy, &column)?)
 }
 
-/// The part of that number alone.
+/// Only the part of that number.
 fn only(part: usize) -> [bool; 8] {
     let mut parts = [false; 8];
     if part < 8 {
@@ -84,35 +84,6 @@ fn columns_have_their_parts(rt: HostRuntime) {
         &rt,
         has_parts(rt, constant(alloc, PType::I32, 1, 2), only(7)),
     );
-}
-
-/// Whether these integers are borrowed.
-fn integers_are(rt: HostRuntime, column: Made, wanted: &[i32]) -> VortexResult<bool> {
-    Ok(match column?.ints::<i32>() {
-        Some(ints) => same(rt, ints, wanted),
-        None => false,
-    })
-}
-
-/// Whether row 1 of two texts is this, by either read.
-fn second_text_is(rt: HostRuntime, column: Made, wanted: &[u8]) -> VortexResult<bool> {
-    let column = column?;
-    if column.len() != 2 {
-        return Ok(false);
-    }
-    Ok(match column.views() {
-        Some(rows) if rows.len() == 2 => {
-            same(rt, rows.bytes(1), wanted) && column.bytes_at(1) == Some(wanted)
-        }
-        _ => false,
-    })
-}
-
-#[test]
-fn values_are_borrowed(rt: HostRuntime) {
-    let alloc = rt.alloc();
-    sure(&rt, integers_are(rt, pair(alloc), &[5, 6]));
-    sure(&rt, second_text_is(rt, two_texts(alloc), b"b"));
 }
 
 /// Whether row 0 and a value are in that order.

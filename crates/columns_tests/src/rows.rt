@@ -5,7 +5,7 @@ use fixtures::{Made, constant, kept, numbers, same};
 use std::alloc::Global;
 use vortex_columns::{Column, ExecutionCtx, PType, Validity, VortexResult};
 
-/// Whether a column of truth values has these rows, and is read as no integers.
+/// Whether a column of truth values has these rows, and is not read as integers.
 fn reads_bools(alloc: Global, rows: &[Option<bool>]) -> VortexResult<bool> {
     let column = kept(alloc, Column::of_bools(alloc, rows))?;
     Ok(match column.bool_rows() {
@@ -63,7 +63,7 @@ fn rows_are_read_in_their_order(rt: HostRuntime) {
     );
 }
 
-/// Whether the rows of a column that are true have these numbers, and are taken by them.
+/// Whether the true rows of a column have these numbers, and are taken by them.
 fn true_in(rt: HostRuntime, column: Made, wanted: &[u32]) -> VortexResult<bool> {
     let alloc = rt.alloc();
     let column = column?;
@@ -85,7 +85,7 @@ fn true_rows_are_numbered(rt: HostRuntime) {
     );
 }
 
-/// Whether two columns are equal as wanted.
+/// Whether two columns are equal or not, as expected.
 fn are_equal(rt: HostRuntime, left: Made, right: Made, wanted: bool) -> VortexResult<bool> {
     let (left, right) = (left?, right?);
     Ok(same(rt, *left == *right, wanted))

@@ -11,7 +11,7 @@ const NO: Nullability = Nullability::NonNullable;
 
 const YES: Nullability = Nullability::Nullable;
 
-/// Whether two scalars stand in that order, and are equal exactly where it says so.
+/// Whether two scalars are in that order, and are equal exactly if it is Equal.
 fn stand(left: &Scalar, order: Ordering, right: &Scalar) -> bool {
     left.partial_cmp(right) == Some(order) && (left == right) == order.is_eq()
 }
@@ -34,7 +34,7 @@ fn scalars_are_ordered_within_a_type(rt: HostRuntime) {
     );
 }
 
-/// Whether a text, its copy, and the same letters as bytes are read as what they are alone.
+/// Whether a text, its copy, and the same letters as bytes are read only as what they are.
 fn are_read(rt: HostRuntime) -> VortexResult<bool> {
     let alloc = rt.alloc();
     let text = Scalar::try_from_str(alloc, "new")?;
@@ -86,12 +86,12 @@ fn map(alloc: Global) -> VortexResult<Scalar> {
     Scalar::try_new(map_type(alloc)?, Some(entry(alloc, 1, None)?))
 }
 
-/// Numbers and a null, as a list that the type of maps does not take.
+/// Numbers and a null, as a list that is no value of a type of maps.
 fn no_map(alloc: Global) -> VortexResult<Scalar> {
     Scalar::try_new(map_type(alloc)?, Some(list(alloc, &[Some(1), None])?))
 }
 
-/// Whether a scalar is printed so for debugging, and is written so as a literal.
+/// Whether a scalar has this debug text, and this text as a literal.
 fn prints(rt: HostRuntime, scalar: VortexResult<Scalar>, wanted: &str) -> VortexResult<bool> {
     let alloc = rt.alloc();
     let scalar = scalar?;

@@ -1,4 +1,4 @@
-//! Rows that are taken of columns of each kind.
+//! Rows taken of columns of each kind.
 ghost use Rattle.std.specs.Prelude.{◌<◌, ◌↔◌, IsTrue, All};
 
 use crate::columns::{lists, maps};
@@ -19,8 +19,8 @@ pub fn are_below(codes: &[u32], count: usize) -> bool
     true
 }
 
-/// Whether the rows of these numbers are those of another column, which is a constant or none as
-/// the first is.
+/// Whether the rows of these numbers are those of another column, which is constant if the first
+/// is.
 fn gives(rt: HostRuntime, column: Made, codes: &[u32], wanted: Made) -> VortexResult<bool> {
     let alloc = rt.alloc();
     let (column, wanted) = (column?, wanted?);
@@ -32,7 +32,7 @@ fn gives(rt: HostRuntime, column: Made, codes: &[u32], wanted: Made) -> VortexRe
     Ok(constant && same(rt, &*taken, &*wanted))
 }
 
-/// The codes 0, 1 and 2 in turn, so many of them, and the truth values that they name.
+/// The codes 0, 1 and 2 in turn, that many of them, and their truth values.
 fn in_turn(alloc: Global, count: u32) -> VortexResult<(Vec<u32>, Vec<Option<bool>>)> {
     let mut codes = Vec::new(alloc);
     let mut rows = Vec::new(alloc);
@@ -47,7 +47,7 @@ fn in_turn(alloc: Global, count: u32) -> VortexResult<(Vec<u32>, Vec<Option<bool
     Ok((codes, rows))
 }
 
-/// Whether so many truth values are taken, in words of 64 and a rest.
+/// Whether that many truth values are taken, in words of 64 and a rest.
 fn takes_in_turn(rt: HostRuntime, count: u32) -> VortexResult<bool> {
     let alloc = rt.alloc();
     let (codes, rows) = in_turn(alloc, count)?;
@@ -68,7 +68,7 @@ fn people(alloc: Global, ages: &[i32], words: &[&str]) -> Made {
     )
 }
 
-/// So many pairs of these integers.
+/// That many pairs of these integers.
 fn pairs(alloc: Global, values: &[i32], len: usize) -> Made {
     let values = Column::try_primitive(alloc, values.to_vec(alloc)?, Validity::NonNullable)?;
     kept(

@@ -8,7 +8,7 @@ use vortex_columns::{
     Column, DType, Nullability, PType, Scalar, ScalarValue, Validity, VortexResult,
 };
 
-/// Whether the column's text is this one, and is printed for debugging.
+/// Whether the column's text is this one, also for debugging.
 fn reads(rt: HostRuntime, column: Made, wanted: &str) -> VortexResult<bool> {
     let alloc = rt.alloc();
     let column = column?;

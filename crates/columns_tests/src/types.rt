@@ -3,9 +3,7 @@
 use crate::questions::sure;
 use fixtures::{names, same};
 use std::alloc::Global;
-use vortex_columns::{
-    Arity, DType, Nullability, NumericOperator, PType, StructFields, VortexError, VortexResult,
-};
+use vortex_columns::{DType, Nullability, PType, StructFields, VortexResult};
 
 const NO: Nullability = Nullability::NonNullable;
 
@@ -82,29 +80,4 @@ fn types_change_their_nullability(rt: HostRuntime) {
     assert!(rt; NO | YES == YES && NO | NO == NO);
     assert!(rt; PType::I8.holds(-128) && !PType::I8.holds(128));
     assert!(rt; same(rt, PType::U64.text(), "u64"));
-}
-
-/// Whether the fault of a quotient is printed so, under its number and its name.
-fn is_printed(rt: HostRuntime, error: VortexError, wanted: &str) -> VortexResult<bool> {
-    let printed = format!(in rt.alloc(); "{error}")?;
-    let named = same(rt, error.number(), 7) && same(rt, error.name(), "Arithmetic.Div");
-    Ok(named && same(rt, printed.as_str(), wanted))
-}
-
-/// Whether an arity is printed so, and takes two arguments, and not none.
-fn takes_two(rt: HostRuntime, arity: Arity, wanted: &str) -> VortexResult<bool> {
-    let printed = format!(in rt.alloc(); "{arity}")?;
-    Ok(same(rt, printed.as_str(), wanted) && arity.matches(2) && !arity.matches(0))
-}
-
-#[test]
-fn faults_and_arities_are_printed(rt: HostRuntime) {
-    let fault = VortexError::Arithmetic(NumericOperator::Div);
-    let text = "integer division by zero or overflow in checked div";
-    sure(&rt, is_printed(rt, fault, text));
-    let arity = Arity::Variadic {
-        min: 1,
-        max: Some(3),
-    };
-    sure(&rt, takes_two(rt, arity, "1..3"));
 }

@@ -1,10 +1,10 @@
-//! Views and their words, and texts whose views and buffers are handed in.
+//! Views and their words, and the values that they stand for.
 
 use crate::questions::sure;
-use fixtures::{Made, copied, kept, same};
+use fixtures::same;
 use std::alloc::Global;
 use std::cmp::Ordering;
-use vortex_columns::{Column, Scalar, Validity, VortexResult};
+use vortex_columns::VortexResult;
 use vortex_views::{
     BinaryView, ConstantBytes, ResolvedViews, ViewsBuilder, check_views, compare, equal,
 };
@@ -80,35 +80,4 @@ fn values_are_in_buffers(rt: HostRuntime) {
         is_above(alloc, BinaryView::new_long(13, *b"hell", 0, 0)),
     );
     sure(&rt, builds(alloc, b"hello", b"hello, world!"));
-}
-
-/// Two texts that overlap in one buffer.
-fn overlapping(alloc: Global) -> Made {
-    let mut buffers = Vec::new(alloc);
-    buffers.push(b"hello, world! hello".to_vec(alloc)?)?;
-    let whole = BinaryView::new_long(13, *b"hell", 0, 0);
-    let views = Vec::from_array(alloc, [whole, BinaryView::new_long(13, *b"o, w", 0, 4)])?;
-    kept(
-        alloc,
-        Column::try_utf8_views(alloc, views, buffers, Validity::NonNullable),
-    )
-}
-
-/// Whether there are two texts, and the second is this one.
-fn second_is(alloc: Global, column: Made, wanted: &str) -> VortexResult<bool> {
-    let column = column?;
-    if column.len() != 2 {
-        return Ok(false);
-    }
-    Ok(column.scalar_at(alloc, 1)? == Scalar::try_from_str(alloc, wanted)?)
-}
-
-#[test]
-fn views_may_overlap(rt: HostRuntime) {
-    let alloc = rt.alloc();
-    sure(&rt, second_is(alloc, overlapping(alloc), "o, world! hel"));
-    sure(
-        &rt,
-        second_is(alloc, copied(alloc, overlapping(alloc)), "o, world! hel"),
-    );
 }

@@ -1,7 +1,7 @@
 //! An example to copy: the filter of a scan.
 //!
-//! It is read once from a text over the names and types of the columns, and run over one batch after
-//! another. Of each batch it prints the rows in which it is true.
+//! The filter is parsed once, over the names and types of the columns, and run over one batch after
+//! another. For each batch the program prints the rows in which it is true.
 #![tactic(auto)]
 
 mod table;
@@ -16,7 +16,7 @@ use vortex_row_fn::*;
 /// The goods that are cheap, and whose stock is known.
 const FILTER: &str = "stock + ordered is not null and price < 10";
 
-/// The rows in which a column of truth values is true; none of any other column.
+/// The rows in which a column of truth values is true; none for any other column.
 fn true_rows(alloc: Global, answer: &Column) -> VortexResult<Vec<u32>> {
     if !answer.dtype().is_boolean() {
         return Ok(Vec::new(alloc));
@@ -24,7 +24,7 @@ fn true_rows(alloc: Global, answer: &Column) -> VortexResult<Vec<u32>> {
     answer.true_rows(alloc)
 }
 
-/// The rows in which the filter is true, each with a space before it; or why there are none.
+/// The rows in which the filter is true, each after a space; or why there are none.
 fn picked(alloc: Global, filter: &Program, batch: &Batch) -> VortexResult<String> {
     let answers = match filter.run(alloc, &batch.columns, batch.row_count) {
         Ok(answers) => answers,
@@ -43,7 +43,7 @@ fn picked(alloc: Global, filter: &Program, batch: &Batch) -> VortexResult<String
     Ok(text)
 }
 
-/// What the program prints: the filter as rules make it, and its rows, batch after batch.
+/// The output: the filter after rules, and its rows, batch after batch.
 fn report(alloc: Global, filter: &Program) -> VortexResult<String> {
     let mut report = filter.text(alloc, 0, true)?.unwrap_or(String::new(alloc));
     report.push_str("\n")?;

@@ -25,7 +25,7 @@ pub(crate) fn scope(alloc: Global) -> VortexResult<StructFields> {
     StructFields::of(alloc, &fields)
 }
 
-/// Three goods by their prices, what is in stock and what is ordered.
+/// Three goods: their prices, stock and orders.
 fn goods(
     alloc: Global,
     prices: [i32; 3],
@@ -43,7 +43,7 @@ fn goods(
     })
 }
 
-/// In the first batch one of three goods is cheap and its stock known, in the second two.
+/// In the first batch one of three goods is cheap with known stock, in the second two.
 pub(crate) fn batches(alloc: Global) -> VortexResult<Vec<Batch>> {
     let mut batches = Vec::new(alloc);
     batches.push(goods(

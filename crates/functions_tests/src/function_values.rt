@@ -13,12 +13,6 @@ use vortex_operators::*;
 
 type Function = ScalarFnRef<NoCustom>;
 
-/// Whether bytes are those of no options.
-fn refuses<V: ScalarFnVTable>(rt: HostRuntime, function: V, bytes: &[u8]) -> bool {
-    let alloc = rt.alloc();
-    rt.is_refused(function.deserialize(alloc, bytes), "BadOptions")
-}
-
 /// Whether options are read back from what is written of them, and are written as those bytes.
 fn keeps<V: ScalarFnVTable>(
     rt: HostRuntime,
@@ -44,11 +38,6 @@ fn writes<C: ScalarFnVTable>(
         Some(bytes) => Ok(same(rt, bytes.as_slice(), wanted)),
         None => Ok(false),
     }
-}
-
-/// Whether a function writes nothing of its options.
-fn writes_nothing(alloc: Global, function: Function) -> VortexResult<bool> {
-    Ok(function.options().serialize(alloc)?.is_none())
 }
 
 /// Whether a function has that text, and its options have that one.
@@ -84,22 +73,12 @@ fn bounds(lower_strict: StrictComparison, upper_strict: StrictComparison) -> Bet
     }
 }
 
-fn like(negated: bool, case_insensitive: bool) -> LikeOptions {
-    LikeOptions {
-        negated,
-        case_insensitive,
-        escape: Some('\\'),
-    }
-}
-
-/// NOT LIKE with that escape.
-fn escaped(escape: char) -> LikeOptions {
-    LikeOptions {
-        negated: true,
-        case_insensitive: false,
-        escape: Some(escape),
-    }
-}
+/// NOT LIKE with an escape of four bytes.
+const NOT_LIKE: LikeOptions = LikeOptions {
+    negated: true,
+    case_insensitive: false,
+    escape: Some('\u{1f600}'),
+};
 
 fn operator(operator: Operator) -> Function {
     Binary.bind(operator)
@@ -111,28 +90,13 @@ fn own() -> Function {
 }
 
 #[test]
-fn other_bytes_are_refused(rt: HostRuntime) {
-    assert!(rt; refuses(rt, Binary, &[12]));
-    assert!(rt; refuses(rt, Between, &[4]));
-    assert!(rt; refuses(rt, Like, &[4, 0, 0, 216, 0]));
-    assert!(rt; refuses(rt, Levelled, &[3, 3]));
-    assert!(rt; refuses(rt, NoCustom, &[]));
-}
-
-#[test]
 fn options_come_back(rt: HostRuntime) {
     sure(&rt, keeps(rt, Binary, Operator::Div, &[11]));
     sure(&rt, keeps(rt, Between, bounds(NonStrict, Strict), &[2]));
-    sure(&rt, keeps(rt, Like, like(true, true), &[3]));
-    sure(
-        &rt,
-        keeps(rt, Like, escaped('\u{1f600}'), &[5, 0, 1, 246, 0]),
-    );
-    sure(&rt, keeps(rt, Not, EmptyOptions, &[]));
-    sure(&rt, keeps(rt, IsNull, EmptyOptions, &[]));
-    sure(&rt, keeps(rt, IsNotNull, EmptyOptions, &[]));
+    sure(&rt, keeps(rt, Like, NOT_LIKE, &[5, 0, 1, 246, 0]));
     sure(&rt, keeps(rt, Cast, CastOptions, &[]));
     sure(&rt, keeps(rt, Levelled, Level { level: 3 }, &[3]));
+    assert!(rt; rt.is_refused(Levelled.deserialize(rt.alloc(), &[3, 3]), "BadOptions"));
 }
 
 #[test]
@@ -140,7 +104,6 @@ fn values_write_their_options(rt: HostRuntime) {
     let levelled = ScalarFnRef::custom(Levelled, Level { level: 7 });
     sure(&rt, writes(rt, levelled, &[7]));
     sure(&rt, writes::<NoCustom>(rt, operator(Operator::Add), &[8]));
-    sure(&rt, writes_nothing(rt.alloc(), own()));
 }
 
 #[test]
@@ -156,8 +119,10 @@ fn values_print(rt: HostRuntime) {
 #[test]
 fn equal_values_are_found(rt: HostRuntime) {
     let alloc = rt.alloc();
-    let (one, other) = (Like.bind(like(true, false)), Like.bind(like(true, false)));
-    sure(&rt, is_found(alloc, one, other));
+    sure(
+        &rt,
+        is_found(alloc, Like.bind(NOT_LIKE), Like.bind(NOT_LIKE)),
+    );
     sure(&rt, is_found(alloc, own(), own()));
     let (one, other) = (operator(Operator::Add), operator(Operator::Sub));
     assert!(rt; !rt.yes(is_found(alloc, one, other)));

@@ -1,37 +1,19 @@
-//! Tests of the kernels, of the operators that choose them, of checked arithmetic and of LIKE, with
-//! values from outside: truth values that a stranger hands in begin anywhere in their bytes, with any
-//! bits under nulls and around them.
+//! Tests of the kernels, of the operators that choose them, of checked arithmetic and of LIKE, for
+//! what no case of `crates/cases` says: bits that begin anywhere in their bytes, what lies under
+//! nulls, views, nested values, and calls over single rows and words.
 #![tactic(auto)]
 
 #[cfg(test)]
-mod arithmetic;
+mod bits;
 #[cfg(test)]
-mod between;
+mod checked;
 #[cfg(test)]
-mod boolean;
-#[cfg(test)]
-mod compare;
-#[cfg(test)]
-mod constants;
-#[cfg(test)]
-mod hostile_bits;
+mod columns;
 #[cfg(test)]
 mod like;
 #[cfg(test)]
-mod lists;
-#[cfg(test)]
 mod nested;
-#[cfg(test)]
-mod null_tests;
-#[cfg(test)]
-mod numeric;
 #[cfg(test)]
 mod operators;
 #[cfg(test)]
 mod questions;
-#[cfg(test)]
-mod records;
-#[cfg(test)]
-mod scalars;
-#[cfg(test)]
-mod words;

@@ -1,33 +1,14 @@
 //! One call of a kernel each, and short questions to its answer.
 
-ghost use Rattle.std.specs.Prelude.{◌<◌, length};
-
-use fixtures::{Ask, Made, kept, rows_of, same};
+use fixtures::{Ask, Made, kept, rows_of, same, truth};
 use std::alloc::Global;
 use std::process::Abort;
 use vortex_columns::{
-    BitBuffer, Cell, Column, DType, ExecutionCtx, NativePType, Nullability, NumericOperator, PType,
-    Scalar, Validity, VortexError, VortexResult,
+    BitBuffer, Column, ExecutionCtx, NumericOperator, Validity, VortexError, VortexResult,
 };
 use vortex_kernels::{
     CompareOperator, Operator, execute_boolean, execute_compare, execute_not, execute_numeric,
 };
-
-pub(crate) const YES: Option<bool> = Some(true);
-
-pub(crate) const NO: Option<bool> = Some(false);
-
-pub(crate) const NULL: Option<bool> = None;
-
-pub(crate) const PLAIN: Nullability = Nullability::NonNullable;
-
-pub(crate) const NULLABLE: Nullability = Nullability::Nullable;
-
-/// Ends the test unless that holds, which was printed if not. A call costs less to prove than an
-/// `assert!` with its branch.
-pub(crate) fn must(test: &impl Abort, holds: bool) {
-    assert!(test; holds);
-}
 
 /// Ends the test unless a question was answered with yes.
 pub(crate) fn sure<R: Abort + Ask>(test: &R, answer: VortexResult<bool>) {
@@ -47,10 +28,8 @@ pub(crate) const COMPARISONS: [CompareOperator; 6] = [
 /// The comparison of two columns.
 pub(crate) fn compared(alloc: Global, left: Made, operator: CompareOperator, right: Made) -> Made {
     let (left, right) = (left?, right?);
-    kept(
-        alloc,
-        execute_compare(&*left, &*right, operator, &mut ExecutionCtx::new(alloc)),
-    )
+    let mut ctx = ExecutionCtx::new(alloc);
+    kept(alloc, execute_compare(&*left, &*right, operator, &mut ctx))
 }
 
 /// Arithmetic of two columns.
@@ -61,10 +40,8 @@ pub(crate) fn calculated(
     right: Made,
 ) -> Made {
     let (left, right) = (left?, right?);
-    kept(
-        alloc,
-        execute_numeric(&*left, &*right, operator, &mut ExecutionCtx::new(alloc)),
-    )
+    let mut ctx = ExecutionCtx::new(alloc);
+    kept(alloc, execute_numeric(&*left, &*right, operator, &mut ctx))
 }
 
 /// And or Or of two columns, where they are of one length.
@@ -72,10 +49,8 @@ fn combine(alloc: Global, left: &Column, operator: Operator, right: &Column) -> 
     if left.len() != right.len() {
         return Err(VortexError::InvalidColumn);
     }
-    kept(
-        alloc,
-        execute_boolean(left, right, operator, &mut ExecutionCtx::new(alloc)),
-    )
+    let mut ctx = ExecutionCtx::new(alloc);
+    kept(alloc, execute_boolean(left, right, operator, &mut ctx))
 }
 
 /// And or Or of two columns of one length.
@@ -93,72 +68,31 @@ pub(crate) fn negated(alloc: Global, column: Made) -> Made {
     kept(alloc, execute_not(&*column, &mut ExecutionCtx::new(alloc)))
 }
 
-/// Whether an answer is these rows of Bool.
-pub(crate) fn has_rows(
-    rt: HostRuntime,
-    answer: Made,
-    nullability: Nullability,
-    wanted: &[Option<bool>],
-) -> VortexResult<bool> {
-    let alloc = rt.alloc();
-    let answer = answer?;
-    if !answer.dtype().is_boolean() || answer.dtype().nullability() != nullability {
-        return Ok(same(rt, answer.dtype(), &DType::Bool(nullability)));
-    }
-    Ok(same(rt, rows_of(alloc, &*answer)?.as_slice(), wanted))
-}
-
-/// Whether an answer is these rows of non-nullable Bool.
-pub(crate) fn says(rt: HostRuntime, answer: Made, wanted: &[bool]) -> VortexResult<bool> {
-    let alloc = rt.alloc();
+/// The truth values of so many rows, by letters in turn.
+pub(crate) fn in_turn(alloc: Global, letters: &str, len: usize) -> VortexResult<Vec<Option<bool>>> {
+    let letters = letters.as_bytes();
     let mut rows = Vec::new(alloc);
-    for row in wanted {
-        rows.push(Some(*row))?;
-    }
-    has_rows(rt, answer, PLAIN, &rows)
-}
-
-/// Whether an answer is these rows of nullable Bool.
-pub(crate) fn says_or_null(
-    rt: HostRuntime,
-    answer: Made,
-    wanted: &[Option<bool>],
-) -> VortexResult<bool> {
-    has_rows(rt, answer, NULLABLE, wanted)
-}
-
-/// The number in a row, where there is one.
-pub(crate) fn number_at(column: &Column, i: usize) -> Option<i128>
-    requires { i < length column.now.rows }
-{
-    match column.cell(i) {
-        Cell::Int(number) => Some(number),
-        _ => None,
-    }
-}
-
-/// The number in each row, where there is one.
-fn numbers_of(alloc: Global, column: &Column) -> VortexResult<Vec<Option<i128>>> {
-    let mut rows = Vec::new(alloc);
-    for i in 0..column.len() {
-        rows.push(number_at(column, i))?;
+    let mut at = 0usize;
+    for _ in 0..len {
+        if let Some(letter) = letters.get(at) {
+            rows.push(truth(*letter))?;
+        }
+        at = at.wrapping_add(1);
+        if at >= letters.len() {
+            at = 0;
+        }
     }
     Ok(rows)
 }
 
-/// Whether an answer is these rows of integers.
-pub(crate) fn has_numbers(
-    rt: HostRuntime,
-    answer: Made,
-    nullability: Nullability,
-    wanted: &[Option<i128>],
-) -> VortexResult<bool> {
+/// Whether the rows of an answer of nullable Bool are those of the letters in turn.
+pub(crate) fn says_in_turn(rt: HostRuntime, answer: Made, letters: &str) -> VortexResult<bool> {
     let alloc = rt.alloc();
     let answer = answer?;
-    if !answer.dtype().is_primitive() || answer.dtype().nullability() != nullability {
-        return Ok(false);
-    }
-    Ok(same(rt, numbers_of(alloc, &*answer)?.as_slice(), wanted))
+    let wanted = in_turn(alloc, letters, answer.len())?;
+    let dtype = answer.dtype();
+    let is_typed = dtype.is_boolean() && dtype.is_nullable();
+    Ok(is_typed && same(rt, rows_of(alloc, &*answer)?.as_slice(), wanted.as_slice()))
 }
 
 /// The rows that are not null, as a list of bits.
@@ -166,22 +100,7 @@ pub(crate) fn valid_rows(alloc: Global, valid: &[bool]) -> VortexResult<Validity
     Ok(Validity::Array(BitBuffer::from_bools(alloc, valid)?))
 }
 
-/// A column of nullable integers, those where `valid` is false under nulls.
-pub(crate) fn nullable_numbers<T: NativePType>(alloc: Global, rows: &[T], valid: &[bool]) -> Made {
-    let mut values = Vec::new(alloc);
-    for row in rows {
-        values.push(*row)?;
-    }
-    let validity = valid_rows(alloc, valid)?;
-    kept(alloc, Column::try_primitive(alloc, values, validity))
-}
-
-/// The null of i32.
-pub(crate) fn null_integer() -> VortexResult<Scalar> {
-    Ok(Scalar::null(DType::Primitive(PType::I32, NULLABLE)))
-}
-
-/// A scalar in each of so many rows.
-pub(crate) fn constant_of(alloc: Global, scalar: VortexResult<Scalar>, len: usize) -> Made {
-    kept(alloc, Column::constant(alloc, scalar?, len))
+/// Two rows of type Null.
+pub(crate) fn nulls(alloc: Global) -> Made {
+    kept(alloc, Ok(Column::null(2)))
 }

@@ -3,16 +3,12 @@
 #![tactic(auto)]
 
 #[cfg(test)]
-mod array_places;
-#[cfg(test)]
 mod arrays;
+#[cfg(test)]
+mod expressions;
 #[cfg(test)]
 mod questions;
 #[cfg(test)]
 mod readme;
 #[cfg(test)]
-mod rewriting;
-#[cfg(test)]
 mod rules;
-#[cfg(test)]
-mod running;

@@ -4,13 +4,13 @@ use fixtures::Ask;
 use std::process::Abort;
 use vortex_columns::VortexResult;
 
-/// Ends the test unless that holds, which was printed if not. A call costs less to prove than an
+/// Ends the test unless that is true; if not, it was printed. A call costs less to prove than an
 /// `assert!` with its branch.
 pub fn must(test: &impl Abort, holds: bool) {
     assert!(test; holds);
 }
 
-/// Ends the test unless a question was answered with yes.
+/// Ends the test unless the result is `true`.
 pub fn sure<R: Abort + Ask>(test: &R, answer: VortexResult<bool>) {
     assert!(test; test.yes(answer));
 }

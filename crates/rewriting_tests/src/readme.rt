@@ -1,4 +1,4 @@
-//! The caller that the README shows.
+//! The caller in the README.
 
 use crate::questions::sure;
 use fixtures::{are_rows, fields, numbers, same};
@@ -17,7 +17,7 @@ fn below_ten<C: ScalarFnVTable>(
     Binary.try_new_bound_expr(alloc, Operator::Lt, operands)
 }
 
-/// Whether `price < 10` answers these rows over those columns.
+/// Whether `price < 10` has these rows over those columns.
 fn answers_below_ten<C: ScalarFnVTable>(
     rt: HostRuntime,
     scope: &StructFields,
@@ -41,7 +41,7 @@ fn goods(alloc: Global) -> VortexResult<StructFields> {
     fields(alloc, ("price", "name"), (price, name))
 }
 
-/// Whether of 7 and 12 the first alone is below 10.
+/// Whether of 7 and 12 only the first is below 10.
 fn first_is_below_ten<C: ScalarFnVTable>(rt: HostRuntime) -> VortexResult<bool> {
     let alloc = rt.alloc();
     let scope = goods(alloc)?;

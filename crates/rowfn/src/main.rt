@@ -7,14 +7,14 @@ use std::io::{self, Read, Write};
 use std::process::ExitCode;
 use std::rt::Env;
 
-/// What the program is called for.
+/// The modes of the program.
 enum CalledFor {
     Script,
     Version,
     Other,
 }
 
-/// What the words behind the program's name ask for: nothing stands for a script.
+/// The mode that the words after the program's name ask for; without words, a script.
 fn asked_for(rt: &(impl Env + AllocGlobal)) -> io::Result<CalledFor> {
     let words: Vec<String> = match env::args(rt) {
         Ok(words) => words.collect(rt.alloc())?,
@@ -29,8 +29,8 @@ fn asked_for(rt: &(impl Env + AllocGlobal)) -> io::Result<CalledFor> {
     }
 }
 
-/// Runs the script of standard input: prints what it prints, then its fault line, if any, to
-/// standard error.
+/// Runs the script of standard input: prints its output, then its fault line, if any, to standard
+/// error.
 fn run_script(rt: &(impl Input + Print + Eprint + AllocGlobal)) -> io::Result<u8> {
     let mut script = Vec::new(rt.alloc());
     rt.reader().read_to_end(&mut script)?;
@@ -44,7 +44,7 @@ fn run_script(rt: &(impl Input + Print + Eprint + AllocGlobal)) -> io::Result<u8
     Ok(status(&outcome.ending))
 }
 
-/// Runs a script, or tells the version. Called with other words it reads no script, and says so.
+/// Runs a script, or prints the version. With other words it reads no script, and reports that.
 fn run(rt: &(impl Input + Print + Eprint + Env + AllocGlobal)) -> io::Result<u8> {
     match asked_for(rt)? {
         CalledFor::Script => run_script(rt),
@@ -61,8 +61,8 @@ fn run(rt: &(impl Input + Print + Eprint + Env + AllocGlobal)) -> io::Result<u8>
     }
 }
 
-/// Ends with the ending's status; with 3 where standard input or output fails, memory runs out while
-/// reading, or the program is called with other words.
+/// Ends with the ending's status; with 3 if standard input or output fails, memory runs out while
+/// reading, or there are other words.
 fn main(rt: HostRuntime) -> ExitCode {
     match run(&rt) {
         Ok(status) => ExitCode::from(status),

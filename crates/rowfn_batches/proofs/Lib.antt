@@ -16,5 +16,5 @@ pub mod Skipped
 pub mod Spent
 pub mod ReadingBack
 pub mod Within
-pub mod TakenRows
-pub mod ToldRows
+pub mod FilteredRows
+pub mod ReportedRows

@@ -16,10 +16,10 @@ use Rattle.rowfn_batches.specs.declared.output.Output.{Output}
 use Rattle.rowfn_batches.specs.declared.stream.Stream.{Stream}
 use Rattle.rowfn_batches.specs.BatchAnswers.{AreAnswers, EndsBatch, IsUnanswered, row_number}
 use Rattle.rowfn_batches.specs.BatchAnswers.{row_among}
-use Rattle.rowfn_batches.specs.Taking.{Takes, all, those, IsLeft, by_answers, without_memory}
-use Rattle.rowfn_batches.specs.Taking.{Sifts, fields_picked, rows_before}
-use Rattle.rowfn_batches.specs.declared.taking.Condition.{Condition}
-use Rattle.rowfn_batches.specs.declared.taking.Taken.{Taken}
+use Rattle.rowfn_batches.specs.Filtering.{Takes, all, those, IsLeft, by_answers, without_memory}
+use Rattle.rowfn_batches.specs.Filtering.{Sifts, fields_picked, rows_before}
+use Rattle.rowfn_batches.specs.declared.filter.Condition.{Condition}
+use Rattle.rowfn_batches.specs.declared.filter.Taken.{Taken}
 use Rattle.rowfn_batches.specs.declared.errors.StreamError.TheVariants.{OutOfMemory}
 use Rattle.rowfn_batches.specs.Outputs.{Adds, HaveRows, picked_texts}
 use Rattle.rowfn_batches.specs.Passing.{IsAnswered, answer_text, batch_text, picked_lines}

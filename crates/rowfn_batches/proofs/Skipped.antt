@@ -5,13 +5,13 @@ use Rattle.rowfn_csv.specs.declared.records.Span.{Span}
 use Rattle.rowfn_batches.specs.declared.errors.StreamError.{StreamError}
 use Rattle.rowfn_batches.specs.declared.header.Layout.{Layout}
 use Rattle.rowfn_batches.specs.declared.stream.Stream.{Stream}
-use Rattle.rowfn_batches.specs.declared.taking.Condition.{Condition}
+use Rattle.rowfn_batches.specs.declared.filter.Condition.{Condition}
 use Rattle.rowfn_batches.specs.Fields.{Field, field_in}
 use Rattle.rowfn_batches.specs.Passing.{IsRefilled}
 use Rattle.rowfn_batches.specs.Skipping.{fields_from, asked_width, width_asked, ReadsRows}
 use Rattle.rowfn_batches.specs.Skipping.{AreLoaded}
 use Rattle.rowfn_batches.specs.Skipping.{HasPart, PassesAll}
-use Rattle.rowfn_batches.proofs.TakenRows.{Fields, field_part}
+use Rattle.rowfn_batches.proofs.FilteredRows.{Fields, field_part}
 
 reads_same : (a b : List Field) (s t : List Span) (c : Option Condition) → a ≡ b → s ≡ t
     → ReadsRows a s c → ReadsRows b t c

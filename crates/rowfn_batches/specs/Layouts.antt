@@ -1,10 +1,9 @@
 -- Where declared columns stand in a header, and what is told where one does not stand there once.
 use Rattle.std.specs.Prelude.{◌≡◌, ◌≢◌, ◌<◌, ◌≤◌, ℕ, List, Option, Some, None, ⊤, length, get_or}
-use Rattle.std.specs.Prelude.{string_bytes, is_some, unwrap_or, if◌then◌else◌, fold, max, min}
+use Rattle.std.specs.Prelude.{string_bytes, unwrap_or, fold, max, min}
 use Rattle.std.specs.Prelude.{◌+◌, ◌-◌, ◌^◌}
 use Rattle.std.specs.Prelude.{All, Contains, String}
 use Rattle.std.specs.declared.alloc.Global.{Global}
-use Rattle.std.specs.List.{list_any}
 use Rattle.csv.specs.Records.{field_at}
 use Rattle.vortex_types.specs.FieldNames.{field_name}
 use Rattle.vortex_types.specs.LogicalTypes.{Fields, field_count}
@@ -33,8 +32,7 @@ abbrev pub place_said : List (Option ℕ) → ℕ → Option ℕ
 place_said said k = get_or said k None
 
 -- a column stands at the place that is said of it, which the header has; else where its name
--- stands,
--- and nowhere else
+-- stands, and nowhere else
 abbrev pub StandsWhere : List (List ℕ) → Option ℕ → List ℕ → ℕ → Type 0
 StandsWhere fields None name place = StandsOnce fields name place
 StandsWhere fields (Some at) name place = (place ≡ at) × (at < length fields)
@@ -85,18 +83,11 @@ pub data RefusesHeader (fields : List (List ℕ)) (ds : Fields) (said : List (Op
   without_memory : e ≡ end.OutOfMemory → RefusesHeader fields ds said e
 
 -- without a header a column stands at the place that is said of it, else at its own among those
--- that
--- are declared
+-- that are declared
 abbrev pub declared_place : List (Option ℕ) → ℕ → ℕ
 declared_place said k = unwrap_or (place_said said k) k
 
--- how many fields a row has, where the expression says it: as many as columns are declared, where
--- it
--- says no place of any
-abbrev pub declared_width : List (Option ℕ) → Fields → Option ℕ
-declared_width said ds = if list_any is_some said then None else Some (field_count ds)
-
--- how many fields a first record has that tells the width: as many as are found, but none less than
+-- how many fields each record has where the first one has found: that many, but no fewer than
 -- reach to each column
 abbrev pub width_by : List ℕ → ℕ → ℕ
 width_by places found =

@@ -7,7 +7,7 @@ pub mod Endings
 pub mod Layouts
 pub mod Names
 pub mod Outputs
-pub mod Taking
+pub mod Filtering
 pub mod Passing
 pub mod Spellings
 pub mod Starts

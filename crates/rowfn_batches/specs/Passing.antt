@@ -14,11 +14,11 @@ use Rattle.rowfn_batches.specs.declared.stream.Stream.{Stream}
 use Rattle.rowfn_batches.specs.declared.stream.Summary.{Summary}
 use Rattle.rowfn_batches.specs.declared.stream.filling.Filled.{Filled}
 use Rattle.rowfn_batches.specs.declared.stream.filling.Filled.TheVariants as filled
-use Rattle.rowfn_batches.specs.declared.taking.Condition.{Condition}
+use Rattle.rowfn_batches.specs.declared.filter.Condition.{Condition}
 use Rattle.rowfn_batches.specs.Fields.{Field}
 use Rattle.rowfn_batches.specs.BatchAnswers.{AreAnswers, EndsBatch, row_number, row_among}
 use Rattle.rowfn_batches.specs.Starts.{IsHeaded, DoesNotStart}
-use Rattle.rowfn_batches.specs.Taking.{Takes, IsLeft, rows_before}
+use Rattle.rowfn_batches.specs.Filtering.{Takes, IsLeft, rows_before}
 use Rattle.rowfn_batches.specs.Outputs.{row_lines, picked_texts, picked_count, appended_lines}
 
 -- the lines of the input of those of the first rows in which the answer is true

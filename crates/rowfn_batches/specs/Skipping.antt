@@ -11,7 +11,7 @@ use Rattle.rowfn_batches.specs.declared.settings.Settings.{Settings}
 use Rattle.rowfn_batches.specs.declared.stream.Stream.{Stream}
 use Rattle.rowfn_batches.specs.declared.stream.Summary.{Summary}
 use Rattle.rowfn_batches.specs.declared.stream.filling.Filled.{Filled}
-use Rattle.rowfn_batches.specs.declared.taking.Condition.{Condition}
+use Rattle.rowfn_batches.specs.declared.filter.Condition.{Condition}
 use Rattle.rowfn_batches.specs.Endings.{row_left_out}
 use Rattle.rowfn_batches.specs.Fields.{Field}
 use Rattle.rowfn_batches.specs.Passing.{PassesUpTo, IsBehind, KeepsReading, IsCleared, IsRefilled}
@@ -23,7 +23,7 @@ use Rattle.rowfn_batches.specs.declared.refusals.RefusedRows.TheVariants as refu
 use Rattle.rowfn_batches.specs.Parts.{next_row}
 use Rattle.rowfn_batches.specs.Refusals.{one_more_counted, IsUntold}
 use Rattle.rowfn_batches.specs.Starts.{IsHeaded, DoesNotStart}
-use Rattle.rowfn_batches.specs.Taking.{rows_before}
+use Rattle.rowfn_batches.specs.Filtering.{rows_before}
 
 -- the row at that place, behind so many rows, is refused, and no other row has its number
 pub record IsPlace (before place : ℕ) (e : StreamError) : Type 0 where

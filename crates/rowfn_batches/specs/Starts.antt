@@ -23,9 +23,9 @@ use Rattle.rowfn_batches.specs.declared.header.Layout.{Layout}
 use Rattle.rowfn_batches.specs.declared.output.Output.{Output}
 use Rattle.rowfn_batches.specs.declared.settings.Settings.{Settings}
 use Rattle.rowfn_batches.specs.declared.stream.Stream.{Stream}
-use Rattle.rowfn_batches.specs.declared.taking.Condition.{Condition}
+use Rattle.rowfn_batches.specs.declared.filter.Condition.{Condition}
 use Rattle.rowfn_batches.specs.Endings.{read_ending}
-use Rattle.rowfn_batches.specs.Layouts.{StandAt, RefusesHeader, declared_place, declared_width}
+use Rattle.rowfn_batches.specs.Layouts.{StandAt, RefusesHeader, declared_place}
 use Rattle.rowfn_batches.specs.Layouts.{AreApartFrom, IsNameTaken}
 use Rattle.rowfn_batches.specs.Names.{names_of}
 use Rattle.rowfn_batches.specs.Outputs.{Adds, names_line}
@@ -74,12 +74,13 @@ pub record AreNamed (fields : List (List ℕ)) (x : Asked) (layout : Layout) : T
       StandAt fields (struct_fields x.program.now.scope) x.places.now layout.places.items
   pub width : layout.width ≡ Some (length fields)
 
--- columns are in the order in which they are declared, but for those whose places are given
+-- columns are in the order in which they are declared, but for those whose places are given; the
+-- first row shows how many fields each has
 pub record AreDeclared (x : Asked) (layout : Layout) : Type 0 where
   pub places : layout.places.items
       ≡ map (declared_place x.places.now)
       (range_with_len 0 (field_count (struct_fields x.program.now.scope)))
-  pub width : layout.width ≡ declared_width x.places.now (struct_fields x.program.now.scope)
+  pub width : layout.width ≡ None
 
 module _ (settings : Settings) (fields : List (List ℕ)) where
   -- columns are where the header says, if there is one

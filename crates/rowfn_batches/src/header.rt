@@ -1,14 +1,14 @@
 //! Where the declared columns stand in the input.
-ghost use Rattle.std.specs.Prelude.{◌≡◌, ◌↔◌, Some, IsTrue, IfOk, IfErr, MatchOption, MatchResult};
-ghost use Rattle.std.specs.Prelude.{is_some, length, ◌<◌, map, option_map};
-ghost use Rattle.std.specs.List.{list_any, range_with_len};
+ghost use Rattle.std.specs.Prelude.{◌≡◌, ◌↔◌, Some, None, IsTrue, IfOk, IfErr, MatchOption};
+ghost use Rattle.std.specs.Prelude.{MatchResult, length, ◌<◌, map, option_map};
+ghost use Rattle.std.specs.List.{range_with_len};
 ghost use Rattle.csv.specs.Records.{fields_of, field_at};
 ghost use Rattle.vortex_types.specs.LogicalTypes.{field_count};
 ghost use Rattle.vortex_types.specs.TypeOf.{struct_fields};
 ghost use Rattle.rowfn_batches.specs.Layouts.{LacksFrom, IsFirstFrom, StandsOnce, StandAt};
 ghost use Rattle.rowfn_batches.specs.Layouts.{RefusesName, RefusesHeader, place_said, StandsWhere};
 ghost use Rattle.rowfn_batches.specs.Layouts.{RefusesPlace, RefusesColumn, declared_place};
-ghost use Rattle.rowfn_batches.specs.Layouts.{declared_width, width_by};
+ghost use Rattle.rowfn_batches.specs.Layouts.{width_by};
 ghost use Rattle.rowfn_batches.specs.Spellings.{spelled_at, spelled_columns, spelled_where};
 
 use crate::errors::StreamError;
@@ -17,7 +17,7 @@ use std::alloc::{AllocError, Global};
 use vortex_columns::StructFields;
 
 /// Where the declared columns stand in each record of the input, and how many fields it has; nothing
-/// where the first one tells it.
+/// without a header, as the first record shows it then.
 #[derive(Drop)]
 pub struct Layout {
     pub places: Vec<usize>,
@@ -27,8 +27,8 @@ pub struct Layout {
 }
 
 impl Layout {
-    /// How many fields a first record has that tells the width: as many as are found, but none less
-    /// than reach to each column.
+    /// How many fields each record has where the first one has so many: that many, but no fewer than
+    /// reach to each column.
     pub fn width_by(&self, found: usize) -> usize
         ensures { result ≡ width_by self.now.places.items found }
     {
@@ -176,24 +176,6 @@ pub fn named_layout(
     })
 }
 
-/// Whether a place is said of a column.
-fn says_places(said: &[Option<usize>]) -> bool
-    ensures { result ≡ list_any is_some said.now }
-{
-    said.iter().any(|place| place.is_some())
-}
-
-/// How many fields the rows have of an input without a header; nothing where places are said.
-fn declared_width(declared: &StructFields, said: &[Option<usize>]) -> Option<usize>
-    ensures { result ≡ declared_width said.now (struct_fields declared.now) }
-{
-    if says_places(said) {
-        None
-    } else {
-        Some(declared.len())
-    }
-}
-
 /// The layout of an input without a header: the declared columns in their order, but for those of
 /// which a place is said.
 pub fn declared_layout(
@@ -204,8 +186,7 @@ pub fn declared_layout(
     ensures places { IfOk result
         (λ layout. layout.places.items ≡ map (declared_place said.now)
         (range_with_len 0 (field_count (struct_fields declared.now)))) }
-    ensures width { IfOk result
-        (λ layout. layout.width ≡ declared_width said.now (struct_fields declared.now)) }
+    ensures width { IfOk result (λ layout. layout.width ≡ None) }
 {
     let mut places = Vec::new(alloc);
     for i in 0..declared.len() {
@@ -213,7 +194,7 @@ pub fn declared_layout(
     }
     Ok(Layout {
         places,
-        width: declared_width(declared, said),
+        width: None,
         spelled: None,
     })
 }

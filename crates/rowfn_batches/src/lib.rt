@@ -8,6 +8,7 @@ pub mod columns;
 pub mod errors;
 pub mod explained;
 mod fields;
+mod filter;
 mod header;
 pub mod laws;
 mod names;
@@ -18,7 +19,6 @@ mod reading_back;
 pub mod refusals;
 pub mod settings;
 pub mod stream;
-mod taking;
 mod truths;
 pub mod watched;
 

@@ -12,11 +12,11 @@ mod writing;
 
 use crate::asked::Asked;
 use crate::errors::StreamError;
+use crate::filter::Condition;
 use crate::header::Layout;
 use crate::output::Output;
 use crate::refusals::RefusedRows;
 use crate::settings::Settings;
-use crate::taking::Condition;
 use rowfn_csv::{Batch, Records};
 use skipping::run_past_refused;
 use std::alloc::Global;

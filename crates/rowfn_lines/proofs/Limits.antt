@@ -1,4 +1,4 @@
--- How many steps digits say.
+-- The number of steps of digits.
 use Rattle.std.proofs.Common.{rules, tests, ◌≡◌, ℕ, zero, suc, ◌<◌, ◌≤◌, ◌^◌, Bool, true, false}
 use Rattle.std.proofs.Common.{Option, Some, None, Result, Ok, Err, List, [], ◌∷◌, ℤ, pos, refl, sym}
 use Rattle.std.proofs.Common.{ap, subst, ◌∙◌, arith, length, get_or, drop, nat_lt, ◌==◌, ◌&&◌}
@@ -30,7 +30,7 @@ use Rattle.vortex_cells.specs.Cells.{ReadsNumber}
 use Rattle.rowfn_lines.specs.Commands.{held_by_64_bits, limit_of}
 use Rattle.vortex_cells.proofs.Numbers.{own, AreDigits, no_digits}
 
--- the answer of `parse`, where the text says n
+-- the result of `parse`, if the text means n
 held_read : {E : Type 0} (r : Result ℕ E) (A : Type 0) (n : ℕ) → A → OkIff r (A × (n < 2 ^ 64)) n
     → result_ok r ≡ held_by_64_bits n
 held_read {E} r A n a p = by r p (nat_le n 18446744073709551615) refl

@@ -1,4 +1,4 @@
--- What a line says has the types beside it: the values of a column, and a literal's.
+-- The values of a line have its types: the values of a column, and a literal's.
 use Rattle.std.proofs.Common.{◌≡◌, ◌==◌, ℕ, zero, suc, ◌+◌, ◌<◌, Bool, true, false, Option, Some}
 use Rattle.std.proofs.Common.{None, List, [], ◌∷◌, ◌++◌, ℤ, length, drop, get_or, refl, sym, ap}
 use Rattle.std.proofs.Common.{subst, ◌∙◌, arith, tests, append_assoc, if◌then◌else◌}
@@ -37,7 +37,7 @@ use Rattle.rowfn_lines.specs.Commands.{call_of, call_command, alone, run_command
 use Rattle.rowfn_lines.specs.Commands.{command_of_words, command_of_text, command_of}
 use Rattle.vortex_cells.proofs.Numbers.{fits}
 
--- what stands between two quotes is a text
+-- bytes in quotes are a text
 abbrev IsTextIn : Word → Type 0
 IsTextIn (plain w) = ⊤
 IsTextIn (quoted w) = IsUtf8 w
@@ -260,7 +260,7 @@ in_cells (integer_type p n) o x e = e
 in_cells (text_type n) o x e = e
 in_cells t o x e = cc
 
--- what is in a command of a column or of a literal has the type beside it
+-- the content of a command of a column or of a literal has its type
 abbrev pub IsTyped : Command → Type 0
 IsTyped (column name c) = AreTyped c.dtype c.rows
 IsTyped (literal s) = HasType s.dtype s.value

@@ -1,4 +1,4 @@
--- Words that are split off one by one.
+-- Words split off one by one.
 use Rattle.std.proofs.Common.{◌≡◌, ◌≢◌, ◌==◌, ℕ, suc, ◌<◌, ◌≤◌, Bool, true, false, Option, Some}
 use Rattle.std.proofs.Common.{None, List, [], ◌∷◌, ◌++◌, map, length, refl, sym, ap, subst, ◌∙◌}
 use Rattle.std.proofs.Common.{arith, tests, length-append, append_assoc, option_map, if◌then◌else◌}
@@ -42,7 +42,7 @@ no_space [] h = refl
 no_space (b ∷ bs) h =
     ap (λ c. if c then after_spaces bs else b ∷ bs) (differs b 32 (λ e. h bs (ap (λ c. c ∷ bs) e)))
 
--- what is left after the spaces begins with a word, where something is left
+-- what is left after the spaces begins with a word, unless it is empty
 pub begins_word : (bs : List ℕ) → after_spaces bs ≢ [] → BeginsWord (after_spaces bs)
 begins_word [] = λ h. absurd (h refl)
 begins_word (b ∷ bs) = by (b == 32) refl (begins_word bs)

@@ -1,4 +1,4 @@
--- The words of a line are those that it says.
+-- The words of a line are those that it means.
 use Rattle.std.proofs.Common.{◌≡◌, ◌≢◌, ◌==◌, ℕ, zero, suc, Bool, true, false, Option, Some, None}
 use Rattle.std.proofs.Common.{List, [], ◌∷◌, ◌++◌, refl, sym, ap, subst, ◌∙◌, arith, tests}
 use Rattle.std.proofs.Common.{append_assoc, if◌then◌else◌}
@@ -8,7 +8,7 @@ use Rattle.rowfn_lines.specs.Lines.{after_quotes, BeginsPlain, Lacks, AreSpaces,
 use Rattle.rowfn_lines.specs.Lines.{FollowsWord, SaysWords, AreWordsSaid}
 use Rattle.rowfn_lines.proofs.Words.{plain_split, plain_last, quoted_split}
 
--- from the bytes to what they say
+-- from the bytes to their words
 
 space_more : (b : ℕ) (line : List ℕ) (ws : List Word) → b ≡ 32 → SaysWords line ws
     → SaysWords (b ∷ line) ws

@@ -1,4 +1,4 @@
--- What a line of a script says.
+-- The meaning of a line of a script.
 use Rattle.std.specs.Prelude.{◌==◌, ℕ, ◌-◌, ◌&&◌, ◌||◌, nat_le, nat_lt, map, List, [], ◌∷◌, length}
 use Rattle.std.specs.Prelude.{Bool, false, Option, Some, None, codes, if◌then◌else◌}
 use Rattle.std.specs.List.{list_all}
@@ -18,16 +18,16 @@ use Rattle.vortex_cells.specs.CellValues.{literal_of_cell}
 use Rattle.vortex_cells.specs.Escapes.{escape_of}
 
 -- nothing: the line is empty or a comment
--- rows: so many rows
--- column: a name, and the column that it names from here on
+-- rows: the number of rows
+-- column: a name, and its column from here on
 -- get: the column of a name
 -- literal: a value in each row
--- call: the function that these words name, of the last trees, and the escape that is chosen, where
--- one is
+-- call: the function that these words name, of the last trees, and its escape, if
+-- there is one
 -- show: the last tree's text
--- optimize: a run of rules from the last tree, which takes its place
+-- optimize: a run of rules from the last tree, which replaces it
 -- run: the last tree's column
--- run_after: the column of the tree that a run of so many steps at most leads to
+-- run_after: the column of the tree that a run of at most that many steps leads to
 pub data Command : Type 0 where
   nothing : Command
   malformed : Command
@@ -45,17 +45,17 @@ abbrev pub begins_comment : List ℕ → Bool
 begins_comment [] = false
 begins_comment (b ∷ bs) = b == 35
 
--- a word has at least one byte, and so has a name
+-- a word has at least one byte, and so does a name
 abbrev pub is_name : List ℕ → Bool
 is_name w = list_all (λ b. is_ascii_alphanumeric b || (b == 95)) w
 
--- the number that one to six digits say
+-- the number of one to six digits
 abbrev pub count_of : List ℕ → Option ℕ
 count_of w =
     if nat_lt 0 (length w) && (nat_le (length w) 6 && list_all is_ascii_digit w)
     then Some (decimal_from 0 w) else None
 
--- the cell that a word of a script is: texts stand in quotes and all else without, null as `null`
+-- the cell of a word of a script: texts are in quotes and all else without, null as `null`
 abbrev pub cell_of : LogicalType → Word → Option (Option (List ℕ))
 cell_of t (quoted w) = if is_text_type t then Some (Some w) else None
 cell_of t (plain w) =
@@ -65,7 +65,7 @@ cell_of t (plain w) =
 abbrev pub cells_of : LogicalType → List Word → Option (List (Option (List ℕ)))
 cells_of t ws = all_some (map (cell_of t) ws)
 
--- those that words say
+-- those of words
 abbrev pub column_said : LogicalType → List Word → Option ColumnView
 column_said t ws = option_and_then (column_of_cells t) (cells_of t ws)
 
@@ -76,11 +76,11 @@ literal_said t w = option_and_then (literal_of_cell t) (cell_of t w)
 abbrev pub held_by_64_bits : ℕ → Option ℕ
 held_by_64_bits n = if nat_le n 18446744073709551615 then Some n else None
 
--- the number of steps that digits say
+-- the number of steps of digits
 abbrev pub limit_of : List ℕ → Option ℕ
 limit_of w = option_and_then held_by_64_bits (digits_of w)
 
--- the word, of a line that has one more, which stands in no quotes
+-- the word, of a line with one more, without quotes
 abbrev pub only_word : List Word → Option (List ℕ)
 only_word (plain w ∷ []) = Some w
 only_word ws = None
@@ -110,14 +110,14 @@ literal_command ws = malformed
 abbrev pub get_command : List Word → Command
 get_command ws = or_malformed get (option_and_then name_of (only_word ws))
 
--- the function that a word names, with the escape that a text says behind `escape`
+-- the function that a word names, with the escape of a text after `escape`
 abbrev pub escaped_call : List ℕ → List ℕ → List ℕ → Command
 escaped_call w option t =
     if bytes_eq option (codes "escape")
     then or_malformed (λ escape. call (w ∷ []) (Some escape)) (escape_of (chars t))
     else malformed
 
--- the function that a word names, or that and the words of two bounds
+-- the function that a word names, or that word and two bounds
 abbrev pub call_of : List ℕ → List Word → Command
 call_of w [] = call (w ∷ []) None
 call_of w (plain lower ∷ plain upper ∷ []) = call (w ∷ lower ∷ upper ∷ []) None
@@ -128,12 +128,12 @@ abbrev pub call_command : List Word → Command
 call_command (plain w ∷ ws) = call_of w ws
 call_command ws = malformed
 
--- what a first word says that no other follows
+-- the meaning of a first word without others
 abbrev pub alone : Command → List Word → Command
 alone k [] = k
 alone k ws = malformed
 
--- nothing, or how many steps go before
+-- nothing, or how many steps come before
 abbrev pub run_command : List Word → Command
 run_command [] = run
 run_command (w ∷ ws) =
@@ -164,7 +164,7 @@ command_of_text t = if begins_comment t then nothing else or_malformed command_o
 abbrev pub command_of : List ℕ → Command
 command_of line = if is_utf8 line then command_of_text (after_spaces line) else malformed
 
--- the command that a line was read as
+-- the command that a line was parsed as
 abbrev pub command_in : Line → Command
 command_in line.Nothing = nothing
 command_in line.Malformed = malformed

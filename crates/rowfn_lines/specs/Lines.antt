@@ -5,12 +5,12 @@ use Rattle.std.specs.List.{slice_split}
 use Rattle.rowfn_lines.specs.declared.text.Word as word
 use Rattle.rowfn_lines.specs.declared.text.Word.TheVariants as variant
 
--- A line ends at a newline or with the script. Where a newline ends the script, what follows it
--- counts as a line without words.
+-- A line ends at a newline or with the script. If a newline ends the script, a last line without
+-- words follows it.
 abbrev pub lines_of : List ℕ → List (List ℕ)
 lines_of = slice_split (λ b. b == 10)
 
--- a word as it stands, or the text between two quotes
+-- a word, or the text in quotes
 pub data Word : Type 0 where
   plain : List ℕ → Word
   quoted : List ℕ → Word
@@ -23,7 +23,7 @@ abbrev pub with_word : Word → Option (List Word) → Option (List Word)
 with_word w None = None
 with_word w (Some ws) = Some (w ∷ ws)
 
--- the text begins with a word, and with one that stands in no quotes
+-- the text begins with a word, and with one without quotes
 abbrev pub BeginsWord : List ℕ → Type 0
 BeginsWord [] = ⊥
 BeginsWord (b ∷ bs) = b ≢ 32
@@ -40,26 +40,26 @@ abbrev pub AreSpaces : List ℕ → Type 0
 AreSpaces [] = Unit {0}
 AreSpaces (b ∷ bs) = (b ≡ 32) × AreSpaces bs
 
--- a word as it stands in a line: bytes without a space, of which there is one at least and the
--- first is no quote; or, between two quotes, bytes without a quote
+-- a word as written in a line: at least one byte, without a space, the first no quote; or, in
+-- quotes, bytes without a quote
 abbrev pub Spells : Word → List ℕ → Type 0
 Spells (plain w) bs = (bs ≡ w) × BeginsPlain w × Lacks 32 w
 Spells (quoted w) bs = (bs ≡ 34 ∷ w ++ 34 ∷ []) × Lacks 34 w
 
--- nothing, or what begins with a space
+-- nothing, or text that begins with a space
 abbrev pub FollowsWord : List ℕ → Type 0
 FollowsWord [] = Unit {0}
 FollowsWord (b ∷ bs) = b ≡ 32
 
--- A line says words: spaces, the first word as it stands, and a rest, set off by a space, that says
--- the other words. Where it says none it is spaces.
+-- The words of a line: spaces, the first word as written, and a rest, after a space, with the other
+-- words. A line without words is spaces.
 abbrev pub SaysWords : List ℕ → List Word → Type 0
 SaysWords line [] = AreSpaces line
 SaysWords line (w ∷ ws) =
     (before spelling rest : List ℕ) × (line ≡ before ++ (spelling ++ rest)) × AreSpaces before
     × Spells w spelling × FollowsWord rest × SaysWords rest ws
 
--- The words that a line says, byte by byte; a line that says none such has none.
+-- The words of a line, byte by byte; none if it is malformed.
 abbrev mutual
   pub words_of : List ℕ → Option (List Word)
   words_of [] = Some []
@@ -84,6 +84,6 @@ abbrev pub word_in : word.Word → Word
 word_in (variant.Plain w) = plain w.now
 word_in (variant.Quoted w) = quoted w.now
 
--- the words of a line are those that it says, and no others
+-- the words of a line are these, and no others
 abbrev pub AreWordsSaid : Type 0
 AreWordsSaid = (line : List ℕ) (ws : List Word) → (words_of line ≡ Some ws) ↔ SaysWords line ws

@@ -1,4 +1,4 @@
-//! Lines of scripts, and what they mean.
+//! Lines of scripts, and their meaning.
 #![tactic(auto)]
 
 pub mod command;

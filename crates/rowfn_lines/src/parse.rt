@@ -1,4 +1,4 @@
-//! Reads a line.
+//! Parses a line.
 ghost use Rattle.std.specs.Prelude.{◌≡◌, [], ◌∷◌, map, option_map, MatchOption};
 ghost use Rattle.std.specs.Str.{chars};
 ghost use Rattle.vortex_errors.specs.Answers.{AnswersUnlessMemory};
@@ -39,7 +39,7 @@ pub fn is_name(word: &str) -> bool
         .all(|byte| byte.is_ascii_alphanumeric() || *byte == b'_')
 }
 
-/// The number that one to six digits say.
+/// The number of one to six digits.
 pub fn count(word: &str) -> Option<usize>
     ensures { result ≡ count_of word.now }
 {
@@ -49,7 +49,7 @@ pub fn count(word: &str) -> Option<usize>
     word.parse::<usize>().ok()
 }
 
-/// The number that digits say, where 64 bits hold it.
+/// The number of digits, if 64 bits hold it.
 fn limit(word: &str) -> Option<u64>
     ensures { result ≡ limit_of word.now }
 {
@@ -59,7 +59,7 @@ fn limit(word: &str) -> Option<u64>
     word.parse::<u64>().ok()
 }
 
-/// The word, where there is one and no other, and it stands in no quotes.
+/// The only word, without quotes.
 fn only<'a>(words: &[Word<'a>]) -> Option<&'a str>
     ensures { option_map (λ w. w.now) result ≡ only_word (map word_in words.now) }
 {
@@ -123,7 +123,7 @@ fn get_line<'a>(words: &[Word<'a>]) -> Line<'a>
     }
 }
 
-/// A call by a word, of which a text says the escape behind `escape`.
+/// A call by a word, with the escape of a text after `escape`.
 fn escaped_call<'a>(
     alloc: Global,
     word: &'a str,
@@ -164,7 +164,7 @@ fn call_line<'a>(alloc: Global, words: &[Word<'a>]) -> VortexResult<Line<'a>>
     }
 }
 
-/// The line of a first word that no other follows.
+/// The line of a first word without others.
 fn alone<'a>(line: Line<'a>, words: &[Word<'a>]) -> Line<'a>
     ensures { command_in result ≡ alone (command_in line.entry) (map word_in words.now) }
 {
@@ -175,7 +175,7 @@ fn alone<'a>(line: Line<'a>, words: &[Word<'a>]) -> Line<'a>
     }
 }
 
-/// `run`, by what follows it: nothing, or how many steps of rules go before.
+/// `run`, by what follows it: nothing, or a number of steps of rules first.
 fn run_line<'a>(words: &[Word<'a>]) -> Line<'a>
     ensures { command_in result ≡ run_command (map word_in words.now) }
 {
@@ -191,7 +191,7 @@ fn run_line<'a>(words: &[Word<'a>]) -> Line<'a>
     }
 }
 
-/// What the words after a first word say.
+/// The meaning of the words after a first word.
 fn line_of<'a>(alloc: Global, first: &'a str, words: &[Word<'a>]) -> VortexResult<Line<'a>>
     ensures { AnswersCommand (command_by first.now (map word_in words.now)) result }
 {
@@ -226,7 +226,7 @@ fn words_line<'a>(alloc: Global, words: &[Word<'a>]) -> VortexResult<Line<'a>>
     }
 }
 
-/// What a text says that begins with no space. E9 where memory is refused.
+/// The command of a text that does not begin with a space. E9 where an allocation fails.
 pub fn text_line<'a>(alloc: Global, text: &'a str) -> VortexResult<Line<'a>>
     ensures { AnswersCommand (command_of_text text.now) result }
 {
@@ -239,8 +239,7 @@ pub fn text_line<'a>(alloc: Global, text: &'a str) -> VortexResult<Line<'a>>
     }
 }
 
-/// What the line says; a line that says nothing of a script is `Malformed`. E9 where memory is
-/// refused.
+/// The command of the line; `Malformed` if it has none. E9 where an allocation fails.
 pub fn parse(alloc: Global, line: &[u8]) -> VortexResult<Line<'_>>
     ensures { AnswersCommand (command_of line.now) result }
 {

@@ -11,8 +11,7 @@ use std::alloc::{AllocError, Global};
 use vortex_cells::cells::{column_of_cells, literal_of_cell};
 use vortex_columns::{Column, DType, Scalar, VortexResult};
 
-/// The cell that a word of a script is: texts stand in quotes, all else without, and null as
-/// `null`.
+/// The cell of a word of a script: texts are in quotes, all else without, and null as `null`.
 fn cell_of<'a>(dtype: &DType, word: &Word<'a>) -> Option<Option<&'a str>>
     ensures { option_map cell_in result ≡ cell_of (type_of dtype.now) (word_in word.now) }
 {
@@ -24,7 +23,7 @@ fn cell_of<'a>(dtype: &DType, word: &Word<'a>) -> Option<Option<&'a str>>
     }
 }
 
-/// The cells that words are; nothing where one is none. Refuses only where memory is refused.
+/// The cells of words; none if one is none. Fails only where memory runs out.
 fn cells_of<'a>(
     alloc: Global,
     dtype: &DType,
@@ -43,8 +42,8 @@ fn cells_of<'a>(
     Ok(Some(cells))
 }
 
-/// The column that the cells of a `col` line say; nothing where one says no value of the type, or a
-/// text is longer than 4,294,967,295 bytes. E9 where memory is refused.
+/// The column of the cells of a `col` line; none if one is no value of the type, or a text is
+/// longer than 4,294,967,295 bytes. E9 where an allocation fails.
 pub fn column_said(alloc: Global, dtype: &DType, words: &[Word<'_>]) -> VortexResult<Option<Column>>
     ensures { AnswersUnlessMemory result
         (λ c. c ≡ column_said (type_of dtype.now) (map word_in words.now)) }
@@ -55,8 +54,8 @@ pub fn column_said(alloc: Global, dtype: &DType, words: &[Word<'_>]) -> VortexRe
     }
 }
 
-/// The value that the cell of a `lit` line says; nothing where it says no value of the type. E9
-/// where memory is refused.
+/// The value of the cell of a `lit` line; none if it is no value of the type. E9 where an
+/// allocation fails.
 pub fn literal_said(alloc: Global, dtype: &DType, word: &Word<'_>) -> VortexResult<Option<Scalar>>
     ensures { AnswersUnlessMemory result
         (λ s. s ≡ literal_said (type_of dtype.now) (word_in word.now)) }

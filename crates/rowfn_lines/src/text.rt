@@ -9,13 +9,13 @@ use std::alloc::{AllocError, Global};
 /// A word of a line.
 #[derive(Clone, Copy, Debug, PartialEq, Eq)]
 pub enum Word<'a> {
-    /// A word as it stands.
+    /// A word without quotes.
     Plain(&'a str),
-    /// The text between two quotes.
+    /// The text in quotes.
     Quoted(&'a str),
 }
 
-/// The lines, without their newlines. Refused only for want of memory.
+/// The lines, without their newlines. Fails only where memory runs out.
 pub fn lines(alloc: Global, script: &[u8]) -> Result<Vec<&[u8]>, AllocError>
     ensures { IfOk result (λ lines. map (λ l. l.now) lines.items ≡ lines_of script.now) }
 {
@@ -33,8 +33,7 @@ pub fn without_spaces(text: &str) -> &str
     rest
 }
 
-/// The first word of a text that begins with one that stands in no quotes, and what follows the
-/// word.
+/// The first word of a text that begins with one without quotes, and what follows the word.
 fn split_plain(text: &str) -> (Word<'_>, &str)
     requires { BeginsPlain text.now }
     ensures word { words_of text.now ≡ with_word (word_in result.0) (words_of result.1.now) }
@@ -46,8 +45,8 @@ fn split_plain(text: &str) -> (Word<'_>, &str)
     }
 }
 
-/// The text up to the next quote, and what follows the quote; nothing where there is no quote, or
-/// something but a space follows it.
+/// The text up to the next quote, and what follows the quote; none if there is no quote, or it is
+/// not followed by a space or the end.
 fn split_quoted(text: &str) -> Option<(Word<'_>, &str)>
     ensures { SplitsWord text.now (in_quotes [] text.now) result }
 {
@@ -63,8 +62,8 @@ fn split_quoted(text: &str) -> Option<(Word<'_>, &str)>
     }
 }
 
-/// The first word of a text that begins with one, and what follows the word; nothing where a quote
-/// stands wrong.
+/// The first word of a text that begins with one, and what follows the word; none if a quote is
+/// misplaced.
 fn split_word(text: &str) -> Option<(Word<'_>, &str)>
     requires { BeginsWord text.now }
     ensures { SplitsWord text.now (words_of text.now) result }
@@ -75,7 +74,7 @@ fn split_word(text: &str) -> Option<(Word<'_>, &str)>
     }
 }
 
-/// The words; nothing where a quote stands wrong. Refused only for want of memory.
+/// The words; none if a quote is misplaced. Fails only where memory runs out.
 pub fn words(alloc: Global, line: &str) -> Result<Option<Vec<Word<'_>>>, AllocError>
     ensures { IfOk result
         (λ words. option_map (λ ws. map word_in ws.items) words ≡ words_of line.now) }

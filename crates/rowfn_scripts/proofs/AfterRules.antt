@@ -1,4 +1,4 @@
--- What the tree that a run of rules leads to keeps of a tree of a session.
+-- What the tree after a run of rules keeps of a tree of a session.
 use Rattle.std.proofs.Common.{◌≡◌, ℕ, true, Option, Some, None, List, refl, ap, ◌∙◌}
 use Rattle.std.specs.Option.{is_some}
 use Rattle.vortex_errors.specs.declared.error.VortexError.{VortexError}
@@ -56,7 +56,7 @@ module _ {V O : Type 0} (m : Meaning V O) (rs : Rules V O) where
         runs_lighter m (expression_step m rs) laws.lightens run.0 t u k.0 k.1 parts.1 run.2 in
         text_of u (rewritten.asks.places parts.0) lighter.shipped
 
-  -- columns that serve a tree are refused for a fault alone
+  -- over columns that match, a tree fails only with a fault
   pub refuses_fault : (cs : List ColumnView) (n limit : ℕ) (t : Tree V O) (e : VortexError)
       → other_length n cs ≡ None → LeavesFit cs t
       → RefusesAfter m cs n (expression_step m rs) limit t e

@@ -1,4 +1,4 @@
--- Each script has an outcome where memory suffices: each line makes a step of a session that
+-- Each script has an outcome if memory suffices: each line makes a step of a session that
 -- lines reach.
 use Rattle.std.proofs.Common.{◌≡◌, ◌≢◌, ◌⊎◌, inl, inr, ℕ, zero, suc, ◌+◌, ◌<◌, true}
 use Rattle.std.proofs.Common.{Option, Some, None, List, [], ◌∷◌, ◌++◌, length, refl, sym, ap}
@@ -52,7 +52,7 @@ use Rattle.rowfn_scripts.proofs.AfterRules.{the_type, AreSound, rewritten, rewri
 use Rattle.rowfn_scripts.proofs.Fitting.{reached_fits}
 use Rattle.rowfn_scripts.proofs.Steps.{of_rows, after, of_column, of_leaf, of_call}
 
--- a fault is told, and not by want of memory
+-- a fault is reported, and not out of memory
 tells_no_want : (f : Fault) → error_of f ≢ OutOfMemory
 tells_no_want (arithmetic o) e = cc
 tells_no_want (custom n) e = cc
@@ -127,7 +127,7 @@ column_rows o (suc n) h =
     each vs k (suc i) lt = k i (omega arith)
 
 module _ {V O : Type 0} (m : Meaning V O) where
-  -- a tree that fits, has a type and faults in no row is executed
+  -- a tree that matches, has a type and faults in no row is executed
   executed : (cs : List ColumnView) (n : ℕ) (t : Tree V O) → LeavesFit cs t
       → other_length n cs ≡ None → is_some (tree_type m t) ≡ true → Settled m cs n t
       → (c : ColumnView) × Executes m cs n t c
@@ -144,7 +144,7 @@ module _ {V O : Type 0} (m : Meaning V O) where
       )
 
   module _ (rs : Rules V O) (laws : AreSound m rs) (s : SessionView V O) where
-    -- a step of the command, and not for want of memory
+    -- a step of the command, without running out of memory
     abbrev Makes : (Step V O → Type 0) → Type 0
     Makes P = (r : Step V O) × P r × (r ≢ refuses OutOfMemory)
 
@@ -186,7 +186,7 @@ module _ {V O : Type 0} (m : Meaning V O) where
     runs (Some n) (t ∷ stack) counted fit typed =
         runs_by n t stack fit.0 counted typed.0 (settled_or_faulty m s.columns n t)
 
-    -- a run of rules within a limit, from a tree that fits the columns in each row
+    -- a run of rules within a limit, from a tree that matches the columns in each row
     module _ (limit n : ℕ) (t u : Tree V O) (run : RunsTo (expression_step m rs) limit t u)
         (fit : LeavesFit s.columns t) (lengths : other_length n s.columns ≡ None)
         (typed : is_some (tree_type m t) ≡ true) (rows : (i : ℕ) → i < n → HasRow s.columns i t)
@@ -264,7 +264,7 @@ or_memory Q e h = h
 
 module _ {V O : Type 0} (m : Meaning V O) (rs : Rules V O) (laws : AreSound m rs)
     (lines : List (List ℕ)) where
-  -- from a session that lines reach the script comes to an end
+  -- from a session that lines reach the script ends
   abbrev Ends : Type 0
   Ends = (n : ℕ) × (s : SessionView V O) × (ending : End)
       × Reaches m rs lines n s × EndsAt m rs lines n s ending × (ending ≢ Refused OutOfMemory)

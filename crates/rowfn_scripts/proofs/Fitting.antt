@@ -1,4 +1,4 @@
--- Each line keeps the trees of a session fit for its columns.
+-- Each line keeps the trees of a session matching its columns.
 use Rattle.std.proofs.Common.{◌≡◌, ◌==◌, ℕ, zero, suc, Bool, true, false, Option, Some, None, List}
 use Rattle.std.proofs.Common.{[], ◌∷◌, ◌++◌, length, take, drop, reverse, refl, sym, ap, subst, ◌∙◌}
 use Rattle.std.proofs.Common.{◌&&◌, if◌then◌else◌, ◌<◌, arith, All}
@@ -63,7 +63,7 @@ leaf_still_fits : (cs : List ColumnView) (c : ColumnView) (l : Leaf) → LeafFit
 leaf_still_fits cs c (place p name t) h = (h.0, get_before cs c h.0 p h.1, h.2)
 leaf_still_fits cs c (held d) h = h
 
--- a leaf that fits has the same rows
+-- a leaf that matches has the same rows
 leaf_row_still : (cs : List ColumnView) (c : ColumnView) (l : Leaf) (i : ℕ) → LeafFits cs l
     → LeafHasRow cs i l → LeafHasRow (cs ++ c ∷ []) i l
 leaf_row_still cs c (place p name t) i fit h =
@@ -127,7 +127,7 @@ still_counted n (b ∷ bs) c e h =
     (λ i. if p.0 i then other_length n (bs ++ c ∷ []) else Some (length b.rows))
     ∙ still_counted n bs c p.1 h
 
--- the column at a field's place has the field's type
+-- the column at a field's index has the field's type
 abbrev Placed : List ColumnView → ℕ × LogicalType → Type 0
 Placed cs p = (d : ColumnView) × (slice_get cs p.0 ≡ Some d) × (d.dtype ≡ p.1)
 
@@ -171,7 +171,7 @@ module _ {V O : Type 0} where
   all_rows cs n [] h i lt = tt
   all_rows cs n (t ∷ ts) h i lt = (h.0 i lt, all_rows cs n ts h.1 i lt)
 
-  -- what holds of each tree of a stack holds of those that are taken, and of those that stay
+  -- a property of each tree of a stack holds for the popped ones, and for the rest
   module _ (P : List (Tree V O) → Type 0) (none : P [])
       (more : (t : Tree V O) (ts : List (Tree V O)) → P (t ∷ []) → P ts → P (t ∷ ts))
       (first : (t : Tree V O) (ts : List (Tree V O)) → P (t ∷ ts) → P (t ∷ []) × P ts) where
@@ -220,7 +220,7 @@ module _ {V O : Type 0} (m : Meaning V O) (s : SessionView V O) (fits : Fits m s
         ap (option_and_then (function_text {V = V} {O = O} (ours f))) texts.1,
       )
 
-  -- before the row count is said
+  -- before the row count is given
   begun : (n : ℕ) → s.row_count ≡ None → Fits m (record s { row_count = Some n })
   begun n known =
       let none : s.columns ≡ [] =

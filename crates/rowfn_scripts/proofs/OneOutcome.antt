@@ -1,5 +1,5 @@
--- A script has one outcome where memory suffices: the session and the line that ends it determine
--- the ending.
+-- A script has one outcome if memory suffices: the session and the line that ends it determine the
+-- ending.
 use Rattle.std.proofs.Common.{◌≡◌, ◌≢◌, ◌⊎◌, inl, inr, ℕ, ◌<◌, ◌≤◌, List, length, refl, sym, ap}
 use Rattle.std.proofs.Common.{subst, ◌∙◌, arith}
 use Rattle.vortex_errors.specs.declared.error.VortexError.TheVariants.{OutOfMemory}

@@ -1,4 +1,4 @@
--- Within a limit some run of steps leads from a tree, to one tree and by one number of steps.
+-- Within a limit the run of steps from a tree leads to one tree, in one number of steps.
 use Rattle.std.proofs.Common.{◌≡◌, ◌⊎◌, inl, inr, ℕ, zero, suc, ◌<◌, Option, Some, None}
 use Rattle.std.proofs.Common.{refl, sym, ap, subst, ◌∙◌, arith}
 use Rattle.vortex_interface.specs.Trees.{Tree}
@@ -17,7 +17,7 @@ module _ {V O : Type 0} (rule : Tree V O → Option (Tree V O)) (t : Tree V O) w
       let same = one_tree n x y a b in
       let both : Some u ≡ Some v = sym e ∙ ap (step rule) same ∙ f in cc
 
-  -- a run that is over is followed by no other
+  -- a run that is over has no successor
   over : (n k : ℕ) (u v : Tree V O) → Runs rule n t u → Runs rule k t v → step rule u ≡ None
       → n < k → ⊥
   over n zero u v a b e lt = omega arith

@@ -1,4 +1,4 @@
--- A line makes one step of a session whose trees fit its columns.
+-- A line makes one step of a session whose trees match its columns.
 use Rattle.std.proofs.Common.{◌≡◌, ℕ, ◌<◌, true, Option, Some, None, List, [], ◌∷◌, ◌++◌, sym}
 use Rattle.std.proofs.Common.{ap, subst, ◌∙◌, inl, inr, arith}
 use Rattle.std.specs.Prelude.{codes}
@@ -142,7 +142,7 @@ module _ {V O : Type 0} (m : Meaning V O) (cs : List ColumnView) (n : ℕ) where
 
 module _ {V O : Type 0} (m : Meaning V O) (rs : Rules V O) (laws : AreSound m rs)
     (s : SessionView V O) where
-  -- the steps that a tree makes that fits the columns
+  -- the steps of a tree that matches the columns
   module _ (n : ℕ) (t : Tree V O) (counted : other_length n s.columns ≡ None)
       (fit : LeavesFit s.columns t) (shown : HasText t) (a b : Step V O) where
     printed_one : (c d : List ℕ) → a ≡ goes_on (record s { printed = s.printed ++ c }) → c ≡ d
@@ -179,7 +179,7 @@ module _ {V O : Type 0} (m : Meaning V O) (rs : Rules V O) (laws : AreSound m rs
         let first = subst (λ (u : Tree V O). IsFirstFault m s.columns n u e) one.0 p.first in
         x ∙ ap refuses (one_fault m s.columns n e d q.last text first q.first) ∙ sym y
 
-  -- the same of the tree on top
+  -- the same for the tree on top
   runs_once : (r : Option ℕ) (stack : List (Tree V O)) → Counted r s.columns
       → AllFit s.columns stack → AllShown stack → (a b : Step V O)
       → RunsTop m r stack s a → RunsTop m r stack s b → a ≡ b

@@ -1,4 +1,4 @@
--- What a name finds once a field of another name, or of it, stands behind the others.
+-- The index of a name after a field of another name, or of it, is appended.
 use Rattle.std.proofs.Common.{◌≡◌, ℕ, suc, Bool, true, false, cond, List, Option, Some, None}
 use Rattle.std.proofs.Common.{option_map, refl, sym, ap, ◌∙◌}
 use Rattle.std.specs.Prelude.{nat_eq, is_some, is_none, not}
@@ -22,7 +22,7 @@ none_later : (o : Option (ℕ × LogicalType))
 none_later None e = refl
 none_later (Some p) e = cc
 
--- whether there is a place
+-- whether there is an index
 pub place_or_not : (r : Option ℕ) (o : Option (ℕ × LogicalType)) (b : Bool)
     → r ≡ option_map (λ p. p.0) o → b ≡ is_some r → is_none o ≡ not b
 place_or_not r None b h e = sym (ap not (e ∙ ap is_some h))
@@ -38,7 +38,7 @@ pub no_field : (o : Option (ℕ × LogicalType))
 no_field None e = refl
 no_field (Some p) e = absurd (some_not_none e)
 
--- the field whose place it is
+-- the field with that index
 pub field_there : (o : Option (ℕ × LogicalType)) (k : ℕ)
     → Some k ≡ option_map (λ (p : ℕ × LogicalType). p.0) o
     → (t : LogicalType) × (o ≡ Some (k, t))
@@ -48,7 +48,7 @@ field_there (Some p) k e =
     (p.1, ap (λ j. Some (j, p.1)) is)
 
 module _ (name : List ℕ) (t : LogicalType) where
-  -- the place of another name where the field stands behind these
+  -- the index of another name after the field is appended
   abbrev behind : List ℕ → Fields → Option ℕ
   behind other fs =
       cond (pointwise nat_eq name other) (Some (field_count fs)) (place_of other fs)
@@ -112,7 +112,7 @@ module _ (name : List ℕ) (t : LogicalType) where
         ∙ ap (option_map suc) rest
         ∙ later (pointwise nat_eq name other) (field_count fs) (find_field other fs)
 
-    -- a new name goes to the place behind all others, and each other name keeps its place
+    -- a new name gets the index after all others, and each other name keeps its index
     pub place_behind : (fs : Fields) → place_of name fs ≡ None
         → place_of other (with_field fs name t) ≡ behind other fs
     place_behind no_fields new = alone (pointwise nat_eq name other)
@@ -120,7 +120,7 @@ module _ (name : List ℕ) (t : LogicalType) where
         by_first n u fs (pointwise nat_eq n other) refl new
         (place_behind fs (new_behind n u fs (pointwise nat_eq n name) refl new))
 
-    -- the same of a map that has a place for the name more
+    -- the same for a map that has an index for one more name
     pub place_added : (key : List ℕ) (k : ℕ) (fs gs : Fields) (old : Option ℕ)
         → key ≡ name → k ≡ field_count fs → old ≡ place_of other fs → place_of name fs ≡ None
         → gs ≡ with_field fs name t
@@ -130,7 +130,7 @@ module _ (name : List ℕ) (t : LogicalType) where
         ∙ sym (place_behind fs new)
         ∙ ap (place_of other) (sym added)
 
-    -- and of a map that has none for it again
+    -- and for a map that has none for it
     pub place_removed : (key : List ℕ) (k : ℕ) (fs gs : Fields) (old : Option ℕ)
         → key ≡ name → old ≡ place_of other fs → place_of name fs ≡ None → gs ≡ fs
         → cond (pointwise nat_eq name other) None (cond (pointwise nat_eq key other) (Some k) old)

@@ -1,4 +1,4 @@
--- What each kind of line makes of a session.
+-- The step of each kind of line.
 use Rattle.std.proofs.Common.{◌≡◌, ◌==◌, ℕ, suc, ◌+◌, ◌-◌, ◌<◌, Bool, true, false, Option, Some}
 use Rattle.std.proofs.Common.{None, Result, List, [], ◌∷◌, ◌++◌, length, take, drop, get_or}
 use Rattle.std.proofs.Common.{reverse, refl, sym, ap, subst, ◌∙◌, arith, ◌&&◌, if◌then◌else◌, map}
@@ -67,7 +67,7 @@ module _ {V O : Type 0} where
   pub printed_of : {s t : SessionView V O} → s ≡ t → s.printed ≡ t.printed
   printed_of e = ap (λ (s : SessionView V O). s.printed) e
 
-  -- what a test tells of whether the row count is said
+  -- a test of whether the row count is given
   pub unsaid : {s t : SessionView V O} {a b : Bool} → s ≡ t → is_some s.row_count ≡ not a → a ≡ b
       → is_none t.row_count ≡ b
   unsaid {a = a} e h k = ap is_none (sym (row_count_of e)) ∙ ap not h ∙ not_not a ∙ k
@@ -118,7 +118,7 @@ module _ {V O : Type 0} where
       → reverse items ≡ t ∷ reverse kept
   popped items kept t e = ap reverse e ∙ reverse-append kept (t ∷ [])
 
-  -- before the row count is said
+  -- before the row count is given
   pub before_rows : (r : Option ℕ) (f : ℕ → Step V O) → is_none r ≡ true
       → is_malformed ≡ after_rows r f
   before_rows None f h = refl
@@ -180,7 +180,7 @@ module _ {V O : Type 0} where
       ∙ (λ i. Some (reverse (take (sym e i) all), drop (sym e i) all))
       ∙ (λ i. Some (reverse (take-append_seam front rest i), drop-append_seam front rest i))
 
-  -- the last trees of a list are taken from a stack whose last is its end
+  -- the last trees of a list are popped from a stack whose last is its end
   last_by : (xs ys : List (Tree V O))
       → taken (length ys) (reverse (xs ++ ys)) ≡ Some (ys, reverse xs)
   last_by xs ys =
@@ -260,7 +260,7 @@ module _ {V O : Type 0} where
       pub no_function : None ≡ as_function (shipped_called words chosen) → is_malformed ≡ Call
       no_function e = called None (unnamed (shipped_called words chosen) e)
 
-      -- the function that they name, how many trees it takes, and the trees that there are
+      -- the function that they name, its arity, and the trees on the stack
       module _ (x : Function V O) (n : ℕ) (items : List (Tree V O))
           (is : Some x ≡ as_function (shipped_called words chosen))
           (least : n ≡ least_count (function_arity m x)) (top : reverse items ≡ s.stack) where
@@ -362,7 +362,7 @@ module _ {V O : Type 0} where
             (λ (stack : List (Tree V O)). RunsAfterTop m rs limit (Some n) stack s (refuses e))
             (sym top) (refused_after e h refl)
 
-    -- a run whose end is told by a flag takes the place of the last tree
+    -- a run whose end is given by a flag replaces the last tree
     module _ (rs : Rules V O) (s : SessionView V O) (t last : Tree V O)
         (rest : List (Tree V O)) (count : ℕ) (done : Bool) where
       abbrev Replaced : List ℕ → Step V O
@@ -402,7 +402,7 @@ module _ {V O : Type 0} where
           subst (λ (stack : List (Tree V O)). OptimizesTop m rs s.row_count stack s (Replaced text))
           (sym top) (in_place s.row_count (Replaced text) known made)
 
-  -- a refusal that a `?` passes on
+  -- an error that a `?` passes on
   pub answers_refusal : (R : Step V O → Type 0) (Q : VortexError → Type 0) (s : SessionView V O)
       (r : Result (Option (String Global)) VortexError) (e : VortexError)
       → ((d : VortexError) → Q d → R (refuses d)) → IsErrAnd r (λ y. y ≡ e)
@@ -411,7 +411,7 @@ module _ {V O : Type 0} where
       let p = err_from_is_err_and r h in
       rw (p.1, p.2) (UnlessMemory-weaker Q (λ d. R (refuses d)) weaker e u)
 
-  -- the same, of a line
+  -- the same for a line
   pub stops : (P : SessionView V O → Step V O → Type 0) (Q : VortexError → Type 0)
       (s t : SessionView V O) (r : Result (Unit {0}) Stop) (e : VortexError)
       → ((d : VortexError) → Q d → P s (refuses d)) → IsErrAnd r (λ y. y ≡ Refused e)

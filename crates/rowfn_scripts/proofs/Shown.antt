@@ -1,4 +1,4 @@
--- The trees that have texts are those of places and shipped functions alone.
+-- Only trees of places and shipped functions have texts.
 use Rattle.std.proofs.Common.{◌≡◌, Option, Some, None, List, [], ◌∷◌, ◌++◌, ℕ, refl, ap, subst}
 use Rattle.std.specs.Prelude.{codes, IfSome}
 use Rattle.std.specs.Option.{option_and_then}

@@ -1,4 +1,4 @@
--- What holds of the steps of the lines whose step is a function of the session, by cases.
+-- Properties of the lines whose step is a function of the session, by cases.
 use Rattle.std.proofs.Common.{◌≡◌, ◌≢◌, ◌==◌, ◌&&◌, ℕ, Bool, true, false, Option, Some, None, List}
 use Rattle.std.proofs.Common.{length, refl, if◌then◌else◌}
 use Rattle.std.specs.Option.{is_some, is_none}
@@ -17,7 +17,7 @@ use Rattle.rowfn_scripts.specs.Sessions.{least_count, taken, with_rows, after_ro
 use Rattle.rowfn_scripts.specs.Sessions.{with_column, pushed, with_leaf, call_of, refused_at, with_taken}
 use Rattle.rowfn_scripts.specs.Sessions.{with_call}
 
--- no line refuses for want of memory
+-- no line runs out of memory
 module _ {V O : Type 0} (m : Meaning V O) (s : SessionView V O) (P : Step V O → Type 0)
     (malformed : P is_malformed)
     (refused : (e : VortexError) → e ≢ OutOfMemory → P (refuses e)) where
@@ -55,7 +55,7 @@ module _ {V O : Type 0} (m : Meaning V O) (s : SessionView V O) (P : Step V O �
   at_place None = malformed
   at_place (Some p) = refused (TypeMismatch p) (λ e. cc)
 
-  -- of trees that are taken for a function, where they have a type together
+  -- for trees that are popped for a function, if they have a type together
   abbrev pub GoesOnCalled : Shipped → List (Tree V O) × List (Tree V O) → Type 0
   GoesOnCalled f p =
       is_some (tree_type m (call_of m f p.0)) ≡ true

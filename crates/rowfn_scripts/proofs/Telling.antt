@@ -166,7 +166,7 @@ module _ {V O : Type 0} (m : Meaning V O) (rs : Rules V O) (laws : AreSound m rs
       let p = before (suc b) t reached in
       earlier_by b a t reached (λ k. earlier b a p.0 k p.1) (last_or_before a b h)
 
-  -- the line after them, where there are more
+  -- the line after them, if there are more
   next : (b a : ℕ) (t : SessionView V O) → a < b → Reaches m rs lines b t
       → (s u : SessionView V O) × Reaches m rs lines a s × (a < length lines)
       × StepsTo m rs (command_at lines a) s (goes_on u)
@@ -183,7 +183,7 @@ module _ {V O : Type 0} (m : Meaning V O) (rs : Rules V O) (laws : AreSound m rs
   of_refused n s OutOfMemory memory ends = absurd (memory refl)
   of_refused n s e memory ends = ends
 
-  -- where a script ends, want of memory aside, no line goes on
+  -- where a script ends, unless memory ran out, no line continues
   no_more : (n : ℕ) (s t : SessionView V O) → Fits m s → (last : End)
       → last ≢ Refused OutOfMemory → EndsAt m rs lines n s last → n < length lines
       → StepsTo m rs (command_at lines n) s (goes_on t) → ⊥

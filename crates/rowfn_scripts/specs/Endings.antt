@@ -1,4 +1,4 @@
--- What a program says of the ending of a script.
+-- What a program prints about the ending of a script.
 use Rattle.std.specs.Prelude.{ℕ, List, [], ◌∷◌, ◌++◌, codes}
 use Rattle.std.specs.Fmt.{decimal}
 use Rattle.vortex_errors.specs.Errors.{name_of}

@@ -1,5 +1,5 @@
--- The trees of a session fit its columns, so where `run` refuses, with a number or without, a row
--- faults; each has a type, which a column of it has; and each has a text, which `show` prints.
+-- The trees of a session match its columns. So where `run` fails, with a number or without, a row
+-- faults; each tree has a type, which its column has; and each has a text, which `show` prints.
 use Rattle.std.specs.Prelude.{◌≡◌, ℕ, ◌<◌, List, [], ◌∷◌, true, Option, Some, None, is_some, ⊤}
 use Rattle.std.specs.Prelude.{All}
 use Rattle.vortex_errors.specs.declared.error.VortexError.{VortexError}
@@ -18,12 +18,12 @@ use Rattle.rowfn_lines.specs.Commands.{run, run_after}
 use Rattle.rowfn_scripts.specs.Sessions.{SessionView, refuses, StepsTo}
 use Rattle.rowfn_scripts.specs.Scripts.{Reaches}
 
--- no column before the row count is said, and then each has it
+-- no column before the row count is given, and then each has it
 abbrev pub Counted : Option ℕ → List ColumnView → Type 0
 Counted None cs = cs ≡ []
 Counted (Some n) cs = other_length n cs ≡ None
 
--- each column has the type of the field in its place
+-- each column has the type of the field at its index
 abbrev pub AreTypes : Fields → List ColumnView → Type 0
 AreTypes no_fields [] = ⊤
 AreTypes no_fields (c ∷ cs) = ⊥
@@ -34,7 +34,7 @@ abbrev pub AllFit : {V O : Type 0} → List ColumnView → List (Tree V O) → T
 AllFit cs [] = ⊤
 AllFit cs (t ∷ ts) = LeavesFit cs t × AllFit cs ts
 
--- the tree has a text: no caller's function stands in it
+-- the tree has a text: it contains no caller's function
 abbrev pub HasText : {V O : Type 0} → Tree V O → Type 0
 HasText t = (text : List ℕ) × (tree_text t ≡ Some text)
 
@@ -47,7 +47,7 @@ AllHaveTypes m [] = ⊤
 AllHaveTypes m (t ∷ ts) = (is_some (tree_type m t) ≡ true) × AllHaveTypes m ts
 
 -- in each of n rows the leaves and the constants of each tree have values of their types; there is
--- no tree before the row count is said
+-- no tree before the row count is given
 abbrev pub StackHasRows : {V O : Type 0} → List ColumnView → ℕ → List (Tree V O) → Type 0
 StackHasRows cs n [] = ⊤
 StackHasRows cs n (t ∷ ts) = ((i : ℕ) → i < n → HasRow cs i t) × StackHasRows cs n ts
@@ -65,8 +65,8 @@ pub record Fits {V O : Type 0} (m : Meaning V O) (s : SessionView V O) : Type 0 
   pub with_types : AllHaveTypes m s.stack
   pub shown : AllShown s.stack
 
--- in a session that lines reach, `run` is refused with the first fault of the last tree, and never
--- for its leaves or lengths
+-- in a session that lines reach, `run` fails only with the first fault of the last tree, never for
+-- its leaves or lengths
 abbrev pub RefusesFaultsAlone : {V O : Type 0} → Meaning V O → Rules V O → Type 0
 RefusesFaultsAlone {V} {O} m rs =
     (lines : List (List ℕ)) (read n : ℕ) (s : SessionView V O)
@@ -74,8 +74,8 @@ RefusesFaultsAlone {V} {O} m rs =
     → Reaches m rs lines read s → s.row_count ≡ Some n → s.stack ≡ t ∷ stack
     → StepsTo m rs run s (refuses e) → IsFirstFault m s.columns n t e
 
--- nor is `run` with a number: it is refused with the first fault of the tree that its run leads to,
--- where a row of the last tree faults too
+-- so does `run` with a number: with the first fault of the tree that its run leads to, if a row of
+-- the last tree faults too
 abbrev pub RefusesFaultsAfterAlone : {V O : Type 0} → Meaning V O → Rules V O → Type 0
 RefusesFaultsAfterAlone {V} {O} m rs =
     (lines : List (List ℕ)) (read n limit : ℕ) (s : SessionView V O)

@@ -1,4 +1,4 @@
--- What a script means: the lines that go on, what they print, and how it ends.
+-- The meaning of a script: the lines that continue, what they print, and how it ends.
 use Rattle.std.specs.Prelude.{◌≡◌, ◌+◌, ◌<◌, ℕ, suc, List, [], length, slice_index_or}
 use Rattle.vortex_errors.specs.Answers.{UnlessMemory}
 use Rattle.vortex_interface.specs.Meaning.{Meaning}
@@ -10,18 +10,18 @@ use Rattle.rowfn_lines.specs.Commands.{Command, command_of}
 use Rattle.rowfn_scripts.specs.Sessions.{SessionView, goes_on, refuses, is_malformed, fresh}
 use Rattle.rowfn_scripts.specs.Sessions.{StepsTo}
 
--- what line n says, counted from 0
+-- the command of line n, counted from 0
 abbrev pub command_at : List (List ℕ) → ℕ → Command
 command_at lines n = command_of (slice_index_or lines n [])
 
 module _ {V O : Type 0} (m : Meaning V O) (rs : Rules V O) (lines : List (List ℕ)) where
-  -- the session after the first lines, each of which goes on
+  -- the session after the first lines, each of which continues
   pub data Reaches : ℕ → SessionView V O → Type 0 where
     begins : Reaches 0 fresh
     one_more : (n : ℕ) (s t : SessionView V O) → Reaches n s → n < length lines
         → StepsTo m rs (command_at lines n) s (goes_on t) → Reaches (suc n) t
 
-  -- after so many lines the lines are over, or the next is refused or malformed; lines are told
+  -- after that many lines the lines are over, or the next fails or is malformed; lines are reported
   -- counted from 1; memory may run out at any line
   abbrev pub EndsAt : ℕ → SessionView V O → End → Type 0
   EndsAt n s Done = n ≡ length lines

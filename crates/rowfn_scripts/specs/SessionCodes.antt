@@ -1,4 +1,4 @@
--- The code of a session. No contract cites what stands here.
+-- The code of a session. No contract cites this module.
 use Rattle.std.specs.Prelude.{ℕ, List, Option, refl}
 use Rattle.std.specs.Coded.{Coded, code_by, coded×, coded_ℕ, coded_list, coded_option}
 use Rattle.vortex_types.specs.Codes.{coded_fields}
@@ -34,7 +34,7 @@ module _ {V O : Type 0} where
       let parts = coded× (coded_option coded_ℕ) (coded× coded_fields columns) in
       code_by (Parts V O) parts parts_of of_parts (λ _. refl)
 
--- a session without functions of a caller's
+-- a session without callers' functions
 abbrev coded_none : Coded NoCustom
 coded_none = code_by ℕ coded_ℕ (λ _. 0) (λ _. record {}) (λ _. refl)
 

@@ -1,4 +1,4 @@
--- What a line makes of what the lines before it made.
+-- What a line does to the session that the lines before it made.
 use Rattle.std.specs.Prelude.{◌≡◌, ◌==◌, ◌&&◌, ℕ, List, [], ◌∷◌, ◌++◌, length, take, drop, reverse}
 use Rattle.std.specs.Prelude.{nat_le, Bool, Option, Some, None, is_some, is_none, IfSome, codes}
 use Rattle.std.specs.Prelude.{if◌then◌else◌}
@@ -27,8 +27,8 @@ use Rattle.vortex_rewriting.specs.Runs.{expression_step}
 use Rattle.rowfn_lines.specs.Commands.{Command, nothing, malformed, rows, column, get, literal}
 use Rattle.rowfn_lines.specs.Commands.{call, show, optimize, run, run_after}
 
--- the row count once it is said, the columns and the fields that name them in the order of their
--- lines, the trees with the last one first, and what was printed
+-- the row count once it is given, the columns and the fields that name them in the order of their
+-- lines, the trees with the last one first, and the printed text
 pub record SessionView (V O : Type 0) : Type 0 where
   pub row_count : Option ℕ
   pub fields : Fields
@@ -50,12 +50,12 @@ fresh = record {
   printed = [];
 }
 
--- how many trees a function takes: the least count that fits its arity
+-- how many trees a function takes: the least count that its arity allows
 abbrev pub least_count : Arity → ℕ
 least_count (Exact wanted) = wanted
 least_count (Variadic least most) = least
 
--- the last trees, in their order, and those that stay, where there are so many
+-- the last trees, in their order, and the rest, if there are that many
 abbrev pub taken : {V O : Type 0} → ℕ → List (Tree V O) → Option (List (Tree V O) × List (Tree V O))
 taken n stack =
     if nat_le n (length stack) then Some (reverse (take n stack), drop n stack) else None
@@ -64,13 +64,13 @@ taken n stack =
 abbrev pub column_line : ColumnView → List ℕ
 column_line c = column_text c ++ (10 ∷ [])
 
--- how many steps a run took, and whether no rule is left
+-- the number of steps of a run, and whether no rule is left
 abbrev pub steps_text : ℕ → Bool → List ℕ
 steps_text n done =
     (codes "steps " ++ decimal n) ++ (codes " done " ++ (truth_text done ++ (10 ∷ [])))
 
 module _ {V O : Type 0} where
-  -- a line that says the row count stands once, before every other that says something
+  -- the line of the row count comes once, before every other command
   abbrev pub with_rows : ℕ → SessionView V O → Option ℕ → Step V O
   with_rows n s None = goes_on (record s { row_count = Some n })
   with_rows n s (Some k) = is_malformed
@@ -89,7 +89,7 @@ module _ {V O : Type 0} where
       if (length c.rows == n) && is_none (find_field name s.fields) then goes_on (added name c s)
       else is_malformed
 
-  -- a tree on those that stay
+  -- a tree on the rest of the stack
   abbrev pub pushed : Tree V O → List (Tree V O) → SessionView V O → SessionView V O
   pushed t kept s = record s { stack = t ∷ kept }
 
@@ -114,12 +114,12 @@ module _ {V O : Type 0} where
     abbrev pub call_of : Shipped → List (Tree V O) → Tree V O
     call_of f ts = call_tree (ours f) (trees_of ts)
 
-    -- E3 at that place; no types are refused by a function without one
+    -- E3 at that place; a function without one accepts all types
     abbrev pub refused_at : Option MismatchPlace → Step V O
     refused_at None = is_malformed
     refused_at (Some p) = refuses (TypeMismatch p)
 
-    -- a call that has no type is refused as its function refuses types
+    -- a call without a type fails with its function's error for types
     abbrev pub with_tree : Shipped → SessionView V O → List (Tree V O) → List (Tree V O) → Step V O
     with_tree f s ts stack =
         if is_some (tree_type m (call_of f ts))
@@ -131,12 +131,12 @@ module _ {V O : Type 0} where
     with_taken f s None = is_malformed
     with_taken f s (Some p) = with_tree f s p.0 p.1
 
-    -- the function that is named takes its arguments from the stack
+    -- the named function takes its arguments from the stack
     abbrev pub with_call : SessionView V O → Option Shipped → Step V O
     with_call s None = is_malformed
     with_call s (Some f) = with_taken f s (taken (least_count (shipped_arity f)) s.stack)
 
-    -- the column of the tree is printed, or the tree is refused: with a row's fault, as
+    -- the column of the tree is printed, or the tree fails: with a row's fault, as
     -- `Fitting` shows
     pub data Runs (n : ℕ) (t : Tree V O) (s : SessionView V O) (r : Step V O) : Type 0 where
       prints : (c : ColumnView) → Executes m s.columns n t c
@@ -150,14 +150,14 @@ module _ {V O : Type 0} where
     RunsTop (Some n) (t ∷ stack) s r = Runs n t s r
 
     module _ (rs : Rules V O) where
-      -- another tree in the place of the last one, and printed how many steps led to it
+      -- another tree replaces the last one, and the number of steps to it is printed
       abbrev pub optimized : ℕ → Tree V O → List (Tree V O) → SessionView V O → Step V O
       optimized n last stack s =
           let done = is_none (step (expression_step m rs) last) in
           goes_on
           (record s { stack = last ∷ stack; printed = s.printed ++ steps_text n done })
 
-      -- as many steps lead to it as the last tree weighs, or fewer, to where no rule is left
+      -- at most as many steps lead to it as the last tree weighs, to where no rule is left if fewer
       pub record Optimizes (t : Tree V O) (stack : List (Tree V O)) (s : SessionView V O)
           (r : Step V O) : Type 0 where
         pub last : Tree V O
@@ -169,8 +169,8 @@ module _ {V O : Type 0} where
       OptimizesTop (Some n) [] s r = r ≡ is_malformed
       OptimizesTop (Some n) (t ∷ stack) s r = Optimizes t stack s r
 
-      -- the column of the tree that a run of at most so many steps leads to is printed, or that
-      -- tree is refused: with a fault of one of its rows, as `Fitting` shows
+      -- the column of the tree after a run of at most that many steps is printed, or that tree
+      -- fails: with a fault of one of its rows, as `Fitting` shows
       pub data RunsAfter (limit n : ℕ) (t : Tree V O) (s : SessionView V O) (r : Step V O)
           : Type 0 where
         prints_after : (c : ColumnView)
@@ -187,7 +187,7 @@ module _ {V O : Type 0} where
       RunsAfterTop limit (Some n) [] s r = r ≡ is_malformed
       RunsAfterTop limit (Some n) (t ∷ stack) s r = RunsAfter limit n t s r
 
-      -- by what the line says
+      -- by the command of the line
       abbrev pub StepsTo : Command → SessionView V O → Step V O → Type 0
       StepsTo nothing s r = r ≡ goes_on s
       StepsTo malformed s r = r ≡ is_malformed

@@ -20,7 +20,7 @@ abbrev pub end_of : Stop → ℕ → End
 end_of (Refused e) line = end.Refused e
 end_of Malformed line = end.Malformed line
 
--- no function of a caller's stands in a script
+-- scripts have no callers' functions
 abbrev pub script_meaning : Meaning NoCustom EmptyOptions
 script_meaning = fixed_meaning
 
@@ -36,14 +36,14 @@ module _ {V O : Type 0} where
   StopsBy P (Refused e) = UnlessMemory (λ e. P (refuses e)) e
   StopsBy P Malformed = P is_malformed
 
-  -- from s the call makes a step of P to t; or it stops, and what was printed stays; or memory ran
-  -- out, and it stays as well
+  -- from s the call makes a step of P to t; or it stops, and the printed text is unchanged; or
+  -- memory ran out, and it is unchanged as well
   abbrev pub MakesStep : (SessionView V O → Step V O → Type 0) → SessionView V O
       → Result (Unit {0}) Stop → SessionView V O → Type 0
   MakesStep P s r t =
       MatchResult r (λ _. P s (goes_on t)) (λ stop. StopsBy (P s) stop × (t.printed ≡ s.printed))
 
-  -- a text is printed, where there is a tree
+  -- a text is printed, if there is a tree
   abbrev pub after_text : SessionView V O → Option (String Global) → Step V O
   after_text s None = is_malformed
   after_text s (Some text) = goes_on (record s { printed = s.printed ++ string_bytes text })

@@ -1,5 +1,5 @@
--- A script is told one way: where memory suffices it has an outcome, and one alone; and what is
--- printed before memory runs out is a beginning of what is printed there.
+-- A script has one meaning: if memory suffices it has exactly one outcome; and what is printed
+-- before memory runs out is a prefix of what is printed then.
 use Rattle.std.specs.Prelude.{◌≡◌, ◌≢◌, ◌++◌, ℕ, List}
 use Rattle.vortex_errors.specs.declared.error.VortexError.TheVariants.{OutOfMemory}
 use Rattle.vortex_interface.specs.Meaning.{Meaning}
@@ -8,7 +8,7 @@ use Rattle.rowfn_scripts.specs.declared.ending.End.{End}
 use Rattle.rowfn_scripts.specs.declared.ending.End.TheVariants.{Refused}
 use Rattle.rowfn_scripts.specs.Scripts.{IsOutcome}
 
--- an outcome, and not for want of memory
+-- an outcome other than out of memory
 pub record IsFullOutcome {V O : Type 0} (m : Meaning V O) (rs : Rules V O)
     (script out : List ℕ) (ending : End) : Type 0 where
   pub outcome : IsOutcome m rs script out ending

@@ -1,4 +1,4 @@
--- What the contracts of this crate name.
+-- The words that this crate's contracts use.
 pub use Rattle.vortex_errors.specs.Answers.{Answers, AnswersUnlessMemory}
 pub use Rattle.rowfn_lines.specs.Commands.{rows, column, get, literal, call, show, optimize, run}
 pub use Rattle.rowfn_lines.specs.Commands.{run_after, command_in, command_of}

@@ -11,13 +11,13 @@ use vortex_columns::{VortexError, VortexResult};
 pub enum End {
     /// Every line was read.
     Done,
-    /// A call was refused, or memory ran out.
+    /// A call failed, or memory ran out.
     Refused(VortexError),
     /// The line of this number, counted from 1, is malformed.
     Malformed(usize),
 }
 
-/// 0 for a script that was read to its end, 1 for a refusal, 2 for a malformed line.
+/// 0 for a script that was read to its end, 1 for an error, 2 for a malformed line.
 pub fn status(ending: &End) -> u8
     ensures { result ≡ status_of ending.now }
 {
@@ -28,8 +28,8 @@ pub fn status(ending: &End) -> u8
     }
 }
 
-/// The line that a program prints of the ending: the refusal by its name, or the malformed line by
-/// its number; nothing for `Done`. E9 where memory is refused.
+/// The line that a program prints for the ending: the error by its name, or the malformed line by
+/// its number; none for `Done`. E9 where an allocation fails.
 pub fn fault_line(alloc: Global, ending: &End) -> VortexResult<String>
     ensures { AnswersUnlessMemory result (λ text. string_bytes text ≡ fault_line_of ending.now) }
 {

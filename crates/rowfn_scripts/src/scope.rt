@@ -1,4 +1,4 @@
-//! The fields of a script, each found by its name.
+//! The fields of a script, found by name.
 ghost use Rattle.std.specs.Prelude.{◌≡◌, None, OnErr};
 ghost use Rattle.vortex_types.specs.LogicalTypes.{no_fields, with_field};
 ghost use Rattle.vortex_types.specs.TypeOf.{struct_fields, type_of};
@@ -9,10 +9,10 @@ use std::collections::BTreeMap;
 use std::marker::Model;
 use vortex_columns::{DType, StructFields, VortexResult};
 
-/// The fields in the order of their lines, and the place of each by its name.
+/// The fields in the order of their lines, and the index of each by its name.
 ///
-/// The names are found in order and not by a hash: whoever writes the script chooses them, and the
-/// seed of a `HashMap` is fixed, so that he could choose names that all hash alike.
+/// Names are in an ordered map, not in a `HashMap`: the author of a script chooses them, and the
+/// seed of a `HashMap` is fixed, so that all of them could collide.
 #[derive(Drop)]
 pub(crate) struct Scope {
     fields: StructFields,
@@ -38,7 +38,7 @@ impl Model for Scope {
 }
 
 impl Scope {
-    /// No fields. Takes no memory.
+    /// No fields. Allocates nothing.
     pub(crate) fn new(alloc: Global) -> Scope
         ensures { result ≡ no_fields }
     {
@@ -48,15 +48,15 @@ impl Scope {
         }
     }
 
-    /// The place of the field of that name. Takes no memory.
+    /// The index of the field with that name. Allocates nothing.
     pub(crate) fn find(&self, name: &str) -> Option<usize>
         ensures { result ≡ place_of name.now self.now }
     {
         self.places.get(name).copied()
     }
 
-    /// One field more, behind the others; that its name is new is a condition. Refuses only
-    /// where memory is refused, and then nothing changes.
+    /// Appends a field, whose name must be new. Fails only
+    /// where memory runs out, and then changes nothing.
     pub(crate) fn add(&mut self, alloc: Global, name: &str, dtype: DType) -> VortexResult<()>
         requires { place_of name.now self.old ≡ None }
         ensures added { AnswersUnlessMemory result

@@ -17,13 +17,13 @@ use vortex_columns::VortexError;
 /// What a script prints, and how it ends.
 #[derive(Drop)]
 pub struct Outcome {
-    /// The printed lines, whole.
+    /// The printed lines.
     pub out: Vec<u8>,
     /// How the script ends.
     pub ending: End,
 }
 
-/// Reads the lines one by one, up to the first that does not go on.
+/// Runs the lines one by one, up to the first that does not continue.
 fn read_lines(alloc: Global, script: &[u8], session: &mut Session) -> End
     requires { session.old ≡ fresh }
     ensures { IsOutcome script_meaning script_rules script.now session.new.printed result }
@@ -41,34 +41,33 @@ fn read_lines(alloc: Global, script: &[u8], session: &mut Session) -> End
 
 /// Runs a script.
 ///
-/// A line ends at a newline or with the script. Spaces at its ends are passed over; a line without
-/// words, or that then begins with `#`, does nothing. Words stand between spaces, and one that
+/// A line ends at a newline or with the script. Spaces at its ends are ignored; a line without
+/// words, or that then begins with `#`, does nothing. Words are between spaces, and one that
 /// begins with `"` runs to the next `"`, may hold spaces, and has no escapes.
 ///
-/// - `rows n`, first and once: so many rows, by at most six digits.
+/// - `rows n`, first and once: that many rows, by at most six digits.
 /// - `col name type cells`: a column of n cells. A name has ASCII letters, digits and `_`. Types
 ///   are `bool`, `i8` to `i64`, `u8` to `u64` and `utf8`, nullable with a `?` at the end; cells are
 ///   `null`, `true`, `false`, decimal numbers with a minus sign or without, and texts in quotes, of
 ///   at most 4,294,967,295 bytes.
 /// - `get name` pushes the column's leaf, and `lit type cell` a literal.
 /// - `call f` calls `and`, `or`, `=`, `!=`, `<`, `<=`, `>`, `>=`, `+`, `-`, `*` or `/` on the last
-///   two trees, the last being on the right, or `not`, `is_null`, `is_not_null` or `cast` on the
+///   two trees, the last on the right, or `not`, `is_null`, `is_not_null` or `cast` on the
 ///   last one; or `between` and two words, each `<` or `<=`, on the last three: a value, its lower
 ///   bound by the first, its upper bound by the second; or `like`, `not_like`, `ilike` or
-///   `not_ilike` on the last two: a text, and its pattern on the right. E3 where it does not accept
+///   `not_ilike` on the last two: a text, and its pattern on the right. E3 if it does not accept
 ///   their types.
 /// - `show` prints the last tree's text, and `run` its column: the type, a colon, and each cell
-///   after a space. E7 where in some row two numbers have no result that their type holds.
-/// - `optimize` puts into the last tree's place what `optimize_recursive` makes of it, with its
-///   weight as the limit, and prints `steps`, their number, `done`, and whether no rule is left.
-/// - `run k` prints the column that `run` of `vortex_rewriting` answers with the limit k, and
-///   leaves the tree as it is. E7 as `run`, of the tree that the rules make.
+///   after a space. E7 if in some row two numbers have no result that their type holds.
+/// - `optimize` replaces the last tree by the result of `optimize_recursive`, with its weight as
+///   the limit, and prints `steps`, their number, `done`, and whether no rule is left.
+/// - `run k` prints the column that `run` of `vortex_rewriting` returns with the limit k; the
+///   tree is unchanged. E7 as for `run`, of the tree that the rules make.
 ///
 /// Any other line is malformed. docs/SCRIPTS.md has every line with an example.
 ///
-/// The script ends at the first line that is malformed or whose call is refused; E11 for `get` of
-/// an unknown name. What the lines before it printed stays. E9 where memory runs out, at whichever
-/// line.
+/// The script ends at the first line that is malformed or whose call fails; E11 for `get` of an
+/// unknown name. The output of the lines before it is kept. E9 where memory runs out, at any line.
 pub fn interpret(alloc: Global, script: &[u8]) -> Outcome
     ensures { IsOutcome {V = NoCustom} {O = EmptyOptions} fixed_meaning
         (default_rules fixed_meaning) script.now result.out.items result.ending }

@@ -1,4 +1,4 @@
-//! What a script has made so far.
+//! The state of a running script.
 ghost use Rattle.std.specs.Prelude.{◌≡◌, OnOk, Some, map, string_bytes};
 ghost use Rattle.rowfn_scripts.specs.Words.{Answers, AnswersUnlessMemory, rows, column, get};
 ghost use Rattle.rowfn_scripts.specs.Words.{literal, call, show, optimize, run, run_after};
@@ -18,8 +18,8 @@ use vortex_columns::{Arity, Column, ExecutionCtx, Scalar, VortexError, VortexRes
 use vortex_functions::{BoundExpression, NoCustom, ScalarFnRef};
 use vortex_rewriting::{Optimized, Rewrite, run};
 
-/// The row count, the columns and the fields that name them, the trees that lines have pushed, and
-/// what was printed.
+/// The row count, the columns and the fields that name them, the stack of trees, and the printed
+/// text.
 #[derive(Drop)]
 pub struct Session {
     row_count: Option<usize>,
@@ -50,14 +50,15 @@ impl Model for Session {
     } };
 }
 
-/// How many steps a run took, and whether no rule is left, as a line. E9 where memory is refused.
+/// The number of steps of a run, and whether no rule is left, as a line. E9 where an allocation
+/// fails.
 fn steps_text(alloc: Global, steps: u64, done: bool) -> VortexResult<String>
     ensures { AnswersUnlessMemory result (λ text. string_bytes text ≡ steps_text steps done) }
 {
     Ok(format!(in alloc; "steps {steps} done {done}\n")?)
 }
 
-/// The text of a column, as a line. E9 where memory is refused.
+/// The text of a column, as a line. E9 where an allocation fails.
 fn column_line(alloc: Global, column: &Column) -> VortexResult<String>
     ensures { AnswersUnlessMemory result (λ text. string_bytes text ≡ column_line column.now) }
 {
@@ -66,7 +67,7 @@ fn column_line(alloc: Global, column: &Column) -> VortexResult<String>
     Ok(line)
 }
 
-/// How many trees a function takes: the least count that fits its arity.
+/// How many trees a function takes: the least count that its arity allows.
 fn least_count(arity: Arity) -> usize
     ensures { result ≡ least_count arity }
 {
@@ -77,7 +78,7 @@ fn least_count(arity: Arity) -> usize
 }
 
 impl Session {
-    /// Nothing yet; takes no memory.
+    /// Nothing yet; allocates nothing.
     pub fn new(alloc: Global) -> Session
         ensures { result ≡ fresh }
     {
@@ -90,7 +91,7 @@ impl Session {
         }
     }
 
-    /// What was printed.
+    /// The printed text.
     pub fn into_out(self) -> Vec<u8>
         ensures { result.items ≡ self.printed }
     {
@@ -185,7 +186,7 @@ impl Session {
         Ok(())
     }
 
-    /// The text of the last tree's column; nothing where there is no tree.
+    /// The text of the last tree's column; none if there is no tree.
     fn top_text(&self, alloc: Global, count: usize) -> VortexResult<Option<String>>
         ensures { Answers result
             (λ text. RunsTop script_meaning (Some count) self.now.stack self.now
@@ -213,8 +214,8 @@ impl Session {
         Ok(())
     }
 
-    /// The text of the column of the tree that a run of at most `limit` steps leads to from the
-    /// last one; nothing where there is no tree.
+    /// The text of the column of the tree after a run of at most `limit` steps from the last one;
+    /// none if there is no tree.
     fn text_after(&self, alloc: Global, count: usize, limit: u64) -> VortexResult<Option<String>>
         ensures { Answers result
             (λ text. RunsAfterTop script_meaning script_rules limit (Some count) self.now.stack
@@ -243,8 +244,8 @@ impl Session {
         Ok(())
     }
 
-    /// A run of rules from the last tree, of at most as many steps as it weighs: what it leads to
-    /// takes the tree's place.
+    /// A run of rules from the last tree, of at most as many steps as it weighs; the result
+    /// replaces the tree.
     fn optimize(&mut self, alloc: Global) -> Result<(), Stop>
         ensures { MakesStep (Steps optimize) self.old result self.new }
     {
@@ -261,7 +262,7 @@ impl Session {
         Ok(())
     }
 
-    /// The text of the last tree, with a newline; nothing where there is no tree.
+    /// The text of the last tree, with a newline; none if there is no tree.
     fn shown_text(&self, alloc: Global, count: usize) -> VortexResult<Option<String>>
         ensures { AnswersUnlessMemory result
             (λ text. ShowsTop (Some count) self.now.stack self.now (after_text self.now text)) }
@@ -287,7 +288,7 @@ impl Session {
         Ok(())
     }
 
-    /// Does what the line says, or stops, as `read_line` does.
+    /// Executes the command, or stops, as `read_line` does.
     pub fn step(&mut self, alloc: Global, line: Line<'_>) -> Result<(), Stop>
         ensures { MakesStep (Steps (command_in line.entry))
             self.old result self.new }
@@ -307,8 +308,8 @@ impl Session {
         }
     }
 
-    /// Does what the line says, or stops: where the line is malformed, where its call is refused,
-    /// or where memory runs out. What was printed stays.
+    /// Executes the line, or stops: if the line is malformed, if its call fails, or if memory runs
+    /// out. The printed text is kept.
     pub fn read_line(&mut self, alloc: Global, line: &[u8]) -> Result<(), Stop>
         ensures { MakesStep (Steps (command_of line.now))
             self.old result self.new }

@@ -1,4 +1,4 @@
-//! Why a line does not go on.
+//! Why a script stops at a line.
 ghost use Rattle.std.specs.Prelude.{◌≡◌};
 ghost use Rattle.vortex_errors.specs.declared.error.VortexError.TheVariants.{OutOfMemory};
 ghost use Rattle.rowfn_scripts.specs.declared.stop.Stop.TheVariants.{Refused};
@@ -7,10 +7,10 @@ use crate::ending::End;
 use std::alloc::{AllocError, AllocFailed};
 use vortex_columns::VortexError;
 
-/// Why a line does not go on.
+/// Why a script stops at a line.
 #[derive(Drop)]
 pub enum Stop {
-    /// A call is refused, or memory ran out.
+    /// A call fails, or memory ran out.
     Refused(VortexError),
     Malformed,
 }
@@ -18,7 +18,7 @@ pub enum Stop {
 impl Stop {
     ghost use Rattle.rowfn_scripts.specs.Stepping.{end_of};
 
-    /// How a script ends that stops at this line.
+    /// The ending of a script that stops at this line.
     pub fn ending(self, line: usize) -> End
         ensures { result ≡ end_of self line }
     {

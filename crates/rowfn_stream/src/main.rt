@@ -1,14 +1,14 @@
 //! Rows of CSV that flow from a file or standard input through an expression to standard output.
 #![tactic(auto)]
 
-mod asking;
 mod failure;
 mod progress;
+mod queries;
 mod standard_error;
 
-use crate::asking::{ask, format_with};
 use crate::failure::Failure;
 use crate::progress::{PRINTED_BYTES, Progress};
+use crate::queries::{format_with, query_of};
 use crate::standard_error::StandardError;
 use rowfn_batches::{
     Asked, Refusals, RefusedRows, Settings, StreamError, Summary, Watched, check_names, explain,
@@ -256,7 +256,7 @@ fn perform_on<R: Read + Drop>(
 ) -> Result<(), Failure> {
     let alloc = rt.alloc();
     let mut reader = Again::new(alloc, reader);
-    let query = ask(rt, options, &mut reader)?;
+    let query = query_of(rt, options, &mut reader)?;
     if options.action == Action::Explain {
         return Ok(print_query(rt, &query)?);
     }

@@ -13,7 +13,7 @@ fn first_is_valid(alloc: Global) -> VortexResult<Validity> {
     Ok(Validity::Array(BitBuffer::from_bools(alloc, &[true, false])?))
 }
 
-/// Whether a cell is that number, or null where there is none.
+/// Whether a cell is that number, or null for none.
 fn is_number(cell: Cell<'_>, wanted: Option<i128>) -> bool {
     match (cell, wanted) {
         (Cell::Int(number), Some(wanted)) => number == wanted,
@@ -104,7 +104,7 @@ fn try_binary(alloc: Global) -> Made {
     )
 }
 
-/// The views of `a` and of `hello, world!`, which lies in a buffer.
+/// The views of `a` and of `hello, world!`, which is in a buffer.
 fn two_views(alloc: Global) -> VortexResult<Vec<BinaryView>> {
     let short = BinaryView::new_inlined(b"a");
     let long = BinaryView::new_long(13, *b"hell", 0, 0);

@@ -1,4 +1,4 @@
-//! Columns beside their copies, and beside the rows that are known. No question takes memory.
+//! Columns compared with their copies, and with known rows. Comparing allocates nothing.
 
 use fixtures::{Made, kept};
 use std::alloc::Global;
@@ -19,7 +19,7 @@ pub fn are_same(left: &Column, right: &Column) -> bool {
     true
 }
 
-/// The same of lists of columns.
+/// The same for lists of columns.
 fn are_all_same(left: &[Column], right: &[Column]) -> bool {
     if left.len() != right.len() {
         return false;
@@ -63,12 +63,12 @@ impl Sides {
         })
     }
 
-    /// Whether both are as they were.
+    /// Whether both are unchanged.
     fn stay(&self) -> bool {
         are_same(&*self.left, &*self.left_copy) && are_same(&*self.right, &*self.right_copy)
     }
 
-    /// Whether both are as they were, and a call that borrowed them answers this column.
+    /// Whether both are unchanged, and a call that borrowed them returns this column.
     pub fn answer(&self, answer: Made, wanted: &Column) -> VortexResult<bool> {
         if !self.stay() {
             return Ok(false);
@@ -96,7 +96,7 @@ impl Table {
         &self.columns
     }
 
-    /// Whether they are as they were, and a call that borrowed them answers this column.
+    /// Whether they are unchanged, and a call that borrowed them returns this column.
     pub fn answer(
         &self,
         alloc: Global,
@@ -111,7 +111,7 @@ impl Table {
     }
 }
 
-/// How a call answers, if what it borrowed is as it was.
+/// The result of a call, if what it borrowed is unchanged.
 pub fn unless_changed(
     is_as_it_was: VortexResult<bool>,
     answer: VortexResult<bool>,

@@ -5,17 +5,17 @@ use std::alloc::Global;
 use vortex_columns::{DType, Nullability, PType, StructFields, VortexError, VortexResult};
 use vortex_expressions::{ReadError, read_answers, read_expression, write_expression};
 
-const TEXT: &str = "price * 2 > 100 and \"the name\" like 'a''%'";
+const TEXT: &str = "price * 2 > 100 and \"the \"\"name\"\"\" like 'a''%'";
 
 fn scope(alloc: Global) -> VortexResult<StructFields> {
     let fields = [
         ("price", DType::Primitive(PType::I64, Nullability::Nullable)),
-        ("the name", DType::Utf8(Nullability::NonNullable)),
+        ("the \"name\"", DType::Utf8(Nullability::NonNullable)),
     ];
     StructFields::of(alloc, &fields)
 }
 
-/// No where a text is refused; else that memory ran out.
+/// `false` for a text that fails; else out of memory.
 fn refused(error: &ReadError) -> VortexResult<bool> {
     if error.is_out_of_memory() {
         Err(VortexError::OutOfMemory)
@@ -36,7 +36,7 @@ fn reads_and_writes(alloc: Global) -> VortexResult<bool> {
     }
 }
 
-/// Whether two answers are read, of which the first has a name.
+/// Whether two answers are read, the first with a name.
 fn reads_answers(alloc: Global) -> VortexResult<bool> {
     let scope = scope(alloc)?;
     match read_answers(alloc, &scope, "price as \"a\"\"b\", null::utf8") {
@@ -48,7 +48,7 @@ fn reads_answers(alloc: Global) -> VortexResult<bool> {
     }
 }
 
-/// Whether a column that is not there is refused, with the one that may be meant.
+/// Whether an unknown column is an error, with the one that may be meant.
 fn tells_a_column(alloc: Global) -> VortexResult<bool> {
     let scope = scope(alloc)?;
     match read_expression(alloc, &scope, "1 < prcie") {

@@ -2,59 +2,19 @@
 
 use crate::comparing::{Sides, are_same};
 use crate::seen::Tally;
-use fixtures::{Made, constant, kept, nullable_bools, nullable_ints};
+use fixtures::{Made, constant, kept, nullable_ints, truths};
 use std::alloc::Global;
 use vortex_columns::*;
 use vortex_kernels::*;
 
-/// Each pair of true, false and null.
-const LEFT: [Option<bool>; 9] = [
-    Some(true),
-    Some(true),
-    Some(true),
-    Some(false),
-    Some(false),
-    Some(false),
-    None,
-    None,
-    None,
-];
+/// Each pair of true, false and null, by letters, and And and Or of them.
+const LEFT: &str = "tttfffnnn";
 
-const RIGHT: [Option<bool>; 9] = [
-    Some(true),
-    Some(false),
-    None,
-    Some(true),
-    Some(false),
-    None,
-    Some(true),
-    Some(false),
-    None,
-];
+const RIGHT: &str = "tfntfntfn";
 
-const BOTH: [Option<bool>; 9] = [
-    Some(true),
-    Some(false),
-    None,
-    Some(false),
-    Some(false),
-    Some(false),
-    None,
-    Some(false),
-    None,
-];
+const BOTH: &str = "tfnfffnfn";
 
-const EITHER: [Option<bool>; 9] = [
-    Some(true),
-    Some(true),
-    Some(true),
-    Some(true),
-    Some(false),
-    None,
-    Some(true),
-    None,
-    None,
-];
+const EITHER: &str = "ttttfntnn";
 
 /// The call of a kernel of truth values, on columns of one length.
 fn boolean(alloc: Global, sides: &Sides, operator: Operator) -> Made {
@@ -70,13 +30,13 @@ fn boolean(alloc: Global, sides: &Sides, operator: Operator) -> Made {
 
 fn combines(alloc: Global, operator: Operator, wanted: Made) -> VortexResult<bool> {
     let wanted = wanted?;
-    let (left, right) = (nullable_bools(alloc, &LEFT), nullable_bools(alloc, &RIGHT));
+    let (left, right) = (truths(alloc, LEFT), truths(alloc, RIGHT));
     let sides = Sides::new(alloc, left, right)?;
     let answer = boolean(alloc, &sides, operator);
     sides.answer(answer, &*wanted)
 }
 
-/// The same beside one truth value in each row.
+/// The same with one truth value in each row.
 fn combines_with(
     alloc: Global,
     operator: Operator,
@@ -84,7 +44,7 @@ fn combines_with(
     wanted: Made,
 ) -> VortexResult<bool> {
     let wanted = wanted?;
-    let left = nullable_bools(alloc, &LEFT);
+    let left = truths(alloc, LEFT);
     let scalar = Scalar::bool(right, Nullability::NonNullable);
     let right = kept(alloc, Column::constant(alloc, scalar, LEFT.len()));
     let sides = Sides::new(alloc, left, right)?;
@@ -92,7 +52,7 @@ fn combines_with(
     sides.answer(answer, &*wanted)
 }
 
-/// 1, null, 3 beside 3, 3, 3.
+/// 1, null, 3 with 3, 3, 3.
 fn numbers(alloc: Global) -> VortexResult<Sides> {
     let left = nullable_ints(alloc, &[Some(1), None, Some(3)]);
     let right = nullable_ints(alloc, &[Some(3), Some(3), Some(3)]);
@@ -115,7 +75,7 @@ fn calculates(alloc: Global, operator: NumericOperator, wanted: Made) -> VortexR
     sides.answer(kept(alloc, answer), &*wanted)
 }
 
-/// The same beside the number 3 in each row.
+/// The same with the number 3 in each row.
 fn calculates_with_three(
     alloc: Global,
     operator: NumericOperator,
@@ -129,7 +89,7 @@ fn calculates_with_three(
     sides.answer(kept(alloc, answer), &*wanted)
 }
 
-/// A truth value and a null, as bits beside the rows that are not null.
+/// A truth value and a null, as bits with the rows that are not null.
 fn first_alone(alloc: Global, first: bool) -> VortexResult<(BitBuffer, Validity)> {
     let bits = BitBuffer::from_bools(alloc, &[first, true])?;
     let valid = BitBuffer::from_bools(alloc, &[true, false])?;
@@ -165,11 +125,11 @@ fn is_over_bits(answer: Made, wanted: Made) -> VortexResult<bool> {
 }
 
 pub fn ask(alloc: Global, tally: &mut Tally) {
-    let both = nullable_bools(alloc, &BOTH);
+    let both = truths(alloc, BOTH);
     tally.note("execute_boolean, And", combines(alloc, Operator::And, both));
-    let either = nullable_bools(alloc, &EITHER);
+    let either = truths(alloc, EITHER);
     tally.note("execute_boolean, Or", combines(alloc, Operator::Or, either));
-    let below = nullable_bools(alloc, &[Some(true), None, Some(false)]);
+    let below = truths(alloc, "tnf");
     tally.note(
         "execute_compare",
         compares(alloc, CompareOperator::Lt, below),
@@ -179,12 +139,12 @@ pub fn ask(alloc: Global, tally: &mut Tally) {
         "execute_numeric",
         calculates(alloc, NumericOperator::Add, sums),
     );
-    let left = nullable_bools(alloc, &LEFT);
+    let left = truths(alloc, LEFT);
     tally.note(
         "execute_boolean, And true",
         combines_with(alloc, Operator::And, true, left),
     );
-    let left = nullable_bools(alloc, &LEFT);
+    let left = truths(alloc, LEFT);
     tally.note(
         "execute_boolean, Or false",
         combines_with(alloc, Operator::Or, false, left),
@@ -199,12 +159,12 @@ pub fn ask(alloc: Global, tally: &mut Tally) {
         "execute_numeric, a constant divisor",
         calculates_with_three(alloc, NumericOperator::Div, quotients),
     );
-    let both = nullable_bools(alloc, &[Some(false), None]);
+    let both = truths(alloc, "fn");
     tally.note(
         "kleene_boolean_buffers, And",
         is_over_bits(over_bits(alloc, Operator::And), both),
     );
-    let either = nullable_bools(alloc, &[Some(true), None]);
+    let either = truths(alloc, "tn");
     tally.note(
         "kleene_boolean_buffers, Or",
         is_over_bits(over_bits(alloc, Operator::Or), either),

@@ -1,9 +1,9 @@
-//! Tries what calls answer where memory is refused.
+//! Tests calls under failing allocations.
 //!
-//! Each is made on small inputs, and its answer held against the known one. A call may be out of
-//! memory instead, and what it borrowed is then as it was. `tools/scarce_memory` runs the program
-//! once for each allocation, which it refuses. The program ends with 0 where each call answers,
-//! with 3 where memory ran out, and with 1 where an answer is wrong.
+//! Each call is made on small inputs, and its result compared with the known one. A call may run
+//! out of memory instead; then what it borrowed is unchanged. `tools/scarce_memory` runs the
+//! program once for each allocation, which fails. The program ends with 0 if each call returns,
+//! with 3 if memory ran out, and with 1 if a result is wrong.
 #![tactic(auto)]
 
 mod columns;
@@ -22,7 +22,7 @@ use std::alloc::Global;
 use std::io;
 use std::process::ExitCode;
 
-/// Makes all calls; those that take no memory come last.
+/// Makes all calls; those that allocate nothing come last.
 fn all(alloc: Global) -> Tally {
     let mut tally = Tally::new();
     columns::ask(alloc, &mut tally);
@@ -36,7 +36,7 @@ fn all(alloc: Global) -> Tally {
     tally
 }
 
-/// Tells what was seen: standard output is the whole text, nothing of it, or names a wrong answer.
+/// Reports: standard output is the whole text, nothing of it, or names a wrong result.
 fn run(rt: &(impl Print + Eprint + AllocGlobal)) -> io::Result<u8> {
     let tally = all(rt.alloc());
     if let Some(call) = tally.wrong {

@@ -8,7 +8,7 @@ use std::borrow::CowStr;
 use vortex_columns::*;
 use vortex_like::*;
 
-/// Whether a pattern, which looks past case or not, matches the first text and not the second.
+/// Whether a pattern, which may ignore case, matches the first text and not the second.
 fn matches(
     alloc: Global,
     pattern: &str,
@@ -20,8 +20,7 @@ fn matches(
     Ok(pattern.matches(matching.as_bytes()) && !pattern.matches(other.as_bytes()))
 }
 
-/// Whether the simple shape of a pattern is that it begins with that text, which has a form of its
-/// own.
+/// Whether the simple shape of a pattern is that it begins with that text, which has its own form.
 fn begins_with(alloc: Global, pattern: &str, wanted: &str) -> VortexResult<bool> {
     match LikeVariant::from_str(alloc, pattern)? {
         Some(LikeVariant::Prefix(CowStr::Owned(text))) => Ok(text.as_str() == wanted),
@@ -41,7 +40,7 @@ fn like_of(alloc: Global, sides: &Sides, options: LikeOptions) -> Made {
     )
 }
 
-/// Whether LIKE of three texts and their patterns answers true, false, true.
+/// Whether LIKE of three texts and their patterns is true, false, true.
 fn likes(alloc: Global, patterns: Made) -> VortexResult<bool> {
     let wanted = bools(alloc, &[true, false, true])?;
     let words = texts(alloc, &["hello", "world", "help"], Validity::NonNullable);

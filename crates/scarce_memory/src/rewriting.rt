@@ -2,26 +2,26 @@
 
 use crate::comparing::{are_same, unless_changed};
 use crate::seen::Tally;
-use crate::trees::{UNKNOWN, array_answers, has_text, missing, two_rows, unknown};
+use crate::trees::{UNKNOWN, array_answers, has_text, missing, two_rows};
 use fixtures::{Made, kept, nullable_bools};
 use std::alloc::Global;
 use std::borrow::Cow;
 use tree_fixtures::array_makers::{Held, over_columns};
 use tree_fixtures::makers::*;
+use tree_fixtures::rewritten::unknown_sum;
 use vortex_arrays::*;
 use vortex_columns::*;
 use vortex_functions::*;
 use vortex_operators::*;
 use vortex_rewriting::*;
 
-/// What the rules make of `is_null((a + b) = c)`.
+/// The result of the rules for `is_null((a + b) = c)`.
 const SPLIT: &str = "vortex.not(((is_not_null($.a) and is_not_null($.b)) and is_not_null($.c)))";
 
 /// True, false, true.
 const ROWS: [Option<bool>; 3] = [Some(true), Some(false), Some(true)];
 
-/// Whether a run answers this column over those of a table, and neither tree nor columns are
-/// changed.
+/// Whether a run gives this column over those of a table, and neither tree nor columns are changed.
 fn runs<C: ScalarFnRules>(alloc: Global, tree: Bound<C>, wanted: Made) -> VortexResult<bool> {
     let (tree, wanted, table) = (tree?, wanted?, two_rows(alloc)?);
     let mut ctx = ExecutionCtx::new(alloc);
@@ -43,7 +43,7 @@ fn is_column(column: Made, wanted: Made) -> VortexResult<bool> {
     Ok(are_same(&*column?, &*wanted?))
 }
 
-/// Whether a run over an array answers this column, and the array still answers its rows.
+/// Whether a run over an array gives this column, and the array still has its rows.
 fn runs_array<C: ScalarFnRules>(alloc: Global, array: Held<C>, wanted: Made) -> VortexResult<bool> {
     let array = array?;
     let mut ctx = ExecutionCtx::new(alloc);
@@ -52,14 +52,14 @@ fn runs_array<C: ScalarFnRules>(alloc: Global, array: Held<C>, wanted: Made) -> 
     unless_changed(array_answers(alloc, Ok(array), &ROWS), answer)
 }
 
-/// Whether two steps, one of which is at a place below, make the tree that no rule applies to.
+/// Whether two steps, one of them at a place below, give the tree to which no rule applies.
 fn is_split<C: ScalarFnRules>(alloc: Global, tree: &BoundExpression<C>) -> VortexResult<bool> {
     let steps: [(&[usize], Rule); 2] = [(&[], Rule::Reduce), (&[0, 0], Rule::Reduce)];
     let made = Box::new(alloc, tree.rewrite_list(alloc, &steps)?)?;
     Ok(made.applied == 2 && has_text(alloc, &made.tree, SPLIT)?)
 }
 
-/// The same, and the tree itself is not changed.
+/// The same, and the tree itself is unchanged.
 fn lists<C: ScalarFnRules>(alloc: Global, tree: Bound<C>) -> VortexResult<bool> {
     let tree = tree?;
     let answer = is_split(alloc, &*tree);
@@ -74,7 +74,7 @@ fn turned<C: ScalarFnRules>(alloc: Global) -> Bound<C> {
 /// The text of Not of column `a`.
 const TURNED: &str = "vortex.not($.a)";
 
-/// Whether a node stands for a tree of that text.
+/// Whether a node represents a tree of that text.
 fn stands_for<C: ScalarFnRules>(
     alloc: Global,
     node: &ExpressionReduceNode<'_, C>,
@@ -95,8 +95,8 @@ fn is_child<C: ScalarFnRules>(
     stands_for(alloc, &child, "$.a")
 }
 
-/// The same of a node with a tree of its own, which stays. What a caller's function lends outlives
-/// the node.
+/// The same for a node with an owned tree, which is unchanged. Borrows from a caller's function
+/// outlive the node.
 fn has_child<'a, C: ScalarFnRules + 'a>(alloc: Global, tree: Bound<C>) -> VortexResult<bool> {
     let tree = Box::into_inner(tree?);
     let node: ExpressionReduceNode<'a, C> = ExpressionReduceNode::new(Cow::Owned(tree));
@@ -111,7 +111,7 @@ fn is_turned<C: ScalarFnRules>(alloc: Global, tree: &BoundExpression<C>) -> Vort
     stands_for(alloc, &made, "vortex.not(vortex.not($.a))")
 }
 
-/// The same, and its tree stays.
+/// The same, and its tree is unchanged.
 fn makes_node<C: ScalarFnRules>(alloc: Global, tree: Bound<C>) -> VortexResult<bool> {
     let tree = tree?;
     let answer = is_turned(alloc, &*tree);
@@ -125,7 +125,7 @@ fn is_literal<C: ScalarFnRules>(alloc: Global, tree: &BoundExpression<C>) -> Vor
     stands_for(alloc, &made, "true")
 }
 
-/// The same, and its tree stays.
+/// The same, and its tree is unchanged.
 fn makes_literal<C: ScalarFnRules>(alloc: Global, tree: Bound<C>) -> VortexResult<bool> {
     let tree = tree?;
     let answer = is_literal(alloc, &*tree);
@@ -139,7 +139,7 @@ fn is_constant<C: ScalarFnRules>(alloc: Global, array: &ArrayRef<C>) -> VortexRe
     Ok(made.array().len() == 3 && made.as_constant() == Some(&Scalar::from(true)))
 }
 
-/// The same, and whether the array still answers its own rows.
+/// The same, and whether the array still has its own rows.
 fn makes_constant<C: ScalarFnRules>(alloc: Global, array: Held<C>) -> VortexResult<bool> {
     let array = array?;
     let answer = is_constant(alloc, &*array);
@@ -158,8 +158,8 @@ fn ask_nodes<C: ScalarFnRules>(alloc: Global, tally: &mut Tally) {
 }
 
 fn ask_runs<C: ScalarFnRules>(alloc: Global, tally: &mut Tally) {
-    tally.note("rewrite_list", lists::<C>(alloc, unknown(alloc)));
-    tally.note("run", runs::<C>(alloc, unknown(alloc), missing(alloc)));
+    tally.note("rewrite_list", lists::<C>(alloc, unknown_sum(alloc)));
+    tally.note("run", runs::<C>(alloc, unknown_sum(alloc), missing(alloc)));
     let rows = nullable_bools(alloc, &ROWS);
     tally.note(
         "run_array",

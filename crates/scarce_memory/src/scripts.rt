@@ -1,31 +1,10 @@
 //! A script, run.
 
 use crate::seen::Tally;
+use fixtures::{PRINTED, SCRIPT};
 use rowfn_scripts::{End, interpret};
 use std::alloc::Global;
 use vortex_columns::VortexResult;
-
-const SCRIPT: &str = "rows 2
-col a i32? 1 null
-col b i32? 2 3
-col c i32? 3 3
-get a
-get b
-call +
-get c
-call =
-call is_null
-show
-optimize
-show
-run
-";
-
-const PRINTED: &str = "vortex.is_null((($.a + $.b) = $.c))
-steps 2 done true
-vortex.not(((is_not_null($.a) and is_not_null($.b)) and is_not_null($.c)))
-bool: false true
-";
 
 /// Whether the script is read to its end and prints its lines. Where memory runs out, what is
 /// printed is a beginning of them.

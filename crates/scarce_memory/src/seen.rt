@@ -1,15 +1,15 @@
-//! What was seen of the calls.
+//! Results of the calls.
 
 use vortex_columns::{VortexError, VortexResult};
 
-/// The first call that ran out of memory, and the first whose answer is wrong.
+/// The first call that ran out of memory, and the first with a wrong result.
 #[derive(Drop)]
 pub struct Tally {
     pub out_of_memory: Option<&'static str>,
     pub wrong: Option<&'static str>,
 }
 
-/// Whether a question is answered, and with yes.
+/// Whether the result is `true`.
 pub fn yes(answer: VortexResult<bool>) -> bool {
     match answer {
         Ok(answer) => answer,
@@ -18,7 +18,7 @@ pub fn yes(answer: VortexResult<bool>) -> bool {
 }
 
 impl Tally {
-    /// No call is seen yet.
+    /// No calls yet.
     pub fn new() -> Tally {
         Tally {
             out_of_memory: None,
@@ -26,8 +26,7 @@ impl Tally {
         }
     }
 
-    /// Notes a call by whether it answers as it should: that it does, or that it is out of memory.
-    /// All else is wrong.
+    /// Records whether a call returned as expected or ran out of memory. Everything else is wrong.
     pub fn note(&mut self, call: &'static str, answer: VortexResult<bool>) {
         match answer {
             Ok(true) => {}

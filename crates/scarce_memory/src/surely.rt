@@ -1,6 +1,6 @@
-//! Calls that take no memory though they are handed an allocator, or can refuse: what is handed in
-//! is made first, and then the call itself may not be out of memory. Calls without either say so by
-//! their type, and are not tried.
+//! Calls that allocate nothing although they take an allocator, or can fail: their arguments are
+//! made first, then the call itself must not run out of memory. Calls with neither cannot by their
+//! type, and are not tested.
 
 use crate::seen::{Tally, yes};
 use crate::trees::CLOSED;
@@ -14,7 +14,7 @@ use vortex_functions::*;
 use vortex_kernels::*;
 use vortex_rewriting::*;
 
-/// Whether a lone leaf lends the column, which is its own.
+/// Whether a lone leaf gives the column, borrowed.
 fn lends<C: ScalarFnVTable>(alloc: Global, tree: Bound<C>, column: Made) -> VortexResult<bool> {
     let (tree, columns) = (tree?, one(alloc, column)?);
     Ok(yes(is_lent(alloc, &*tree, &columns)))
@@ -72,7 +72,7 @@ fn one_bool(alloc: Global) -> VortexResult<Vec<DType>> {
     Ok(dtypes)
 }
 
-/// Whether a function answers Bool of that nullability for these types.
+/// Whether a function returns Bool of that nullability for these types.
 fn returns(
     alloc: Global,
     function: ScalarFnRef<NoCustom>,
@@ -94,7 +94,7 @@ fn one_input(alloc: Global, column: &Column) -> VortexResult<VecExecutionArgs<'_
     Ok(VecExecutionArgs::new(inputs, column.len()))
 }
 
-/// Whether the first input is found, of so many rows.
+/// Whether the first input is found, of that many rows.
 fn has_rows<A: ExecutionArgs>(args: &A, row_count: usize) -> bool {
     match args.get(0) {
         Ok(column) => column.len() == row_count,
@@ -153,7 +153,7 @@ fn typed_record(alloc: Global, last: bool) -> VortexResult<(DType, ScalarValue)>
     Ok((record_type(alloc)?, record(alloc, last)?))
 }
 
-/// Whether records are typed, their types told to be equal, and they themselves compared.
+/// Whether records are typed, their types are equal, and they themselves compare.
 fn compares(
     left: VortexResult<(DType, ScalarValue)>,
     right: VortexResult<(DType, ScalarValue)>,
@@ -167,7 +167,7 @@ fn is_below(left: (DType, ScalarValue), right: (DType, ScalarValue)) -> VortexRe
     let right = Scalar::try_new(right.0, Some(right.1))?;
     let answer = scalar_cmp(&left, &right, CompareOperator::Lt)?;
     let is_below = *left.dtype() == *right.dtype() && answer.as_bool_opt() == Some(true);
-    // to drop them takes memory, and nothing here may ask for it
+    // dropping them allocates, which is not allowed here
     mem::forget(left);
     mem::forget(right);
     Ok(is_below)
@@ -201,8 +201,8 @@ fn ask_types(alloc: Global, tally: &mut Tally) {
     tally.note(call, returns(alloc, function, two_utf8s(alloc), YES));
 }
 
-/// What the last two calls are handed is made before `BitBuffer::new` is called, so that the last
-/// allocation of all is not theirs: `tools/scarce_memory` refuses it, and they show it where it is.
+/// The arguments of the last two calls are made before `BitBuffer::new` is called, so that the last
+/// allocation of all is not theirs: `tools/scarce_memory` makes it fail, and the calls show it.
 pub fn ask(alloc: Global, tally: &mut Tally) {
     let column = bools(alloc, &[true, false]);
     let leaf_alone = leaf_of::<NoCustom>(alloc, DType::Bool(NO));

@@ -1,4 +1,4 @@
-//! Trees: how calls are bound, their texts, and what they answer over columns, which are borrowed.
+//! Trees: how calls are bound, their texts, and their results over columns, which are borrowed.
 
 use crate::comparing::{Table, unless_changed};
 use crate::seen::Tally;
@@ -6,13 +6,13 @@ use fixtures::{Made, bools, nullable_bools, nullable_ints, numbers, texts};
 use std::alloc::Global;
 use tree_fixtures::array_makers::{Held, array_rows, held, made};
 use tree_fixtures::makers::*;
-use tree_fixtures::rewritten::{call_of_names, scope_of};
+use tree_fixtures::rewritten::unknown_sum;
 use vortex_arrays::*;
 use vortex_columns::*;
 use vortex_functions::*;
 use vortex_operators::*;
 
-/// Both bounds are met.
+/// Inclusive bounds.
 pub const CLOSED: BetweenOptions = BetweenOptions {
     lower_strict: StrictComparison::NonStrict,
     upper_strict: StrictComparison::NonStrict,
@@ -39,15 +39,6 @@ pub fn array_answers<C: ScalarFnVTable>(
     Ok(array_rows(alloc, array)?.as_slice() == wanted)
 }
 
-/// `is_null((a + b) = c)`, over columns of nullable i32.
-pub fn unknown<C: ScalarFnVTable>(alloc: Global) -> Bound<C> {
-    let scope = scope_of(alloc, &["a", "b", "c"])?;
-    let third = planted(alloc, BoundExpression::column(alloc, &scope, "c"));
-    let sum = call_of_names(alloc, Binary.bind(Operator::Add), &["a", "b"]);
-    let equal = between(alloc, sum, Operator::Eq, third);
-    call_of(alloc, IsNull.bind(EmptyOptions), equal)
-}
-
 /// Two rows: 1, 2, 3 and null, 3, 3.
 pub fn two_rows(alloc: Global) -> VortexResult<Table> {
     let columns = three(
@@ -59,12 +50,12 @@ pub fn two_rows(alloc: Global) -> VortexResult<Table> {
     Table::new(alloc, columns)
 }
 
-/// What that tree answers over them.
+/// The result of that tree over them.
 pub fn missing(alloc: Global) -> Made {
     bools(alloc, &[false, true])
 }
 
-/// Whether a tree answers this column over those of a table, and neither is changed.
+/// Whether a tree gives this column over those of a table, and neither is changed.
 fn executes<C: ScalarFnVTable>(alloc: Global, tree: Bound<C>, wanted: Made) -> VortexResult<bool> {
     let (tree, wanted, table) = (tree?, wanted?, two_rows(alloc)?);
     let mut ctx = ExecutionCtx::new(alloc);
@@ -99,7 +90,7 @@ fn cast<C: ScalarFnVTable>(alloc: Global) -> Bound<C> {
     planted(alloc, Cast.try_new_bound_expr(alloc, CastOptions, children))
 }
 
-/// Whether column `a` of texts is like itself.
+/// Whether column `a` of texts is LIKE itself.
 fn like<C: ScalarFnVTable>(alloc: Global) -> Bound<C> {
     let dtype = DType::Utf8(YES);
     let children = two(
@@ -113,7 +104,7 @@ fn like<C: ScalarFnVTable>(alloc: Global) -> Bound<C> {
     )
 }
 
-/// Whether column `a` lies between `b` and `a`.
+/// Whether column `a` is between `b` and `a`.
 fn bounded<C: ScalarFnVTable>(alloc: Global) -> Bound<C> {
     let children = three(alloc, leaf(alloc, "a"), leaf(alloc, "b"), leaf(alloc, "a"))?;
     planted(alloc, Between.try_new_bound_expr(alloc, CLOSED, children))
@@ -220,9 +211,9 @@ fn ask_arrays<C: ScalarFnVTable>(alloc: Global, tally: &mut Tally) {
 pub fn ask(alloc: Global, tally: &mut Tally) {
     ask_bound::<NoCustom>(alloc, tally);
     ask_arrays::<NoCustom>(alloc, tally);
-    let tree = unknown::<NoCustom>(alloc);
+    let tree = unknown_sum::<NoCustom>(alloc);
     tally.note("sql_text", is_told(alloc, tree, UNKNOWN));
-    let tree = unknown::<NoCustom>(alloc);
+    let tree = unknown_sum::<NoCustom>(alloc);
     tally.note(
         "BoundExpression::execute",
         executes(alloc, tree, missing(alloc)),

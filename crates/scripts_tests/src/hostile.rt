@@ -1,30 +1,8 @@
 //! Scripts that are cut off, and bytes that are no text.
 
-use fixtures::{same, same_text};
+use fixtures::{PRINTED, SCRIPT, same, same_text};
 use rowfn_scripts::{End, fault_line, interpret, status};
 use std::alloc::Global;
-
-const SCRIPT: &str = "rows 2
-col a i32? 1 null
-col b i32? 2 3
-col c i32? 3 3
-get a
-get b
-call +
-get c
-call =
-call is_null
-show
-optimize
-show
-run
-";
-
-const OUT: &str = "vortex.is_null((($.a + $.b) = $.c))
-steps 2 done true
-vortex.not(((is_not_null($.a) and is_not_null($.b)) and is_not_null($.c)))
-bool: false true
-";
 
 /// The number of the line of a script's last byte, or of the one after it.
 fn last_line(script: &[u8]) -> usize {
@@ -37,7 +15,7 @@ fn last_line(script: &[u8]) -> usize {
     line
 }
 
-/// Whether a script prints a beginning of `out`, and is done or malformed at its last line.
+/// Whether a script prints a prefix of `out`, and is done or malformed at its last line.
 fn prints_beginning(alloc: Global, script: &[u8], out: &str) -> bool {
     let outcome = interpret(alloc, script);
     let ended = match outcome.ending {
@@ -48,7 +26,7 @@ fn prints_beginning(alloc: Global, script: &[u8], out: &str) -> bool {
     ended && out.as_bytes().starts_with(outcome.out.as_slice())
 }
 
-/// Whether so does every beginning of a script, byte by byte.
+/// Whether every prefix of a script does so, byte by byte.
 fn all_print_beginnings(alloc: Global, script: &str, out: &str) -> bool {
     let bytes = script.as_bytes();
     for count in 0..bytes.len() {
@@ -61,7 +39,7 @@ fn all_print_beginnings(alloc: Global, script: &str, out: &str) -> bool {
 
 #[test]
 fn every_beginning_of_a_script_ends_by_its_lines(rt: HostRuntime) {
-    assert!(rt; all_print_beginnings(rt.alloc(), SCRIPT, OUT));
+    assert!(rt; all_print_beginnings(rt.alloc(), SCRIPT, PRINTED));
 }
 
 /// Whether a script prints `out`, and ends with that status and that line.

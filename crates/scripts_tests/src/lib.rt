@@ -1,10 +1,12 @@
-//! Tests of scripts and of expressions, for what no case of `crates/cases` says: bytes that are no
-//! text, beginnings of a script, tokens, and depth.
+//! Tests of scripts and of expressions that no case of `crates/cases` has: bytes that are no text,
+//! prefixes of a script, tokens, and depth.
 #![tactic(auto)]
 
 #[cfg(test)]
-mod expressions;
+mod depth;
 #[cfg(test)]
 mod hostile;
 #[cfg(test)]
-mod scopes;
+mod syntax;
+#[cfg(test)]
+mod writes;

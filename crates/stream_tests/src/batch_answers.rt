@@ -45,3 +45,34 @@ fn the_first_row_that_faults_is_reported(rt: HostRuntime) {
     ];
     assert!(rt; each_prints(rt, CASES));
 }
+
+#[test]
+fn an_operand_that_cannot_change_the_answer_is_no_matter(rt: HostRuntime) {
+    const CASES: &[(&str, &[u8], usize, &str)] = &[
+        (
+            "a i8?, s utf8: a = -1 and s like '%x%' as x",
+            b"1,ax,2,b,3,cx",
+            3,
+            "x,\nfalse,\nfalse,\nfalse,\n",
+        ),
+        (
+            "a i8?, s utf8: a = -1 and s like '%x%' as x",
+            b"1,ax,~,b,~,cx",
+            3,
+            "x,\nfalse,\nfalse,\n~,\n",
+        ),
+        (
+            "a i8, b i8?: a > 0 or b > 0 or b is null as x",
+            b"1,1,2,~,3,-1",
+            3,
+            "x,\ntrue,\ntrue,\ntrue,\n",
+        ),
+        (
+            "a i8, b i8: a = 9 and b > 0 and 1 / b > 0 as x",
+            b"1,1,2,2,3,0",
+            3,
+            "x,\nfalse,\nfalse,\nrow 2, answer 0: Arithmetic.Div",
+        ),
+    ];
+    assert!(rt; each_prints(rt, CASES));
+}

@@ -90,7 +90,7 @@ fn a_field_that_does_not_fit_is_told(rt: HostRuntime) {
             ",\n",
             "",
             2,
-            "row 1: 2 fields where 1 are wanted",
+            "row 1, column t: null is no utf8",
         ),
         (
             Form::Plain,

@@ -1,20 +1,90 @@
 //! Columns without names, places of columns, texts for null, comments, and records of any length.
 
-use crate::asking::{Asked, COMMAS, Texts, answers_so, asks, each_answers, ends_so};
+use crate::harness::{
+    Asked, COMMAS, Ending, Texts, answers_so, asks, each_answers, each_ends_headless, ends_so,
+};
 use rowfn_batches::Format;
 use rowfn_queries::Words;
+
+/// The same, without a header.
+fn headless<'a>(asked: Asked<'a>) -> Asked<'a> {
+    Asked {
+        words: Words {
+            header: false,
+            ..asked.words
+        },
+        ..asked
+    }
+}
 
 #[test]
 fn without_a_header_columns_are_c1_and_c2(rt: HostRuntime) {
     let plain = asks("c2 + 1 as next, c1", "nut,3\nbolt,\n");
-    let headless = Asked {
-        words: Words {
-            header: false,
-            ..plain.words
-        },
-        ..plain
+    assert!(rt; answers_so(rt, headless(plain), "4,nut\n,bolt\n"));
+}
+
+#[test]
+fn answers_and_conditions_need_no_column(rt: HostRuntime) {
+    const CASES: &[Ending] = &[
+        (("", "5 as r", "", "1\n"), "5\n", 0, ""),
+        (("", "5 as r", "c1 > 0", "1\n0\n"), "5\n", 0, ""),
+        (("a i64", "5 as r", "true", "1\n"), "5\n", 0, ""),
+        (("a i64", "5 as r", "", "1,x\n2,y\n"), "5\n5\n", 0, ""),
+        (("", "5 as r, c1", "", "1\n"), "5,1\n", 0, ""),
+        (("", "c2", "true", "1,2\n"), "2\n", 0, ""),
+        (("", "5 as r", "true", "1,2\n3,4\n"), "5\n5\n", 0, ""),
+        (("", "", "true", "1,2\n3,4\n"), "1,2\n3,4\n", 0, ""),
+        (("", "5 as r", "", ""), "", 0, ""),
+    ];
+    assert!(rt; each_ends_headless(rt, CASES));
+    let appended = Asked {
+        appends: true,
+        ..headless(asks("5 as r", "1,\"x,y\"\n"))
     };
-    assert!(rt; answers_so(rt, headless, "4,nut\n,bolt\n"));
+    assert!(rt; answers_so(rt, appended, "1,\"x,y\",5\n"));
+}
+
+#[test]
+fn rows_are_as_wide_as_the_first_whatever_is_read(rt: HostRuntime) {
+    const CASES: &[Ending] = &[
+        (
+            ("", "5 as r", "", "1,2\n3\n"),
+            "5\n",
+            2,
+            "row 2: 1 fields where 2 are wanted",
+        ),
+        (
+            ("", "5 as r", "true", "1\n2,3\n"),
+            "5\n",
+            2,
+            "row 2: 2 fields where 1 are wanted",
+        ),
+        (
+            ("", "", "true", "1\n2,3\n"),
+            "1\n",
+            2,
+            "row 2: 2 fields where 1 are wanted",
+        ),
+        (
+            ("a i64, b i64", "5 as r", "true", "1\n"),
+            "",
+            2,
+            "row 1: 1 fields where 2 are wanted",
+        ),
+        (
+            ("a i64, b i64", "a", "true", "1\n"),
+            "",
+            2,
+            "row 1: 1 fields where 2 are wanted",
+        ),
+        (
+            ("3 as y i64", "5 as r", "", "1,2\n"),
+            "",
+            2,
+            "row 1: 2 fields where 3 are wanted",
+        ),
+    ];
+    assert!(rt; each_ends_headless(rt, CASES));
 }
 
 #[test]
@@ -68,4 +138,7 @@ fn short_and_long_records_fit(rt: HostRuntime) {
     let told = "row 2: 3 fields where 2 are wanted";
     let full = asks("a, b", "a,b\n1,2\n3,4,5\n");
     assert!(rt; ends_so(rt, fitted(full), "a,b\n1,2\n", 2, told));
+    let told = "row 4: 3 fields where 2 are wanted";
+    let constant = headless(asks("5 as r", "1,2\n3\n4,5,\n6,7,8\n"));
+    assert!(rt; ends_so(rt, fitted(constant), "5\n5\n5\n", 2, told));
 }

@@ -1,9 +1,9 @@
 //! Types that columns take from the first rows.
 
-use crate::asking::{
+use crate::cases::is_case;
+use crate::harness::{
     Asked, Texts, answers_so, asks, declared, each_ends_so, ends_once, ends_so, rows_where,
 };
-use crate::cases::is_case;
 use fixtures::same;
 use rowfn_queries::{SAMPLED_ROWS, Words, infer};
 use std::alloc::{AllocError, Global};

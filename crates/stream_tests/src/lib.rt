@@ -5,8 +5,6 @@
 #[cfg(test)]
 mod answers;
 #[cfg(test)]
-mod asking;
-#[cfg(test)]
 mod batch_answers;
 #[cfg(test)]
 mod cases;
@@ -22,6 +20,8 @@ mod fields;
 mod flushing;
 #[cfg(test)]
 mod formats;
+#[cfg(test)]
+mod harness;
 #[cfg(test)]
 mod inference;
 #[cfg(test)]

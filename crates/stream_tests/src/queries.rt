@@ -1,9 +1,9 @@
 //! Answers and conditions as texts.
 
-use crate::asking::{
+use crate::cases::is_case;
+use crate::harness::{
     Asked, Texts, answers_so, answers_where, asks, declared, each_answers, each_ends_so, ends_so,
 };
-use crate::cases::is_case;
 
 const GOODS: &str = "name,price,stock\nnut,3,7\nbolt,120,\nnail,5,0\n";
 
@@ -94,6 +94,16 @@ fn texts_that_are_refused_are_reported_by_their_place(rt: HostRuntime) {
         (
             "a i8, a i16",
             "--columns: line 1, column 7: column \"a\" is declared twice",
+        ),
+        (
+            "0 as a i8",
+            "--columns: line 1, column 1: no column has the place \"0\"; the first is 1, \
+                the last 1000000",
+        ),
+        (
+            "3 a i8",
+            "--columns: line 1, column 3: found \"a\", expected as and a name after the place \
+                of a column",
         ),
     ];
     const CASES: &[(Texts, &str, u8, &str)] = &[

@@ -1,7 +1,7 @@
 //! Streams that go on behind rows that are refused.
 
-use crate::asking::{Asked, ask_once, asks, declared};
 use crate::cases::{BATCHES, STEPS, ended_so};
+use crate::harness::{Asked, ask_once, asks, declared};
 use crate::pipes::Sink;
 use fixtures::{same, same_text};
 use rowfn_batches::refusals_in;

@@ -1,7 +1,7 @@
 //! What is written where rows are left out is what is written without them: streams of chance.
 
-use crate::asking::{Asked, ask_once, asks};
 use crate::chance::Chance;
+use crate::harness::{Asked, ask_once, asks};
 use crate::pipes::Sink;
 use fixtures::same;
 use rowfn_queries::Words;

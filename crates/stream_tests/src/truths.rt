@@ -1,7 +1,7 @@
 //! Truth values in any spelling.
 
-use crate::asking::{Asked, answers_so, asks, declared, ends_so, rows_where};
 use crate::cases::{Case, ends, gives, plain};
+use crate::harness::{Asked, answers_so, asks, declared, ends_so, rows_where};
 use rowfn_batches::Format;
 
 /// The same, with truth values in any spelling.

@@ -1,4 +1,4 @@
-//! Array trees by their parts, and what they answer.
+//! Array trees, from their parts, and their results.
 
 use fixtures::{Made, bools, nullable_bools, rows_of, same};
 use std::alloc::Global;
@@ -32,7 +32,7 @@ pub fn over_columns<C: ScalarFnVTable>(
     made(alloc, Binary::try_new(alloc, left, right, operator))
 }
 
-/// The rows of Bool that an array's copy answers.
+/// The rows of Bool of an array's copy.
 pub fn array_rows<C: ScalarFnVTable>(
     alloc: Global,
     array: Held<C>,

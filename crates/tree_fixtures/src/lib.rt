@@ -1,6 +1,6 @@
-//! Expressions and array trees for tests, by their parts, and short questions to what they answer
-//! and to what rules make of them. Each function stays generic in the caller's functions; the tests
-//! pick the one they run.
+//! Expressions and array trees for tests, from their parts, and short checks of their results and
+//! of rules. Each function stays generic in the caller's functions; the tests pick the one they
+//! run.
 #![tactic(auto)]
 
 pub mod array_makers;

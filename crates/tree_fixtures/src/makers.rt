@@ -127,23 +127,6 @@ pub fn call_of<C: ScalarFnVTable>(
     planted(alloc, BoundExpression::try_new(alloc, function, children))
 }
 
-/// A copy of a tree.
-pub fn copied<C: ScalarFnVTable>(alloc: Global, tree: Bound<C>) -> Bound<C> {
-    planted(alloc, tree?.try_clone(alloc))
-}
-
-/// The rows of Bool that a tree answers.
-fn rows_by<C: ScalarFnVTable>(
-    alloc: Global,
-    tree: &BoundExpression<C>,
-    columns: &[Column],
-    row_count: usize,
-) -> VortexResult<Vec<Option<bool>>> {
-    let mut ctx = ExecutionCtx::new(alloc);
-    let answer = Box::new(alloc, tree.execute(columns, row_count, &mut ctx)?)?;
-    rows_of(alloc, &**answer)
-}
-
 /// The rows of Bool that a tree answers over so many rows of those columns.
 pub fn executed<C: ScalarFnVTable>(
     alloc: Global,
@@ -152,7 +135,9 @@ pub fn executed<C: ScalarFnVTable>(
     row_count: usize,
 ) -> VortexResult<Vec<Option<bool>>> {
     let (tree, columns) = (tree?, columns?);
-    rows_by(alloc, &*tree, &columns, row_count)
+    let mut ctx = ExecutionCtx::new(alloc);
+    let answer = Box::new(alloc, tree.execute(&columns, row_count, &mut ctx)?)?;
+    rows_of(alloc, &**answer)
 }
 
 /// Whether a tree answers these rows over those columns.
@@ -175,15 +160,6 @@ pub fn has_text<C: ScalarFnVTable>(
     Ok(same(rt, tree.sql_text(rt.alloc())?.as_str(), wanted))
 }
 
-/// Whether Display writes that text.
-fn is_shown<C: ScalarFnVTable>(
-    rt: HostRuntime,
-    tree: &BoundExpression<C>,
-    wanted: &str,
-) -> VortexResult<bool> {
-    Ok(same(rt, tree.to_string(rt.alloc())?.as_str(), wanted))
-}
-
 /// Whether a tree has that text, and Display writes the same bytes.
 pub fn prints<C: ScalarFnVTable>(
     rt: HostRuntime,
@@ -191,7 +167,8 @@ pub fn prints<C: ScalarFnVTable>(
     wanted: &str,
 ) -> VortexResult<bool> {
     let tree = tree?;
-    Ok(has_text(rt, &*tree, wanted)? && is_shown(rt, &*tree, wanted)?)
+    let shown = tree.to_string(rt.alloc())?;
+    Ok(has_text(rt, &*tree, wanted)? && same(rt, shown.as_str(), wanted))
 }
 
 /// Whether a caller's function faults with that number.
@@ -199,20 +176,5 @@ pub fn is_fault<T: Drop>(rt: HostRuntime, answer: VortexResult<T>, wanted: u64) 
     match answer {
         Err(VortexError::Custom(number)) => same(rt, number, wanted),
         other => rt.is_refused(other, "Custom"),
-    }
-}
-
-/// Whether a count of children is refused, for that arity.
-pub fn is_misfit<T: Drop>(
-    rt: HostRuntime,
-    answer: VortexResult<T>,
-    wanted: Arity,
-    count: usize,
-) -> bool {
-    match answer {
-        Err(VortexError::ArityMismatch { arity, given }) => {
-            same(rt, (arity, given), (wanted, count))
-        }
-        other => rt.is_refused(other, "ArityMismatch"),
     }
 }

@@ -1,11 +1,12 @@
 //! What rules make of expressions at their root, and trees that they are asked of.
 
 use crate::makers::*;
-use fixtures::{fields, names, same};
+use fixtures::{names, same};
 use std::alloc::Global;
 use std::borrow::Cow;
 use vortex_columns::*;
 use vortex_functions::*;
+use vortex_operators::*;
 use vortex_rewriting::*;
 
 /// What a rule made of a tree, if one applied.
@@ -79,24 +80,13 @@ pub fn stays<C: ScalarFnVTable>(rt: HostRuntime, made: Rewritten<C>) -> VortexRe
     }
 }
 
-/// The leaf of column `a` of nullable Bool, or of column `b` of Bool.
-pub fn mixed<C: ScalarFnVTable>(alloc: Global, name: &str) -> Bound<C> {
-    let scope = fields(alloc, ("a", "b"), (DType::Bool(YES), DType::Bool(NO)))?;
-    planted(alloc, BoundExpression::column(alloc, &scope, name))
-}
-
 /// Whether a tree is null.
 pub fn is_null<C: ScalarFnVTable>(alloc: Global, child: Bound<C>) -> Bound<C> {
     call_of(alloc, IsNull.bind(EmptyOptions), child)
 }
 
-/// Whether a tree is not null.
-pub fn is_not_null<C: ScalarFnVTable>(alloc: Global, child: Bound<C>) -> Bound<C> {
-    call_of(alloc, IsNotNull.bind(EmptyOptions), child)
-}
-
 /// Columns of nullable i32, by their names.
-pub fn scope_of(alloc: Global, words: &[&str]) -> VortexResult<StructFields> {
+fn scope_of(alloc: Global, words: &[&str]) -> VortexResult<StructFields> {
     let mut dtypes = Vec::new(alloc);
     for _ in 0..words.len() {
         dtypes.push(DType::Primitive(PType::I32, YES))?;
@@ -116,4 +106,12 @@ pub fn call_of_names<C: ScalarFnVTable>(
         children.push(BoundExpression::column(alloc, &scope, word)?)?;
     }
     planted(alloc, BoundExpression::try_new(alloc, function, children))
+}
+
+/// Whether `a + b = c` is null, over columns of nullable i32.
+pub fn unknown_sum<C: ScalarFnVTable>(alloc: Global) -> Bound<C> {
+    let scope = scope_of(alloc, &["a", "b", "c"])?;
+    let third = planted(alloc, BoundExpression::column(alloc, &scope, "c"));
+    let sum = call_of_names(alloc, Binary.bind(Operator::Add), &["a", "b"]);
+    is_null(alloc, between(alloc, sum, Operator::Eq, third))
 }

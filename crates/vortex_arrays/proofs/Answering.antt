@@ -1,4 +1,4 @@
--- From one answer to another.
+-- From one result to another.
 use Rattle.std.proofs.Common.{◌≡◌, ℕ, zero, suc, ◌<◌, ◌≤◌, refl, subst, Bool, true, false, Option}
 use Rattle.std.proofs.Common.{Some, None, sym, ◌∙◌}
 use Rattle.std.proofs.Common.{arith}
@@ -14,7 +14,7 @@ use Rattle.vortex_kernels.specs.Rows.{HasRows}
 use Rattle.vortex_kernels.proofs.Comparing.{constant_has_rows}
 use Rattle.vortex_arrays.specs.Encoded.{GivesWhere}
 
--- the same rows, told otherwise
+-- the same rows, given by equal values
 pub told_rows : (t u : LogicalType) (m n : ℕ) (f h : ℕ → Value) (c : ColumnView)
     → t ≡ u → m ≡ n → ((i : ℕ) → i < n → f i ≡ h i) → HasRows t m f c → HasRows u n h c
 told_rows t u m n f h c types counts same rows = record {
@@ -23,7 +23,7 @@ told_rows t u m n f h c types counts same rows = record {
   each = λ i lt. rows.each i (omega (arith, counts)) ∙ same i lt;
 }
 
--- a constant column that is answered
+-- a constant column that is returned
 pub constant_answers : (t : LogicalType) (n : ℕ) (f : ℕ → Value) (s : ScalarView) (m : ℕ)
     (r : Result ColumnView VortexError)
     → s.dtype ≡ t → m ≡ n → ((i : ℕ) → i < n → s.value ≡ f i)

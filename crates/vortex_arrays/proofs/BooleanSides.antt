@@ -1,4 +1,4 @@
--- And and Or: beside one truth value, and with their sides turned.
+-- And and Or with one truth value, and with their sides swapped.
 use Rattle.std.proofs.Common.{◌≡◌, ℕ, zero, suc, ◌<◌, ◌≤◌, Bool, true, false, Option, Some, None}
 use Rattle.std.proofs.Common.{length, refl, sym, ap, ◌∙◌, arith}
 use Rattle.std.specs.Prelude.{◌||◌, ◌&&◌, not, MatchOption}
@@ -54,7 +54,7 @@ truth_of_constant s c o e bool typed is = by o is
         let value : s.value ≡ truth b = some_truth s.value b (sym h) in
         (tells ∙ ap (λ v. not (is_null v)) value, λ i lt. constant_row s c e i lt ∙ value)
 
--- And and Or of the sides turned
+-- And and Or with the sides swapped
 turns : (op : Operator) (v w : Value) → is_boolean op ≡ true
     → boolean_value op v w ≡ boolean_value op w v
 turns And v w h = (turned And And refl).values v w
@@ -82,7 +82,7 @@ boolean_in_order (suc k) op c other d lengths h = record {
       (λ i lt. turns op (row c.rows i) (row other.rows i) h.operator) h.rows;
 }
 
--- the rows beside a truth value that decides
+-- the rows for a truth value that decides
 pub decided_row : (op : Operator) (b : Bool) (c other : ColumnView) → is_boolean op ≡ true
     → decides op b ≡ true → length c.rows ≡ length other.rows → IsConstantOf (truth b) other
     → (i : ℕ) → i < length c.rows → truth b ≡ boolean_value op (row c.rows i) (row other.rows i)
@@ -90,7 +90,7 @@ decided_row op b c other h d lengths constant i lt =
     ap truth_or_null (sym (right_decides op b (truth_of (row c.rows i)) d))
     ∙ ap (boolean_value op (row c.rows i)) (sym (constant i (omega (arith, lengths))))
 
--- where the adaptor answers: beside a constant that is not null, and beside any other column
+-- where the adaptor returns a column: for a constant that is not null, and for other columns
 pub answers_constant : (kernel : ColumnView → Operator → Bool) (op : Operator) (other : ColumnView)
     (k : ℕ) → is_boolean op ≡ true → k ≤ 1 → is_value_constant other ≡ true
     → boolean_answers kernel op other k ≡ true

@@ -1,4 +1,4 @@
--- The arguments of a call, of which all but one are constants.
+-- The arguments of a call, all but one constant.
 use Rattle.std.proofs.Common.{◌≡◌, ℕ, suc, ◌+◌, ◌<◌, List, [], ◌∷◌, ◌++◌, length, map, take}
 use Rattle.std.proofs.Common.{drop, true, refl, sym, ap, ◌∙◌, subst, arith, get_or}
 use Rattle.std.specs.Prelude.{All, Option, Some, None}
@@ -22,7 +22,7 @@ use Rattle.vortex_interface.specs.Shipped.{shipped_place}
 use Rattle.vortex_interface.specs.Args.{AreOfLength}
 use Rattle.vortex_arrays.specs.PushDown.{constants, inputs_of, RefusesInputs, types}
 
--- one constant more behind what is there
+-- one more constant after the others
 pub constants_more : (before made : List ColumnView) (n : ℕ) (ss : List ScalarView) (i : ℕ)
     (s : ScalarView) (c : ColumnView)
     → made ≡ before ++ constants n (take i ss) → i < length ss → s ≡ get_or ss i s
@@ -55,7 +55,7 @@ dtype_in s = s.dtype
 abbrev pub value_in : ScalarView → Value
 value_in s = s.value
 
--- their types, and the values that stand in one row
+-- their types, and the values that are in one row
 constants_types : (n : ℕ) (ss : List ScalarView) → types_in (constants n ss) ≡ map dtype_in ss
 constants_types n [] = refl
 constants_types n (s ∷ ss) = ap (λ ts. s.dtype ∷ ts) (constants_types n ss)
@@ -120,7 +120,7 @@ inputs_typed k c others i typed scalars lt =
     (sym (inputs_types k c others))
     (subst (HaveTypes (ts ++ us)) (sym (inputs_at k c others i lt)) here)
 
--- one type more
+-- one more type
 pub types_more : (ts : List LogicalType) (cs : List ColumnView) (i : ℕ) (c : ColumnView)
     (t : LogicalType)
     → ts ≡ types_in (take i cs) → i < length cs → c ≡ get_or cs i c → t ≡ c.dtype
@@ -129,7 +129,7 @@ types_more ts cs i c t is lt at e =
     (λ j. is j ++ (e ∙ ap (λ (d : ColumnView). d.dtype) at) j ∷ [])
     ∙ sym (map_more (λ (d : ColumnView). d.dtype) cs i c lt)
 
--- a refusal of the types is one of the arguments
+-- an error for the types is one for the arguments
 module _ {V O : Type 0} (m : Meaning V O) where
   abbrev Mismatch : Function V O → List LogicalType → VortexError → Type 0
   Mismatch f ts e = (function_type m f ts ≡ None) × IsMismatchOf f ts e

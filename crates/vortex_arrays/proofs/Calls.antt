@@ -1,4 +1,4 @@
--- A call over arrays that is made.
+-- A call over arrays.
 use Rattle.std.proofs.Common.{◌≡◌, ℕ, Bool, true, false, List, [], ◌∷◌, length, refl, ap}
 use Rattle.std.proofs.Common.{Option, Some, None, nat_eq, subst, sym, ◌∙◌}
 use Rattle.std.specs.Prelude.{slice_get, if◌then◌else◌, All, Result, Ok, Err}
@@ -34,8 +34,8 @@ all_even n (a ∷ xs) h =
     All-cons (λ b. rows_in b ≡ n) a xs (eqb-true (rows_in a) n first.0) (all_even n xs first.1)
 
 module _ {V O : Type 0} (m : Meaning V O) where
-  -- over arrays of one row count, which are as many as the function takes, what trees are refused
-  -- for arrays are
+  -- over as many arrays of one row count as the function takes, an error for the trees is one for
+  -- the arrays
   pub call_refused : (f : Function V O) (xs : List (Array V O)) (n : ℕ)
       → fits (function_arity m f) (length xs) ≡ true → other_rows n xs ≡ None
       → (e : VortexError) → RefusesCall m f (trees_in xs) e → RefusesArrayCall m f xs n e

@@ -1,4 +1,4 @@
--- The rows of a dictionary, and what a kernel says of its values.
+-- The rows of a dictionary, and a kernel's result for its values.
 use Rattle.std.proofs.Common.{◌≡◌, ℕ, ◌<◌, Bool, true, false, List, length, refl, sym, ap, ◌∙◌}
 use Rattle.std.proofs.Common.{map, subst, arith}
 use Rattle.std.specs.Prelude.{◌||◌, ◌&&◌, is_some, slice_index}
@@ -22,7 +22,7 @@ use Rattle.vortex_kernels.specs.Comparison.{is_settled, uneven, unlike}
 use Rattle.vortex_kernels.proofs.Comparing.{constant_row}
 use Rattle.vortex_arrays.specs.Dictionary.{DictView, decoded}
 
--- a row is the value that its code names
+-- a row is the value of its code
 pub coded_row : (rows : List Value) (codes : List ℕ) (i : ℕ) → i < length codes
     → row (map (row rows) codes) i ≡ row rows (slice_index codes i)
 coded_row rows codes i lt = get_or-map (row rows) codes i 0 null lt
@@ -42,7 +42,7 @@ constant_is : (s : ScalarView) (n : ℕ)
     → constant_column s n ≡ constant_column s (length (constant_column s n).rows)
 constant_is s n = ap (constant_column s) (sym (constant_length s n))
 
--- what is said of each value beside a scalar is said of each row
+-- a result for each value and a scalar is the result for each row
 rows_of_values : (f : Value → Value → Value) (t : LogicalType) (d : DictView)
     (other told e : ColumnView) (s : ScalarView)
     → AreRowsOf d.values d.codes → other ≡ constant_column s (length other.rows)

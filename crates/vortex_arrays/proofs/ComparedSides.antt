@@ -1,4 +1,4 @@
--- Comparisons that are settled without the rows, and with their sides turned.
+-- Comparisons decided without the rows, and with their sides swapped.
 use Rattle.std.proofs.Common.{◌≡◌, ℕ, zero, suc, ◌≤◌, Bool, true, false, Option, Some, None}
 use Rattle.std.proofs.Common.{length, refl, sym, ap, subst, ◌∙◌, arith}
 use Rattle.std.specs.Prelude.{◌||◌, ◌&&◌, nat_eq, Result, MatchOption, if◌then◌else◌}
@@ -24,7 +24,7 @@ use Rattle.vortex_arrays.specs.Encoded.{are_accepted, compare_answers, compariso
 use Rattle.vortex_arrays.specs.Encoded.{AnswersComparison}
 use Rattle.vortex_arrays.proofs.Answering.{told_rows, is_below, either_side, gives_answers}
 
--- beside null in each row
+-- with null in each row
 null_beside : (b : Bool) (v : Value) → null ≡ (if b || true then null else v)
 null_beside true v = refl
 null_beside false v = refl
@@ -34,7 +34,7 @@ null_row op v w e =
     null_beside (is_null v) (truth (holds op (compare_values v null)))
     ∙ ap (comparison_value op v) (sym e)
 
--- one null in each row, beside nulls
+-- one null in each row, and nulls
 pub nulls_compared : (n : Bool) (c other : ColumnView) (s : ScalarView) (m : ℕ) (d : ColumnView)
     → s ≡ record { dtype = bool_type n; value = null }
     → n ≡ (is_nullable c.dtype || is_nullable other.dtype) → m ≡ length other.rows
@@ -101,7 +101,7 @@ accepts_turned c other lengths h =
     ∙ accepted_or (nat_eq (length other.rows) 0) (is_null_constant other) (is_null_constant c)
     (alike_types c.dtype other.dtype) h
 
--- the comparison's answer, of the one that the kernel is asked with
+-- the comparison's result, from that of the kernel's comparison
 pub compared_in_order : (k : ℕ) (op : CompareOperator) (c other d : ColumnView)
     → length c.rows ≡ length other.rows → are_accepted c other ≡ true
     → HasComparisonRows (asked k op) c other d → InOrder k (AnswersCompare op) c other d
@@ -126,7 +126,7 @@ settled_says kernel (Some o) op k c other d e at settled lengths h rows = (
   compared_in_order k o c other d lengths h (rows (asked k o)),
 )
 
--- what is settled is the adaptor's answer
+-- what is decided is the adaptor's result
 pub settled_answers : (kernel : ColumnView → CompareOperator → Bool) (op : Operator)
     (o : CompareOperator) (k : ℕ) (c other d : ColumnView)
     → compare_operator_of op ≡ Some o → k ≤ 1 → is_settled_beside other ≡ true
@@ -135,7 +135,7 @@ pub settled_answers : (kernel : ColumnView → CompareOperator → Bool) (op : O
     → (compare_answers kernel op other k ≡ true) × AnswersComparison op k c other d
 settled_answers kernel op = settled_says kernel (compare_operator_of op)
 
--- what the kernel answers is the adaptor's answer
+-- the kernel's result is the adaptor's result
 pub asked_answers : (kernel : ColumnView → CompareOperator → Bool) (op : Operator)
     (o : CompareOperator) (k : ℕ) (c other : ColumnView)
     (r : Result (Option ColumnView) VortexError)

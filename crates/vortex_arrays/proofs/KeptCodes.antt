@@ -1,4 +1,4 @@
--- What is known of codes is known of equal ones.
+-- Properties of codes hold for equal ones.
 use Rattle.std.proofs.Common.{◌≡◌, ℕ, ◌<◌, ◌↔◌, Bool, List, IsTrue, sym, subst}
 use Rattle.std.specs.Prelude.{All}
 use Rattle.vortex_arrays.specs.Dictionary.{AreCoded}

@@ -1,4 +1,4 @@
--- The marks of the values that codes name.
+-- The marks of the values that codes refer to.
 use Rattle.std.proofs.Common.{◌≡◌, ◌≢◌, ℕ, ◌+◌, ◌<◌, ◌≤◌, ◌↔◌, ◌⊎◌, inl, inr, Bool, true, false}
 use Rattle.std.proofs.Common.{List, length, sym, ap, ◌∙◌, arith, replicate, true≢false}
 use Rattle.std.specs.Prelude.{All, IsTrue, slice_index, slice_index_or, slice_set}

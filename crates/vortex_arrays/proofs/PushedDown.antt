@@ -1,4 +1,4 @@
--- What a push-down answers, from what its calls answer.
+-- The result of a push-down, from the results of its calls.
 use Rattle.std.proofs.Common.{◌≡◌, ℕ, List, length, ap, sym, subst, ◌∙◌}
 use Rattle.std.specs.Prelude.{Some, None}
 use Rattle.vortex_errors.specs.declared.error.VortexError.{VortexError}
@@ -13,7 +13,7 @@ use Rattle.vortex_arrays.specs.Dictionary.{DictView}
 use Rattle.vortex_arrays.specs.PushDown.{inputs_of, TakesInputs, RefusesInputs, MayRunOver}
 use Rattle.vortex_arrays.specs.PushDown.{RefusesPushDown, binding, fault, PushesDown}
 
--- the arguments, of the values that were borrowed
+-- the arguments, from the borrowed values
 pub inputs_are : (k : ℕ) (v : ColumnView) (d : DictView) (others : List ScalarView)
     (made : List ColumnView)
     → made ≡ inputs_of k v others → v ≡ d.values → made ≡ inputs_of k d.values others
@@ -23,7 +23,7 @@ inputs_are k v d others made is lent =
 module _ {V O : Type 0} (m : Meaning V O) (f : Function V O) (d : DictView)
     (inputs made : List ColumnView) (is : made ≡ inputs)
   where
-    -- the arguments as they were checked, and as they are given
+    -- the arguments as checked, and as given
     module _ (checked : List ColumnView) (same : checked ≡ made) where
       takes_inputs : TakesInputs m f checked → TakesInputs m f inputs
       takes_inputs takes = subst (λ (cs : List ColumnView). TakesInputs m f cs) (same ∙ is) takes

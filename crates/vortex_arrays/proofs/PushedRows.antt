@@ -1,4 +1,4 @@
--- What is pushed down to the values is told of the rows.
+-- The result for the values is the result for the rows.
 use Rattle.std.proofs.Common.{◌≡◌, ℕ, ◌<◌, ◌++◌, ◌∷◌, Bool, true, false, List, length, refl, sym}
 use Rattle.std.proofs.Common.{ap}
 use Rattle.std.proofs.Common.{◌∙◌, map, subst, arith, take, drop}
@@ -29,7 +29,7 @@ use Rattle.vortex_arrays.specs.Laws.{RowsAreOfRows, ErrsWhereRowsFault}
 use Rattle.vortex_arrays.proofs.CallInputs.{inputs_types, inputs_at, inputs_typed, value_in}
 use Rattle.vortex_arrays.proofs.CodedRows.{coded_row, decoded_length}
 
--- the arguments have the same types over the rows, and in a row what stands at its value
+-- the arguments have the same types over the rows, and in a row the items of its value
 same_types : (d : DictView) (k : ℕ) (others : List ScalarView)
     → types_in (inputs_of k (decoded d) others) ≡ types_in (inputs_of k d.values others)
 same_types d k others = inputs_types k (decoded d) others ∙ sym (inputs_types k d.values others)
@@ -49,7 +49,7 @@ row_of_value means d k others i below lt =
     ∙ sym (inputs_at k d.values others at (below i 0 lt))) j)
 
 module _ {V O : Type 0} (m : Meaning V O) where
-  -- the rows of the answer
+  -- the rows of the result
   rows_are : (f : Function V O) (d e : DictView) (k : ℕ) (others : List ScalarView)
       → AreRowsOf d.values d.codes → IsPushedDown m f d (inputs_of k d.values others) e
       → AreRowsOfCall m f d k others e
@@ -82,7 +82,7 @@ module _ {V O : Type 0} (m : Meaning V O) where
   never_faults lawful (ours s) ts t vs i e h = (row_lawful s).never_faults ts t vs i e h
   never_faults lawful (custom f o) ts t vs i e h = lawful.never_faults f o ts t vs i e h
 
-  -- a value that faults, of those over which the function may run, is a row's
+  -- a fault of a value, if the function may run over the values, is a fault of a row
   fault_of_row : Lawful m → (f : Function V O) (d : DictView) (k : ℕ) (others : List ScalarView)
       (e : VortexError)
       → AreKept d others → TakesInputs m f (inputs_of k d.values others) → MayRunOver m f d
@@ -112,7 +112,7 @@ module _ {V O : Type 0} (m : Meaning V O) where
             told = r.told;
           }
 
-  -- a refusal as where a call is bound says nothing of rows
+  -- an error of binding the call is independent of the rows
   mismatch_says_nothing : (f : Function V O) (ts : List LogicalType) (e : VortexError)
       → IsMismatchOf f ts e → SaysNothing (Err e)
   mismatch_says_nothing (ours s) ts e h = placed (shipped_place s ts) h

@@ -1,4 +1,4 @@
--- What making a call over arrays answers.
+-- The result of making a call over arrays.
 use Rattle.std.specs.Prelude.{◌≡◌, ℕ, List, [], ◌∷◌, Some, None, true, false, length, Result}
 use Rattle.vortex_errors.specs.declared.error.VortexError.{VortexError}
 use Rattle.vortex_errors.specs.declared.error.VortexError.TheVariants.{ArityMismatch}
@@ -12,7 +12,7 @@ use Rattle.vortex_interface.specs.Eval.{tree_types}
 use Rattle.vortex_functions.specs.Binding.{IsCall}
 use Rattle.vortex_functions.specs.Arrays.{Array, tree_in, rows_in, trees_in, other_rows}
 
--- the call of the function on the arrays, all of so many rows
+-- the call of the function on the arrays, all of that many rows
 pub record IsArrayCall {V O : Type 0} (m : Meaning V O) (f : Function V O)
     (xs : List (Array V O)) (n : ℕ) (a : Array V O) : Type 0 where
   pub call : IsCall m f (trees_in xs) (tree_in a)
@@ -37,18 +37,18 @@ pub data RefusesArrayCall {V O : Type 0} (m : Meaning V O) (f : Function V O)
       → RefusesArrayCall m f xs n e
 
 module _ {V O : Type 0} (m : Meaning V O) (f : Function V O) where
-  -- a call of so many rows
+  -- a call of that many rows
   abbrev pub AnswersCallOfRows : List (Array V O) → ℕ → Result (Array V O) VortexError → Type 0
   AnswersCallOfRows xs n result =
       Answers result (IsArrayCall m f xs n) (RefusesArrayCall m f xs n)
 
-  -- a call of as many rows as the first array has; without one the count is refused
+  -- a call of as many rows as the first array; without one, the error is for the count
   abbrev pub AnswersCall : List (Array V O) → Result (Array V O) VortexError → Type 0
   AnswersCall [] result =
       Answers result (λ a. ⊥) (λ e. e ≡ ArityMismatch (function_arity m f) 0)
   AnswersCall (a ∷ xs) result = AnswersCallOfRows (a ∷ xs) (rows_in a) result
 
-  -- a call of so many rows, on as many arrays as the function takes
+  -- a call of that many rows, on as many arrays as the function takes
   abbrev pub AnswersOperands : List (Array V O) → ℕ → Result (Array V O) VortexError → Type 0
   AnswersOperands xs n result =
       Answers result (IsArrayCall m f xs n) (RefusesOperands m f xs n)

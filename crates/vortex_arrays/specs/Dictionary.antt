@@ -1,4 +1,4 @@
--- Values that stand once, and for each row a code: the number of its value.
+-- Distinct values, and for each row a code: the index of its value.
 use Rattle.std.specs.Prelude.{ℕ, ◌<◌, ◌&&◌, List, map, length, Bool, None, is_some, refl}
 use Rattle.std.specs.List.{Contains}
 use Rattle.std.specs.Coded.{Coded, code_by, coded×, coded_ℕ, coded_list}
@@ -18,7 +18,7 @@ coded_dict =
     code_by (ColumnView × List ℕ) parts
     (λ d. (d.values, d.codes)) (λ p. record { values = p.0; codes = p.1 }) (λ _. refl)
 
--- the column that it stands for: in each row the value that the row's code names
+-- the column that it represents: in each row the value of the row's code
 abbrev pub decoded : DictView → ColumnView
 decoded d =
     record {
@@ -28,14 +28,14 @@ decoded d =
       form = array;
     }
 
--- each of so many values has a code
+-- each of that many values has a code
 abbrev pub AreCoded : ℕ → List ℕ → Type 0
 AreCoded n codes = (k : ℕ) → k < n → Contains codes k
 
 abbrev pub AllCoded : DictView → Type 0
 AllCoded d = AreCoded (length d.values.rows) d.codes
 
--- where its kernels answer: beside a constant column
+-- where its kernels return a column: for a constant column
 abbrev pub compares_beside : ColumnView → CompareOperator → Bool
 compares_beside other op = is_some other.constant
 

@@ -1,4 +1,4 @@
--- What encoded columns, their kernels and the adaptors answer.
+-- The results of encoded columns, their kernels and the adaptors.
 use Rattle.std.specs.Prelude.{◌≡◌, ℕ, zero, suc, ◌||◌, ◌&&◌, Bool, true, false, not, length, nat_eq}
 use Rattle.std.specs.Prelude.{nat_le, Option, Some, None, MatchOption}
 use Rattle.vortex_types.specs.LogicalTypes.{bool_type}
@@ -17,12 +17,12 @@ pub record IsDecoded (c d : ColumnView) : Type 0 where
   pub dtype : d.dtype ≡ c.dtype
   pub rows : d.rows ≡ c.rows
 
--- a column of which P holds, exactly where the condition is met
+-- a column with P, exactly if the condition is met
 abbrev pub GivesWhere : Bool → (ColumnView → Type 0) → Option ColumnView → Type 0
 GivesWhere b P o = MatchOption o (b ≡ false) (λ c. (b ≡ true) × P c)
 
--- a relation of the two sides of a call in their order, the encoded column being the child of that
--- index
+-- a relation of the two sides of a call in their order, where the encoded column is the child of
+-- that index
 abbrev pub InOrder : ℕ → (ColumnView → ColumnView → ColumnView → Type 0) → ColumnView → ColumnView
     → ColumnView → Type 0
 InOrder zero R c other = R c other
@@ -40,25 +40,25 @@ is_value_constant c = is_value_scalar c.constant
 abbrev pub HasRowsAs : Bool → ColumnView → ColumnView → Type 0
 HasRowsAs n c = HasRows (bool_type n) (length c.rows) (λ i. row c.rows i)
 
--- where And and Or are answered: beside a constant that is not null, or where the kernel answers
+-- where And and Or return a column: for a constant that is not null, or where the kernel does
 abbrev pub boolean_answers : (ColumnView → Operator → Bool) → Operator → ColumnView → ℕ → Bool
 boolean_answers kernel op other k =
     (is_boolean op && nat_le k 1) && (is_value_constant other || kernel other op)
 
--- settled without the encoded column's rows: there are none, or the other side is a null constant
+-- decided without the encoded column's rows: there are none, or the other side is a null constant
 abbrev pub is_settled_beside : ColumnView → Bool
 is_settled_beside other = nat_eq (length other.rows) 0 || is_null_constant other
 
--- types that agree apart from nullability, unless all is settled without them
+-- types that agree apart from nullability, unless the result is decided without them
 abbrev pub are_accepted : ColumnView → ColumnView → Bool
 are_accepted c other = is_settled_beside other || alike_types c.dtype other.dtype
 
--- the comparison that a kernel is asked with, whose column stands on the left
+-- the comparison for the kernel, whose column is on the left
 abbrev pub asked : ℕ → CompareOperator → CompareOperator
 asked zero op = op
 asked (suc k) op = compare_swap op
 
--- where a comparison is answered: where it is settled, or where the kernel answers
+-- where a comparison returns a column: where it is decided, or where the kernel does
 abbrev pub comparison_answers : (ColumnView → CompareOperator → Bool) → Option CompareOperator
     → ColumnView → ℕ → Bool
 comparison_answers kernel None other k = false
@@ -69,7 +69,7 @@ abbrev pub compare_answers : (ColumnView → CompareOperator → Bool) → Opera
     → Bool
 compare_answers kernel op = comparison_answers kernel (compare_operator_of op)
 
--- what the comparison answers of the two sides in their order; of no other operator
+-- the comparison's result for the two sides in their order; none for other operators
 abbrev pub AnswersComparison : Operator → ℕ → ColumnView → ColumnView → ColumnView → Type 0
 AnswersComparison op k c other d =
     MatchOption (compare_operator_of op) ⊥ (λ o. InOrder k (AnswersCompare o) c other d)

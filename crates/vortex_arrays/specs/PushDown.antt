@@ -1,4 +1,4 @@
--- What it means that a function is run over a dictionary's values in place of its rows.
+-- Running a function over a dictionary's values instead of its rows.
 use Rattle.std.specs.Prelude.{◌≡◌, ℕ, List, ◌∷◌, ◌++◌, map, length, take, drop, true, false}
 use Rattle.std.specs.Prelude.{Option, Some, None, Result, MatchOption}
 use Rattle.vortex_errors.specs.declared.error.VortexError.{VortexError}
@@ -13,11 +13,11 @@ use Rattle.vortex_interface.specs.Functions.{Function, function_arity, function_
 use Rattle.vortex_interface.specs.Functions.{function_means, function_infallible, IsMismatchOf}
 use Rattle.vortex_arrays.specs.Dictionary.{DictView, AllCoded}
 
--- each scalar in so many rows
+-- each scalar in that many rows
 abbrev pub constants : ℕ → List ScalarView → List ColumnView
 constants n scalars = map (λ s. constant_column s n) scalars
 
--- the arguments of a call: a column in its place among the others, which are constants
+-- the arguments of a call: a column at its index among the others, which are constants
 abbrev pub inputs_of : ℕ → ColumnView → List ScalarView → List ColumnView
 inputs_of k c others =
     constants (length c.rows) (take k others) ++ c ∷ constants (length c.rows) (drop k others)
@@ -29,7 +29,7 @@ module _ {V O : Type 0} (m : Meaning V O) (f : Function V O) where
     pub dtype : LogicalType
     pub accepted : function_type m f (types_in inputs) ≡ Some dtype
 
-  -- first a count that does not fit, then types that are not accepted, as where a call is bound
+  -- first a count that does not fit, then types that are not accepted, as in binding a call
   pub data RefusesInputs (inputs : List ColumnView) (e : VortexError) : Type 0 where
     count : fits (function_arity m f) (length inputs) ≡ false
         → e ≡ ArityMismatch (function_arity m f) (length inputs) → RefusesInputs inputs e
@@ -37,17 +37,17 @@ module _ {V O : Type 0} (m : Meaning V O) (f : Function V O) where
         → function_type m f (types_in inputs) ≡ None → IsMismatchOf f (types_in inputs) e
         → RefusesInputs inputs e
 
-  -- the values tell what the rows do: none of them faults, or each has a code
+  -- the values are valid for the rows: none of them faults, or each has a code
   abbrev pub MayRunOver : DictView → Type 0
   MayRunOver d = function_infallible m f ≡ false → AllCoded d
 
-  -- the same codes, and under each the function of its value; of values without a code too
+  -- the same codes, and for each the function of its value; also for values without a code
   pub record IsPushedDown (d : DictView) (inputs : List ColumnView) (e : DictView) : Type 0 where
     pub codes : e.codes ≡ d.codes
     pub values : HasCallRows (function_type m f) (function_means m f) inputs (length d.values.rows)
         e.values
 
-  -- a refusal as where a call is bound, or else the fault of a value
+  -- an error as in binding a call, or else the fault of a value
   pub data RefusesPushDown (d : DictView) (inputs : List ColumnView) (e : VortexError) : Type 0
     where
       binding : RefusesInputs inputs e → RefusesPushDown d inputs e
@@ -55,13 +55,13 @@ module _ {V O : Type 0} (m : Meaning V O) (f : Function V O) where
           → IsCallFault (function_means m f) inputs (length d.values.rows) e
           → RefusesPushDown d inputs e
 
-  -- nothing exactly where the function takes the inputs and may not run over the values
+  -- none exactly where the function takes the inputs and may not run over the values
   abbrev pub PushesDown : DictView → List ColumnView → Option DictView → Type 0
   PushesDown d inputs o =
       TakesInputs inputs
       × MatchOption o (¬ MayRunOver d) (λ e. MayRunOver d × IsPushedDown d inputs e)
 
-  -- the dictionary stands in place k among the others, which are constants
+  -- the dictionary is at index k among the others, which are constants
   abbrev pub AnswersPushDown : DictView → ℕ → List ScalarView
       → Result (Option DictView) VortexError → Type 0
   AnswersPushDown d k others result =

@@ -1,4 +1,4 @@
--- What the contracts of this crate name.
+-- The words that this crate's contracts use.
 pub use Rattle.std.specs.List.{Contains}
 pub use Rattle.vortex_errors.specs.declared.error.VortexError.TheVariants.{InvalidColumn}
 pub use Rattle.vortex_errors.specs.Answers.{Answers, AnswersUnlessMemory, MadeWhere}

@@ -10,17 +10,17 @@ use crate::encoded::EncodedColumn;
 use vortex_columns::{Column, ExecutionCtx, Nullability, Scalar, VortexResult};
 use vortex_kernels::{Operator, execute_cast};
 
-/// An encoded column that may know And and Or beside another column without being decoded.
+/// An encoded column that may compute And and Or with another column without being decoded.
 pub trait BooleanKernel: EncodedColumn {
-    /// Whether it answers beside that column for that operator. No contract but the kernel's own
-    /// tells it.
+    /// Whether it can compute that operator with that column. Specified only by the kernel's own
+    /// contract.
     ghost answers_boolean: { Self → ColumnView → Operator → Bool };
 
-    /// The operator over its rows, on the left, and those of `rhs`, as `execute_boolean` answers it
-    /// over the decoded column; exactly where `answers_boolean` says so, and else None. E9 where
-    /// memory is refused.
+    /// The operator over its rows, on the left, and those of `rhs`, as `execute_boolean` returns it
+    /// over the decoded column, exactly if `answers_boolean`, else None. E9 where an allocation
+    /// fails.
     ///
-    /// Any operator may be asked; for And and Or both columns are of Bool.
+    /// Any operator may be passed; for And and Or both columns are of Bool.
     fn boolean(
         &self,
         rhs: &Column,
@@ -64,7 +64,7 @@ fn with_nullability(
     }
 }
 
-/// And or Or of an encoded column and one truth value in each row. Where that decides nothing is
+/// And or Or of an encoded column and one truth value in each row. If that decides, nothing is
 /// decoded.
 fn beside_truth<V: EncodedColumn>(
     array: &V,
@@ -90,17 +90,17 @@ fn beside_truth<V: EncodedColumn>(
     with_nullability(decoded, nullability, ctx)
 }
 
-/// Asks a `BooleanKernel` where an encoded column is a child of a call.
+/// Uses a `BooleanKernel` if an encoded column is a child of a call.
 #[derive(Debug, Default, Drop)]
 pub struct BooleanExecuteAdaptor<V>(pub V);
 
 impl<V: BooleanKernel> BooleanExecuteAdaptor<V> {
     /// The call of And or Or whose child of that index is the encoded column and whose other child
-    /// is `other`, as `execute_boolean` answers it over the decoded column.
+    /// is `other`, as `execute_boolean` returns it over the decoded column.
     ///
-    /// None for any other operator and for an index above 1. Beside a constant that is not null the
-    /// answer comes without the kernel, and where that decides nothing is decoded; beside any other
-    /// column, and a null constant, it is the kernel's. E9 where memory is refused.
+    /// None for any other operator and for an index above 1. For a constant that is not null the
+    /// kernel is not used, and if that decides nothing is decoded; for any other column, and a null
+    /// constant, the kernel is used. E9 where an allocation fails.
     pub fn execute_parent(
         &self,
         array: &V,

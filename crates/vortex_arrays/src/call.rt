@@ -30,7 +30,7 @@ impl<C: ScalarFnVTable> Model for ScalarFnArray<C> {
     ghost invariant = { λ a. IsSome (called a.array.0) };
 }
 
-/// The row count of the first array that has not so many rows.
+/// The row count of the first array that has not that many rows.
 fn first_other_len<C: ScalarFnVTable>(children: &[ArrayRef<C>], len: usize) -> Option<usize>
     ensures { result ≡ other_rows len children.now }
 {
@@ -45,9 +45,9 @@ fn first_other_len<C: ScalarFnVTable>(children: &[ArrayRef<C>], len: usize) -> O
 impl<C: ScalarFnVTable> ScalarFnArray<C> {
     /// The call of a function on arrays, of the first one's row count.
     ///
-    /// In order: E6 where the count of children does not fit its arity, or there is none; E2 where
+    /// In order: E6 if the count of children does not fit its arity, or is zero; E2 if
     /// a child's row count is not the first one's, with `left` that of the first and `right` that
-    /// of the first that differs; E3 where their types are not accepted.
+    /// of the first that differs; E3 if their types are not accepted.
     pub fn try_new(
         alloc: Global,
         function: ScalarFnRef<C>,
@@ -63,11 +63,11 @@ impl<C: ScalarFnVTable> ScalarFnArray<C> {
         ScalarFnArray::try_new_with_len(alloc, function, children, len)
     }
 
-    /// The call of a function on arrays of so many rows, of which there may be none.
+    /// The call of a function on arrays of that many rows; there may be none.
     ///
-    /// In order: E6 where the count of children does not fit its arity; E2 where a child has not
+    /// In order: E6 if the count of children does not fit its arity; E2 if a child has not
     /// `len` rows, with `left` that number and `right` the row count of the first that differs; E3
-    /// where their types are not accepted.
+    /// if their types are not accepted.
     pub fn try_new_with_len(
         alloc: Global,
         function: ScalarFnRef<C>,

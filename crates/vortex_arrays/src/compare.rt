@@ -11,15 +11,15 @@ use crate::encoded::EncodedColumn;
 use vortex_columns::{Column, DType, ExecutionCtx, Scalar, VortexResult};
 use vortex_kernels::{CompareOperator, Operator};
 
-/// An encoded column that may know comparisons with another column without being decoded.
+/// An encoded column that may compute comparisons with another column without being decoded.
 pub trait CompareKernel: EncodedColumn {
-    /// Whether it answers beside that column for that comparison. No contract but the kernel's own
-    /// tells it.
+    /// Whether it can compute that comparison with that column. Specified only by the kernel's own
+    /// contract.
     ghost answers_compare: { Self → ColumnView → CompareOperator → Bool };
 
-    /// The comparison of its rows, on the left, with those of `rhs`, as `execute_compare` answers
-    /// it over the decoded column; exactly where `answers_compare` says so, and else None. E9 where
-    /// memory is refused.
+    /// The comparison of its rows, on the left, with those of `rhs`, as `execute_compare` returns
+    /// it over the decoded column, exactly if `answers_compare`, else None. E9 where an allocation
+    /// fails.
     fn compare(
         &self,
         rhs: &Column,
@@ -33,7 +33,7 @@ pub trait CompareKernel: EncodedColumn {
             (AnswersCompare operator (Self.column self.now) rhs.now)) };
 }
 
-/// Whether the column is a constant one whose value is null, also over no rows.
+/// Whether the column is a constant null, also over no rows.
 fn is_null_constant(column: &Column) -> bool
     ensures says { result ≡ is_null_constant column.now }
     ensures nulls { IsTrue result → IsConstantOf null column.now }
@@ -44,8 +44,8 @@ fn is_null_constant(column: &Column) -> bool
     }
 }
 
-/// What any comparison answers where that is settled without the encoded column's rows: there are
-/// none, or the other side is a null constant.
+/// The result of any comparison that is decided without the encoded column's rows: there are none,
+/// or the other side is a null constant.
 fn settled<V: EncodedColumn>(
     array: &V,
     other: &Column,
@@ -68,7 +68,7 @@ fn settled<V: EncodedColumn>(
     Ok(None)
 }
 
-/// The comparison that a kernel is asked with, whose column stands on the left.
+/// The comparison for the kernel, whose column is on the left.
 fn asked(operator: CompareOperator, child_idx: usize) -> CompareOperator
     ensures { result ≡ asked child_idx operator }
 {
@@ -79,18 +79,17 @@ fn asked(operator: CompareOperator, child_idx: usize) -> CompareOperator
     }
 }
 
-/// Asks a `CompareKernel` where an encoded column is a child of a call.
+/// Uses a `CompareKernel` if an encoded column is a child of a call.
 #[derive(Debug, Default, Drop)]
 pub struct CompareExecuteAdaptor<V>(pub V);
 
 impl<V: CompareKernel> CompareExecuteAdaptor<V> {
     /// The comparison whose child of that index is the encoded column and whose other child is
-    /// `other`, as `execute_compare` answers it over the decoded column.
+    /// `other`, as `execute_compare` returns it over the decoded column.
     ///
-    /// None for any other operator and for an index above 1. Over no rows, and beside a null
-    /// constant, the answer comes without the kernel, whatever the types; else it is the kernel's,
-    /// asked with the swapped comparison where the encoded column is on the right. E9 where memory
-    /// is refused.
+    /// None for any other operator and for an index above 1. Over no rows, and for a null constant,
+    /// the kernel is not used, whatever the types; else it is, with the swapped comparison if the
+    /// encoded column is on the right. E9 where an allocation fails.
     pub fn execute_parent(
         &self,
         array: &V,

@@ -1,4 +1,4 @@
-//! Columns whose values stand once.
+//! Columns that store each value once.
 ghost use Rattle.std.specs.Prelude.{◌≡◌, ◌↔◌, IsTrue, length};
 ghost use Rattle.vortex_arrays.specs.Words.{AnswersUnlessMemory, MadeWhere, AreRowsOf};
 ghost use Rattle.vortex_arrays.specs.Words.{AllCoded, InvalidColumn, decoded};
@@ -14,11 +14,11 @@ use std::alloc::Global;
 use std::marker::Model;
 use vortex_columns::{Column, DType, ExecutionCtx, VortexError, VortexResult};
 
-/// A column by its values and a code for each row, the number of the row's value. A null row has
+/// A column by its values and a code for each row, the index of the row's value. A null row has
 /// the code of a null value.
 ///
-/// Values that no code names may stand among them, and equal values more than once. The codes are
-/// kept as they were handed over, and once `share` was called where dictionaries share them.
+/// Values without a code are allowed, and equal values too. The codes are stored as passed; after
+/// `share` dictionaries share them.
 #[derive(Drop)]
 pub struct DictColumn {
     values: Column,
@@ -40,7 +40,7 @@ impl Model for DictColumn {
 
 impl DictColumn {
     /// The values, and for each row a code. E12 exactly where a code is not below the number of
-    /// values. Takes no memory.
+    /// values. Allocates nothing.
     pub fn try_new(values: Column, codes: Vec<u32>) -> VortexResult<DictColumn>
         ensures { MadeWhere result
             (AreRowsOf values codes.items)
@@ -56,9 +56,8 @@ impl DictColumn {
         })
     }
 
-    /// The same column, whose codes dictionaries share from here on: what `push_down` makes of it
-    /// has them without a copy, and shares them too. Looks at each code once, and not at all where
-    /// they are shared already.
+    /// The same column, with shared codes: the result of `push_down` has them without a copy, and
+    /// shares them too. Reads each code once, or none if they are shared already.
     pub fn share(self, alloc: Global) -> VortexResult<DictColumn>
         ensures { AnswersUnlessMemory result (λ d. d ≡ self) }
     {
@@ -74,7 +73,7 @@ impl DictColumn {
         &self.values
     }
 
-    /// For each row the number of its value, borrowed.
+    /// For each row the index of its value, borrowed.
     pub fn codes(&self) -> &[u32]
         ensures codes { result.now ≡ self.now.codes }
         ensures below { AreRowsOf self.now.values self.now.codes }
@@ -82,7 +81,7 @@ impl DictColumn {
         self.codes.codes()
     }
 
-    /// Whether each value has a code. Of shared codes it is known.
+    /// Whether each value has a code. Stored for shared codes.
     pub(crate) fn all_coded(&self, alloc: Global) -> VortexResult<bool>
         ensures { AnswersUnlessMemory result (λ b. IsTrue b ↔ AllCoded self.now) }
     {

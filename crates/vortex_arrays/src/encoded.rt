@@ -1,12 +1,11 @@
-//! Columns that are kept in a form of their own.
+//! Columns in a custom encoding.
 ghost use Rattle.std.specs.Prelude.{◌≡◌, length};
 ghost use Rattle.vortex_arrays.specs.Words.{AnswersUnlessMemory, ColumnView, IsDecoded, type_of};
 
 use vortex_columns::{Column, DType, ExecutionCtx, VortexResult};
 
-/// A column that is kept in a form of its own. It stands for one column, which contracts alone see:
-/// whatever is said of the type, the length, the decoded column and the kernels' answers is said of
-/// that one.
+/// A column in a custom encoding. It represents one column, which only contracts see: the contracts
+/// of the type, the length, the decoded column and the kernels' results are about that one.
 pub trait EncodedColumn {
     ghost column: { Self → ColumnView };
 
@@ -18,8 +17,8 @@ pub trait EncodedColumn {
     fn len(&self) -> usize
         ensures { result ≡ length (column self.now).rows };
 
-    /// Its rows as a column of its type. E9 where memory is refused. Whether that is a constant
-    /// one, and which form its validity has, is not promised.
+    /// Its rows as a column of its type. E9 where an allocation fails. Whether that is constant,
+    /// and the form of its validity, are unspecified.
     fn decode(&self, ctx: &mut ExecutionCtx) -> VortexResult<Column>
         ensures { AnswersUnlessMemory result (IsDecoded (column self.now)) };
 }

@@ -17,11 +17,11 @@ use vortex_kernels::{BetweenOptions, Operator};
 use vortex_like::LikeOptions;
 use vortex_shipped::{Between, Binary, Cast, IsNotNull, IsNull, Like, Not};
 
-/// A function of one argument that refuses some types.
+/// A function of one argument that does not accept all types.
 pub trait UnaryCall {
     ghost unary: { Shipped };
 
-    /// The call on one array. E3 exactly where its type is not accepted.
+    /// The call on one array. E3 exactly if its type is not accepted.
     fn try_new<C: ScalarFnVTable>(
         alloc: Global,
         input: ArrayRef<C>,
@@ -33,7 +33,7 @@ pub trait UnaryCall {
 pub trait NullTestCall {
     ghost null_test: { Shipped };
 
-    /// The call on one array. Refuses for memory alone.
+    /// The call on one array. Fails only where memory runs out.
     fn new<C: ScalarFnVTable>(alloc: Global, input: ArrayRef<C>) -> VortexResult<ScalarFnArray<C>>
         ensures { AnswersUnlessMemory result
             (IsArrayCall C.meaning (ours null_test) (input ∷ []) (rows_in input)) };
@@ -43,8 +43,8 @@ pub trait NullTestCall {
 pub trait BinaryCall {
     ghost binary: { Operator → Shipped };
 
-    /// The call on two arrays: E2 where the right one has another row count, then E3 where the
-    /// types are not accepted.
+    /// The call on two arrays: E2 if the right one has another row count, then E3 if the types are
+    /// not accepted.
     fn try_new<C: ScalarFnVTable>(
         alloc: Global,
         lhs: ArrayRef<C>,
@@ -59,8 +59,8 @@ pub trait BinaryCall {
 pub trait BetweenCall {
     ghost between: { BetweenOptions → Shipped };
 
-    /// The call on three arrays: E2 where a bound has another row count than the first array, then
-    /// E3 where the types are not accepted.
+    /// The call on three arrays: E2 if a bound has another row count than the first array, then E3
+    /// if the types are not accepted.
     fn try_new<C: ScalarFnVTable>(
         alloc: Global,
         array: ArrayRef<C>,
@@ -76,8 +76,8 @@ pub trait BetweenCall {
 pub trait LikeCall {
     ghost like: { LikeOptions → Shipped };
 
-    /// The call on two arrays: E2 where the pattern has another row count, then E3 where the types
-    /// are not accepted.
+    /// The call on two arrays: E2 if the pattern has another row count, then E3 if the types are
+    /// not accepted.
     fn try_new<C: ScalarFnVTable>(
         alloc: Global,
         input: ArrayRef<C>,

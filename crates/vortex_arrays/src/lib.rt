@@ -1,6 +1,6 @@
-//! Arrays that are no plain column: calls over arrays, the shipped functions' too; encoded columns,
-//! the kernels that they bring, and the adaptors by which a call asks a kernel; the dictionary,
-//! whose values stand once, and functions that are run over these in place of the rows.
+//! Arrays other than plain columns: calls over arrays, with those of the shipped functions; encoded
+//! columns, their kernels, and the adaptors through which a call uses a kernel; the dictionary,
+//! which stores each value once, and functions that run over its values instead of the rows.
 #![tactic(auto)]
 
 pub mod boolean;

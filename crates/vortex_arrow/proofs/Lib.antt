@@ -5,9 +5,13 @@ pub mod Copied
 pub mod Joined
 pub mod Places
 pub mod Lowest
+pub mod Numbered
+pub mod Flags
+pub mod Spanned
 pub mod Selected
 pub mod Refuting
 pub mod Nulls
 pub mod Cells
 pub mod Answered
+pub mod Found
 pub mod Copies

@@ -18,7 +18,7 @@ use Rattle.vortex_bits.proofs.WordLogic.{and_bit}
 use Rattle.vortex_arrow.specs.Written.{places}
 use Rattle.vortex_arrow.proofs.Places.{no_places, next_place, next_none}
 
-zero_or_some : (n : ℕ) → (n ≡ 0) ⊎ (0 < n)
+pub zero_or_some : (n : ℕ) → (n ≡ 0) ⊎ (0 < n)
 zero_or_some n = grind arith
 
 below_at_or_above : (i t : ℕ) → (i < t) ⊎ (i ≡ t) ⊎ (t < i)

@@ -142,3 +142,16 @@ placed_more f xs end y before first t ps qs within so_far is more =
     ∙ ap (λ (zs : List ℤ). before ++ zs)
     (sym (map_push (λ (j : ℕ). pos (first + j)) ps t)
     ∙ ap (map (λ (j : ℕ). pos (first + j))) (sym more))
+
+-- two tests that give the same
+pub same_places : (test part : ℕ → Bool) (n : ℕ) → ((i : ℕ) → i < n → test i ≡ part i)
+    → places test n ≡ places part n
+same_places test part zero same = no_places test ∙ sym (no_places part)
+same_places test part (suc n) same =
+    let more : suc n ≡ n + 1 = omega arith in
+    let so_far = same_places test part n (λ i lt. same i (omega (arith, lt))) in
+    ap (places test) more
+    ∙ one_more test n
+    ∙ (λ k. so_far k ++ cond (same n (omega arith) k) (n ∷ []) [])
+    ∙ sym (one_more part n)
+    ∙ ap (places part) (sym more)

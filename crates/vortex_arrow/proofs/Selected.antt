@@ -1,11 +1,9 @@
--- The numbers of rows that are true, 64 rows more at a time.
-use Rattle.std.proofs.Common.{◌≡◌, ◌⊎◌, inl, inr, ℕ, ◌+◌, ◌*◌, ◌<◌, ◌≤◌, Bool, true, false, not, ◌&&◌}
-use Rattle.std.proofs.Common.{List, ◌++◌, length, refl, sym, ap, ◌∙◌, arith, ℤ, pos, map, zero-add}
-use Rattle.std.specs.Prelude.{unwrap_or, slice_index_or}
-use Rattle.std.proofs.lemmas.Bool.{cases_lt}
-use Rattle.std.proofs.lemmas.List.{get_or_past, length-append, length-map, map-append}
-use Rattle.std.proofs.lemmas.Simd.{map-map}
-use Rattle.std.proofs.lemmas.List.FromFn.{get_or-map-range_with_len}
+-- The rows that are true, by what forms of bits tell of each.
+use Rattle.std.proofs.Common.{◌≡◌, ℕ, ◌<◌, ◌≤◌, Bool, true, false, not, ◌&&◌}
+use Rattle.std.proofs.Common.{List, length, refl, sym, ap, ◌∙◌, arith, take}
+use Rattle.std.specs.Prelude.{unwrap_or, slice_index}
+use Rattle.std.proofs.lemmas.List.{length-map, length-take-le, get_or-take, get_or-map}
+use Rattle.std.proofs.lemmas.List.FromFn.{get_or-map-range_with_len, fill_by_all}
 use Rattle.vortex_types.specs.LogicalTypes.{LogicalType, null_type, bool_type, integer_type}
 use Rattle.vortex_types.specs.LogicalTypes.{text_type, bytes_type, struct_type, list_type}
 use Rattle.vortex_types.specs.LogicalTypes.{fixed_size_list_type, map_type, is_bool_type}
@@ -13,13 +11,10 @@ use Rattle.vortex_types.specs.Values.{Value, null, truth, number, text, bytes, l
 use Rattle.vortex_types.specs.Values.{is_null}
 use Rattle.vortex_types.specs.Typing.{HasType}
 use Rattle.vortex_types.specs.ScalarView.{ScalarView}
-use Rattle.vortex_bits.specs.Bits.{bit}
-use Rattle.vortex_bits.specs.Rows.{AreRows}
-use Rattle.vortex_bits.proofs.Opened.{past}
 use Rattle.vortex_columns.specs.ColumnView.{ColumnView, row, IsUnlessNull, constant_column}
 use Rattle.vortex_columns.specs.TrueRows.{is_true, true_among, true_rows}
-use Rattle.vortex_arrow.specs.Written.{places}
-use Rattle.vortex_arrow.proofs.Places.{none_between, fewer_before, at_most, places_from}
+use Rattle.vortex_arrow.specs.Written.{places, flag, mask_of}
+use Rattle.vortex_arrow.proofs.Places.{same_places}
 
 -- the rows that are true are places at which a test gives true
 among : (rows : List Value) (n : ℕ)
@@ -27,99 +22,15 @@ among : (rows : List Value) (n : ℕ)
 unfolding places
 among rows n = refl
 
-past_row : (rows : List Value) (i : ℕ) → length rows ≤ i → is_true (row rows i) ≡ false
-past_row rows i le = ap is_true (get_or_past rows i null le)
-
--- a row that is true is there
-pub is_there : (rows : List Value) (i : ℕ) → is_true (row rows i) ≡ true → i < length rows
-is_there rows i said = by (cases_lt i (length rows))
-  where
-    by : (i < length rows) ⊎ (length rows ≤ i) → i < length rows
-    by (inl lt) = lt
-    by (inr le) = let no = past_row rows i le in absurd (cc)
-
-pub all_true : (rows : List Value) (n : ℕ) → length rows ≤ n → true_among n rows ≡ true_rows rows
-all_true rows n le =
-    among rows n
-    ∙ none_between (λ i. is_true (row rows i)) (length rows) n le (λ i from lt. past_row rows i from)
+pub true_places : (rows : List Value) (test : ℕ → Bool)
+    → ((i : ℕ) → i < length rows → test i ≡ is_true (row rows i))
+    → places test (length rows) ≡ true_rows rows
+true_places rows test same =
+    same_places test (λ i. is_true (row rows i)) (length rows) same
     ∙ sym (among rows (length rows))
 
-pub few_true : (rows : List Value) (n : ℕ)
-    → length (true_among n rows) ≤ length (true_rows rows)
-few_true rows n = by (cases_lt n (length rows))
-  where
-    by : (n < length rows) ⊎ (length rows ≤ n) → length (true_among n rows) ≤ length (true_rows rows)
-    by (inl lt) =
-        omega (
-          arith,
-          ap length (among rows n),
-          ap length (among rows (length rows)),
-          fewer_before (λ i. is_true (row rows i)) n (length rows) (omega arith),
-        )
-    by (inr le) = omega (arith, ap length (all_true rows n le))
-
-pub no_more_true : (rows : List Value) → length (true_rows rows) ≤ length rows
-no_more_true rows =
-    omega (
-      arith,
-      ap length (among rows (length rows)),
-      at_most (λ i. is_true (row rows i)) (length rows),
-    )
-
--- the rows that a word says are true
-module _ (rows : List Value) (k word : ℕ)
-    (says : (j : ℕ) → j < 64 → bit word j ≡ is_true (row rows (64 * k + j))) where
-  pub word_more : true_among (64 * (k + 1)) rows
-      ≡ true_among (64 * k) rows ++ map (λ j. 64 * k + j) (places (bit word) 64)
-  word_more =
-      let next : 64 * (k + 1) ≡ 64 * k + 64 = omega arith in
-      ap (λ n. true_among n rows) next
-      ∙ among rows (64 * k + 64)
-      ∙ places_from (λ i. is_true (row rows i)) (bit word) (64 * k) 64 says
-      ∙ ap (λ xs. xs ++ map (λ j. 64 * k + j) (places (bit word) 64)) (sym (among rows (64 * k)))
-
-  pub word_count : length (true_among (64 * (k + 1)) rows)
-      ≡ length (true_among (64 * k) rows) + length (places (bit word) 64)
-  word_count =
-      ap length word_more
-      ∙ length-append (true_among (64 * k) rows) (map (λ j. 64 * k + j) (places (bit word) 64))
-      ∙ ap (λ n. length (true_among (64 * k) rows) + n)
-      (length-map (places (bit word) 64) (λ j. 64 * k + j))
-
-  pub word_there : (j : ℕ) → j < 64 → bit word j ≡ true → 64 * k + j < length rows
-  word_there j lt set = is_there rows (64 * k + j) (sym (says j lt) ∙ set)
-
-  -- their numbers behind those so far
-  pub word_numbers : {A : Type 0} (f : A → ℤ) (xs ys : List A)
-      → map f xs ≡ map pos (true_among (64 * k) rows)
-      → map f ys ≡ map f xs ++ map (λ j. pos (64 * k + j)) (places (bit word) 64)
-      → map f ys ≡ map pos (true_among (64 * (k + 1)) rows)
-  word_numbers f xs ys so_far more =
-      more
-      ∙ ap (λ (zs : List ℤ). zs ++ map (λ j. pos (64 * k + j)) (places (bit word) 64)) so_far
-      ∙ ap (λ (zs : List ℤ). map pos (true_among (64 * k) rows) ++ zs)
-      (sym (map-map pos (λ (j : ℕ). 64 * k + j) (places (bit word) 64)))
-      ∙ sym (map-append pos (true_among (64 * k) rows)
-      (map (λ j. 64 * k + j) (places (bit word) 64)))
-      ∙ ap (map pos) (sym word_more)
-
--- a word that is read of bits that are lent whole
-pub view_bit : (bits view : List Bool) (n k word : ℕ)
-    → AreRows n (λ i. slice_index_or bits (0 + i) false) view → n ≡ length bits
-    → ((j : ℕ) → j < 64 → bit word j ≡ slice_index_or view (64 * k + j) false)
-    → (j : ℕ) → j < 64 → bit word j ≡ slice_index_or bits (64 * k + j) false
-view_bit bits view n k word are whole says j lt =
-    says j lt ∙ by (64 * k + j) (cases_lt (64 * k + j) n)
-  where
-    by : (i : ℕ) → (i < n) ⊎ (n ≤ i)
-        → slice_index_or view i false ≡ slice_index_or bits i false
-    by i (inl inside) =
-        are.each i inside ∙ ap (λ m. slice_index_or bits m false) (zero-add i)
-    by i (inr over) =
-        past view i (omega (arith, are.count)) ∙ sym (past bits i (omega (arith, whole)))
-
 -- a row is true where its bit is set and it is not null
-told_true : (v : Value) (b valid : Bool) → IsUnlessNull v (truth b) → valid ≡ not (is_null v)
+pub told_true : (v : Value) (b valid : Bool) → IsUnlessNull v (truth b) → valid ≡ not (is_null v)
     → (b && valid) ≡ is_true v
 told_true null true valid is e = e
 told_true null false valid is e = refl
@@ -135,24 +46,19 @@ told_true (text x) b valid is e = let same : text x ≡ truth b = is refl in abs
 told_true (bytes x) b valid is e = let same : bytes x ≡ truth b = is refl in absurd (cc)
 told_true (list x) b valid is e = let same : list x ≡ truth b = is refl in absurd (cc)
 
--- the same of 64 rows, from row `from` on
-pub word_true : (rows : List Value) (from set valid word : ℕ)
-    → ((j : ℕ) → j < 64 → bit word j ≡ (bit set j && bit valid j))
-    → ((j : ℕ) → j < 64 → from + j < length rows
-    → IsUnlessNull (row rows (from + j)) (truth (bit set j)))
-    → ((j : ℕ) → j < 64 → length rows ≤ from + j → bit set j ≡ false)
-    → ((j : ℕ) → j < 64 → from + j < length rows
-    → bit valid j ≡ not (is_null (row rows (from + j))))
-    → (j : ℕ) → j < 64 → bit word j ≡ is_true (row rows (from + j))
-word_true rows from set valid word both here none told j lt =
-    both j lt ∙ by (cases_lt (from + j) (length rows))
-  where
-    by : (from + j < length rows) ⊎ (length rows ≤ from + j)
-        → (bit set j && bit valid j) ≡ is_true (row rows (from + j))
-    by (inl inside) =
-        told_true (row rows (from + j)) (bit set j) (bit valid j) (here j lt inside) (told j lt inside)
-    by (inr over) =
-        ap (λ b. b && bit valid j) (none j lt over) ∙ sym (past_row rows (from + j) over)
+-- where no row is null, and where each is
+pub bit_true : (v : Value) (b : Bool) → IsUnlessNull v (truth b) → true ≡ not (is_null v)
+    → b ≡ is_true v
+bit_true v true is e = told_true v true true is e
+bit_true v false is e = told_true v false true is e
+
+pub null_true : (v : Value) → false ≡ not (is_null v) → false ≡ is_true v
+null_true null e = refl
+null_true (truth x) e = absurd (cc)
+null_true (number x) e = refl
+null_true (text x) e = refl
+null_true (bytes x) e = refl
+null_true (list x) e = refl
 
 -- no value of another type is true
 pub never_true : (t : LogicalType) (v : Value) → (is_bool_type t ≡ true → ⊥) → HasType t v
@@ -188,15 +94,15 @@ constant_true c s is i lt =
     ∙ ap is_true (get_or-map-range_with_len (λ k. s.value) 0 (length c.rows) i i null lt (omega arith))
     ∙ true_by s.value
 
--- the word of rows that are all true or all not
-pub word_same : (rows : List Value) (k : ℕ) (all : Bool) (word : ℕ)
-    → ((i : ℕ) → i < length rows → is_true (row rows i) ≡ all)
-    → ((j : ℕ) → j < 64 → 64 * k + j < length rows → bit word j ≡ all)
-    → ((j : ℕ) → j < 64 → length rows ≤ 64 * k + j → bit word j ≡ false)
-    → (j : ℕ) → j < 64 → bit word j ≡ is_true (row rows (64 * k + j))
-word_same rows k all word same here none j lt = by (cases_lt (64 * k + j) (length rows))
-  where
-    by : (64 * k + j < length rows) ⊎ (length rows ≤ 64 * k + j)
-        → bit word j ≡ is_true (row rows (64 * k + j))
-    by (inl inside) = here j lt inside ∙ sym (same (64 * k + j) inside)
-    by (inr over) = none j lt over ∙ sym (past_row rows (64 * k + j) over)
+-- a byte for each row
+pub masked : (rows : List Value) (test : ℕ → Bool) (mask : List ℕ) → length rows ≤ length mask
+    → ((i : ℕ) → i < length rows → test i ≡ is_true (row rows i))
+    → ((i : ℕ) → i < length rows → slice_index mask i ≡ flag (test i))
+    → take (length rows) mask ≡ mask_of rows
+masked rows test mask room same told =
+    fill_by_all (λ i. flag (is_true (row rows i))) (take (length rows) mask) (length rows) 0
+    (length-take-le (length rows) mask room)
+    (λ k lt. get_or-take (length rows) mask k 0 lt ∙ told k lt ∙ ap flag (same k lt))
+    ∙ sym (fill_by_all (λ i. flag (is_true (row rows i))) (mask_of rows) (length rows) 0
+    (length-map rows (λ v. flag (is_true v)))
+    (λ k lt. get_or-map (λ v. flag (is_true v)) rows k null 0 lt))

@@ -7,7 +7,7 @@ use Rattle.vortex_types.specs.LogicalTypes.{is_bool_type}
 use Rattle.vortex_types.specs.Values.{Value, null, text, bytes}
 use Rattle.vortex_bits.specs.Bits.{bit_of}
 use Rattle.vortex_columns.specs.ColumnView.{ColumnView, is_bytes_like}
-use Rattle.vortex_columns.specs.TrueRows.{true_rows}
+use Rattle.vortex_columns.specs.TrueRows.{is_true, true_rows}
 use Rattle.vortex_arrow.specs.Layouts.{Layout, value_at, HasItems}
 use Rattle.vortex_arrow.specs.Layouts.{offsets as by_offsets, views as by_views}
 use Rattle.vortex_arrow.specs.Values.{offset_at}
@@ -100,3 +100,17 @@ RefusesSelection c room most ValuesTooShort =
     (is_bool_type c.dtype ≡ true) × (length c.rows ≤ most + 1)
     × (room < length (true_rows c.rows))
 RefusesSelection c room most e = ⊥
+
+-- 1 for what is true, and 0 for what is not
+abbrev pub flag : Bool → ℕ
+flag b = if b then 1 else 0
+
+-- a byte for each row: 1 where it is true, 0 where it is false or null
+abbrev pub mask_of : List Value → List ℕ
+mask_of rows = map (λ v. flag (is_true v)) rows
+
+-- why they are not copied
+abbrev pub RefusesMask : ColumnView → ℕ → CopyError → Type 0
+RefusesMask c room OtherType = ¬ (is_bool_type c.dtype ≡ true)
+RefusesMask c room ValuesTooShort = (is_bool_type c.dtype ≡ true) × (room < length c.rows)
+RefusesMask c room e = ⊥

@@ -11,15 +11,17 @@ ghost use Rattle.vortex_columns.specs.Made.{MakeLentTexts, lent_texts, text_rows
 ghost use Rattle.vortex_arrow.specs.Layouts.{bits, numbers, layout_of, HasItems, has_offsets};
 ghost use Rattle.vortex_arrow.specs.Columns.{column_from, values_from, AreValues, HasBitsFor};
 ghost use Rattle.vortex_arrow.specs.Columns.{IsWellFormed, arrow_column};
+ghost use Rattle.vortex_arrow.specs.Values.{offset_at, bytes_between, LieWithin, IsOffsetFault};
 ghost use Rattle.vortex_arrow.specs.Refusals.{OnlyMemory, TellsOfBytes, TellsOfValues, TellsOf};
 ghost use Rattle.vortex_arrow.specs.Refusals.{AreLongEnough, TellsOfLength, RefusesPush};
 
 use crate::byte_rows::{ByteRows, collect_byte_strings, collect_texts};
 use crate::column::{ArrowColumn, ArrowValues};
 use crate::error::ArrowError;
-use crate::offsets::Spans;
+use crate::offsets::{IndexType, Spans};
 use crate::validity::{read_bits, read_validity};
 use crate::views::LentViews;
+use crate::whole_texts::whole_texts;
 use std::alloc::Global;
 use vortex_columns::{Column, NativePType, Validity, VortexError};
 
@@ -132,6 +134,37 @@ fn read_texts<R: ByteRows>(
     }
 }
 
+/// A column of texts by offsets: cut from one text where that tells them, and else one by one.
+fn read_spanned_texts<O: IndexType>(
+    alloc: Global,
+    rows: &Spans<'_, O>,
+    from: usize,
+    count: usize,
+    validity: Validity,
+) -> Result<Column, ArrowError>
+    requires place { from + count < 2 ^ 64 }
+    requires items { (i : ℕ) → i < count → from + i + 1 < length rows.now.offsets.now }
+    requires fits { FitsRows (validity_of validity) count }
+    ensures { let v = validity_of validity in
+        let os = map O.number rows.now.offsets.now in
+        let item = λ (p : ℕ). bytes_between rows.now.data.now (offset_at os p)
+        (offset_at os (p + 1)) in
+        let lies = λ (i : ℕ). LieWithin rows.now.data.now (offset_at os (from + i))
+        (offset_at os (from + i + 1)) in
+        let texts = λ (i : ℕ). is_valid_row v i ≡ true → IsUtf8 (item (from + i)) in
+        let values = values_from item v from count in MatchResult result
+        (λ c. ((i : ℕ) → i < count → lies i × texts i) × HaveRoom values
+        × (c ≡ made_of (text_type (form_allows_null v.form)) v count (λ i. text (item (from + i)))))
+        (TellsOfBytes count lies texts (λ i fault. IsOffsetFault rows.now.data.now
+        (offset_at os (from + i)) (offset_at os (from + i + 1)) fault) (HaveRoom values)) }
+{
+    let found = whole_texts(alloc, rows, &validity, from, count)?;
+    match found {
+        Some(texts) => column_of_texts(alloc, &texts, validity),
+        None => read_texts(alloc, rows, from, count, validity),
+    }
+}
+
 /// Whether the buffers have so many items from one on.
 fn has_items(values: ArrowValues<'_>, from: usize, count: usize) -> bool
     ensures { IsTrue result ↔ HasItems (layout_of values.entry) from count }
@@ -220,10 +253,10 @@ fn read_values(
         ArrowValues::UInt32(values) => read_integers(alloc, values, from, count, validity),
         ArrowValues::UInt64(values) => read_integers(alloc, values, from, count, validity),
         ArrowValues::Utf8 { offsets, data } => {
-            read_texts(alloc, &Spans { offsets, data }, from, count, validity)
+            read_spanned_texts(alloc, &Spans { offsets, data }, from, count, validity)
         }
         ArrowValues::LargeUtf8 { offsets, data } => {
-            read_texts(alloc, &Spans { offsets, data }, from, count, validity)
+            read_spanned_texts(alloc, &Spans { offsets, data }, from, count, validity)
         }
         ArrowValues::Binary { offsets, data } => {
             read_byte_strings(alloc, &Spans { offsets, data }, from, count, validity)

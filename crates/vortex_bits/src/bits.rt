@@ -1,4 +1,4 @@
-//! Lists of bits, kept in bytes.
+//! Lists of bits, stored in bytes.
 ghost use Rattle.std.specs.Prelude.{◌≡◌, ◌≤◌, ◌<◌, ◌+◌, ◌*◌, length, false, slice_index_or};
 ghost use Rattle.vortex_errors.specs.Answers.{AnswersUnlessMemory, MadeWhere};
 ghost use Rattle.vortex_errors.specs.declared.error.VortexError.TheVariants.{InvalidColumn};
@@ -14,7 +14,7 @@ use std::alloc::{AllocError, Global};
 use std::marker::Model;
 use vortex_errors::{VortexError, VortexResult};
 
-/// Listed truth values, a bit for each.
+/// One bit for each truth value of a list.
 #[derive(Clone, Copy)]
 struct ListedBools<'a> {
     bools: &'a [bool],
@@ -31,7 +31,7 @@ impl RowBits for ListedBools<'_> {
 }
 
 /// A list of bits. Bit `i` is bit `(offset + i) mod 8` of byte `(offset + i) / 8`, from the least
-/// significant, as in Arrow's layout. What else stands in the bytes is never seen.
+/// significant, as in Arrow's layout. All other bits are ignored.
 #[derive(Drop)]
 pub struct BitBuffer {
     bytes: Vec<u8>,
@@ -51,9 +51,9 @@ impl Model for BitBuffer {
 }
 
 impl BitBuffer {
-    /// So many bits of the bytes, from bit `offset` on. Takes no memory.
+    /// The `len` bits of the bytes from bit `offset` on. Allocates nothing.
     ///
-    /// E12 exactly where `offset + len` passes eight times the bytes.
+    /// E12 exactly where `offset + len` is more than eight times the number of bytes.
     pub fn new(bytes: Vec<u8>, offset: usize, len: usize) -> VortexResult<BitBuffer>
         ensures { MadeWhere result (offset + len ≤ 8 * length bytes.items)
             (λ b. b ≡ bits_from bytes.items offset len) InvalidColumn }
@@ -65,14 +65,14 @@ impl BitBuffer {
         }
     }
 
-    /// A bit for each truth value, in their order. Refuses for want of memory alone (E9).
+    /// A bit for each truth value, in their order. Fails only where memory runs out (E9).
     pub fn from_bools(alloc: Global, bools: &[bool]) -> VortexResult<BitBuffer>
         ensures { AnswersUnlessMemory result (λ b. b ≡ bools.now) }
     {
         collect_rows(alloc, &ListedBools { bools }, bools.len())
     }
 
-    /// So many bits of bytes that hold them, from the first on.
+    /// The first `len` bits of bytes that hold them.
     pub(crate) fn from_words(bytes: Vec<u8>, len: usize) -> BitBuffer
         requires { len ≤ 8 * length bytes.items }
         ensures { result ≡ bits_from bytes.items 0 len }
@@ -96,24 +96,24 @@ impl BitBuffer {
         requires { i < length self.now }
         ensures { result ≡ slice_index_or self.now i false }
     {
-        // in this form no sum passes a usize
+        // so written, no sum overflows a usize
         let within = self.offset % 8 + i % 8;
         let byte = self.offset / 8 + i / 8 + within / 8;
         (self.bytes[byte] >> (within % 8)) & 1 == 1
     }
 
-    /// The `len` bits from bit `from` on, borrowed where they lie. Takes no memory.
+    /// The `len` bits from bit `from` on, borrowed. Allocates nothing.
     pub fn slice(&self, from: usize, len: usize) -> BitView<'_>
         requires { from + len ≤ length self.now }
         ensures { AreRows len (λ i. slice_index_or self.now (from + i) false) result }
     {
-        // in this form no sum passes a usize
+        // so written, no sum overflows a usize
         let within = self.offset % 8 + from % 8;
         let byte = self.offset / 8 + from / 8 + within / 8;
         BitView::new(bytes_from(&self.bytes, byte), within % 8, len)
     }
 
-    /// The bits as kernels read them, where they begin with a byte.
+    /// The bits in the form that kernels read, where they begin with a byte.
     pub fn aligned(&self) -> Option<AlignedBits<'_>>
         ensures { IfSome result (λ b. ReadsBits (aligned_there b) (aligned_bit b) self.now) }
     {
@@ -124,14 +124,14 @@ impl BitBuffer {
         }
     }
 
-    /// The bits as kernels read them, wherever they begin.
+    /// The bits in the form that kernels read, at any offset.
     pub fn shifted(&self) -> ShiftedBits<'_>
         ensures { ReadsBits (shifted_there result) (shifted_bit result) self.now }
     {
         ShiftedBits::new(bytes_from(&self.bytes, self.offset / 8), self.offset % 8)
     }
 
-    /// A copy that is seen as its source is.
+    /// A copy with the same view.
     pub fn try_clone(&self, _alloc: Global) -> VortexResult<BitBuffer>
         ensures { AnswersUnlessMemory result (λ b. b ≡ self.now) }
     {
@@ -139,7 +139,7 @@ impl BitBuffer {
     }
 }
 
-/// The same bits; their bytes are copied as they are.
+/// The same bits; the bytes are copied unchanged.
 impl Clone for BitBuffer {
     ghost is_clone = { λ bits copy. copy ≡ bits };
 

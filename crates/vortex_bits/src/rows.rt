@@ -1,4 +1,4 @@
-//! Bits that are told row by row, 64 at a time: what a kernel reads, and what it answers.
+//! Rows of bits, 64 at a time: what a kernel reads, and what it returns.
 ghost use Rattle.std.specs.Prelude.{◌≡◌, ◌≤◌, ◌<◌, ◌+◌, ◌*◌, ◌^◌, ℕ, Bool, length};
 ghost use Rattle.vortex_errors.specs.Answers.{AnswersUnlessMemory};
 ghost use Rattle.vortex_bits.specs.Bits.{bit, bit_of, bits_from};
@@ -16,14 +16,14 @@ pub trait BitWords {
 
     ghost row_bit: { Self → ℕ → Bool };
 
-    /// Rows `64 * k` to `64 * k + 63`, the first as the least significant bit. One more row is
-    /// there, so that a form may read on.
+    /// Rows `64 * k` to `64 * k + 63`, the first as the least significant bit. One more row must
+    /// follow, so that a form may read the next byte.
     fn word(&self, k: usize) -> u64
         requires place { 64 * k + 64 < 2 ^ 64 }
         requires rows { (j : ℕ) → j ≤ 64 → has_row self.now (64 * k + j) }
         ensures { (j : ℕ) → j < 64 → bit result j ≡ row_bit self.now (64 * k + j) };
 
-    /// The last rows, `count` of them from row `64 * k` on. The bits above them say nothing.
+    /// The last rows, `count` of them from row `64 * k` on. The bits above them may be anything.
     fn last(&self, k: usize, count: usize) -> u64
         requires some { 0 < count }
         requires most { count ≤ 64 }
@@ -111,7 +111,7 @@ impl BitWords for ShiftedBits<'_> {
     }
 }
 
-/// A bit for each row, told row by row.
+/// A bit for each row, given row by row.
 pub trait RowBits {
     ghost has_row: { Self → ℕ → Type 0 };
 
@@ -122,7 +122,7 @@ pub trait RowBits {
         ensures { result ≡ row_bit self.now i };
 }
 
-/// Rows that are told one by one, 64 to a word.
+/// Rows given one by one, 64 to a word.
 #[derive(Clone, Copy)]
 struct Packed<'a, R: RowBits> {
     rows: &'a R,
@@ -150,7 +150,7 @@ impl<R: RowBits> BitWords for Packed<'_, R> {
     }
 }
 
-/// The bit of each row, of rows that are told one by one.
+/// The bit of each row, for rows given one by one.
 pub fn collect_rows<R: RowBits>(alloc: Global, rows: &R, len: usize) -> VortexResult<BitBuffer>
     requires { (i : ℕ) → i < len → R.has_row rows.now i }
     ensures { AnswersUnlessMemory result (AreRows len (R.row_bit rows.now)) }

@@ -1,4 +1,4 @@
-//! What is said of the bits of two sides, 64 rows at a time.
+//! Formulas over the bits of two sides, 64 rows at a time.
 ghost use Rattle.std.specs.Prelude.{◌≡◌, ◌<◌, ◌&&◌, ◌||◌, ℕ, Bool, false, length, slice_index_or};
 ghost use Rattle.vortex_errors.specs.Answers.{AnswersUnlessMemory};
 ghost use Rattle.vortex_bits.specs.Bits.{bit};
@@ -11,7 +11,7 @@ use std::alloc::Global;
 use std::marker::PhantomData;
 use vortex_errors::VortexResult;
 
-/// What is said of two bits, for 64 pairs at a time.
+/// A formula over two bits, for 64 pairs at a time.
 pub trait WordFormula {
     ghost says: { Bool → Bool → Bool };
 
@@ -43,7 +43,7 @@ impl WordFormula for Either {
     }
 }
 
-/// The left one is not set, whatever the right one.
+/// The left bit is not set, whatever the right one.
 #[derive(Clone, Copy)]
 pub struct LeftNegated {}
 
@@ -79,7 +79,7 @@ impl BitWords for SameBit {
     }
 }
 
-/// What the formula says of the bits of two sides.
+/// The formula over the bits of two sides.
 #[derive(Clone, Copy)]
 struct Zipped<F: WordFormula + Copy, L: BitWords + Copy, R: BitWords + Copy> {
     left: L,
@@ -101,7 +101,7 @@ impl<F: WordFormula + Copy, L: BitWords + Copy, R: BitWords + Copy> BitWords for
     }
 }
 
-/// What the formula says in each row.
+/// The formula in each row.
 pub fn zip_words<F: WordFormula + Copy, L: BitWords + Copy, R: BitWords + Copy>(
     alloc: Global,
     left: L,
@@ -121,7 +121,7 @@ pub fn zip_words<F: WordFormula + Copy, L: BitWords + Copy, R: BitWords + Copy>(
     collect_words(alloc, &rows, len)
 }
 
-/// What the formula says of each bit beside the other one of its row.
+/// The formula over each bit and the other bit of its row.
 pub fn zip_bits<F: WordFormula + Copy>(
     alloc: Global,
     left: &BitBuffer,
@@ -144,7 +144,7 @@ pub fn zip_bits<F: WordFormula + Copy>(
     }
 }
 
-/// What the formula says of each bit beside one.
+/// The formula over each bit and one fixed bit.
 pub fn zip_bits_with<F: WordFormula + Copy>(
     alloc: Global,
     left: &BitBuffer,

@@ -1,4 +1,4 @@
--- All elements of a list, where none is missing.
+-- All elements of a list, if none is missing.
 use Rattle.std.proofs.Common.{◌≡◌, ◌∙◌, ℕ, zero, suc, ◌+◌, ◌<◌, Option, Some, None, List, [], ◌∷◌}
 use Rattle.std.proofs.Common.{◌++◌, map, take, length, get_or, add-one, refl, ap, arith}
 use Rattle.std.proofs.Math.Seq.{take-suc}
@@ -24,7 +24,7 @@ module _ {A : Type 0} where
   appended [] (Some x) = refl
   appended (p ∷ os) o = ap (with_first p) (appended os o) ∙ carried p (all_some os) o
 
-  -- one more that is not missing
+  -- one more, not missing
   pub some_more : (os : List (Option A)) (xs : List A) (o : Option A) (x : A)
       → all_some os ≡ Some xs → o ≡ Some x → all_some (os ++ o ∷ []) ≡ Some (xs ++ x ∷ [])
   some_more os xs o x h e = appended os o ∙ (λ i. with_last (h i) (e i))
@@ -41,7 +41,7 @@ module _ {A : Type 0} where
   one_missing (o ∷ os) (suc k) lt e =
       ap (with_first o) (one_missing os k (omega (arith, lt)) e) ∙ none_first o
 
--- the same of what is made of the elements of a list
+-- the same for what is made of the elements of a list
 module _ {W B A : Type 0} (f : B → Option A) (g : W → B) (ws : List W) (i : ℕ) (d : W) where
   taken : i < length ws → take (i + 1) ws ≡ take i ws ++ get_or ws i d ∷ []
   taken lt = ap (λ (n : ℕ). take n ws) (add-one i) ∙ take-suc ws i d lt

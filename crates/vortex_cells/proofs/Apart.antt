@@ -1,4 +1,4 @@
--- Where the cell of a row and a column stands.
+-- The position of the cell of a row and a column.
 use Rattle.std.proofs.Common.{◌≡◌, ◌∙◌, ℕ, suc, ◌+◌, ◌*◌, ◌<◌, ◌≤◌, Bor, Option, None, List, map, length}
 use Rattle.std.proofs.Common.{get_or, ap, arith}
 use Rattle.std.proofs.Math.Nat.{mul-le-mul_left}
@@ -7,7 +7,7 @@ use Rattle.std.proofs.lemmas.List.{get_or-map}
 use Rattle.std.proofs.lemmas.List.FromFn.{get_or-range_with_len}
 use Rattle.vortex_cells.specs.Cells.{cell_in, cell_apart}
 
--- a place in a row lies within the cells of the rows
+-- a position in a row is within the cells of the rows
 pub place_within : (w n i j l : ℕ) → l ≡ w * n → i < n → j < w → i * w + j < l
 place_within w n i j l even below within =
     let row : w * suc i ≤ w * n = mul-le-mul_left w (omega arith) in

@@ -1,4 +1,4 @@
--- Cells that are read one by one, and the column that is made of them.
+-- Cells that are read one by one, and the column made of them.
 use Rattle.std.proofs.Common.{tests, ◌≡◌, ℕ, zero, suc, ◌+◌, take, ◌<◌, ◌≤◌, Bool, true}
 use Rattle.std.proofs.Common.{false, Option, Some, None, Result, List, [], ◌∷◌, ◌++◌, ℤ, pos, map}
 use Rattle.std.proofs.Common.{length, get_or, refl, sym, ap, subst, ◌∙◌, arith, length-append}
@@ -39,7 +39,7 @@ answers_same r C D P Q refusal f g h k =
     Answers-weaker r (λ x. C × P x) (λ x. D × Q x) (λ e. (¬ C) × (e ≡ refusal))
     (λ e. (¬ D) × (e ≡ refusal)) (λ x p. (f p.0, h x p.1)) (λ e p. ((λ d. p.0 (g d)), p.1)) k
 
--- what a constructor makes, row by row
+-- the result of a constructor, row by row
 pub made_is : (kind : Bool → LogicalType) (v : ValidityView) (n : ℕ) (f : ℕ → Value)
     (vs : List Value) (c : ColumnView)
     → n ≡ length vs → ((i : ℕ) → i < length vs → f i ≡ slice_index_or vs i null)
@@ -79,7 +79,7 @@ texts_at f [] i h = absurd (omega arith)
 texts_at f (x ∷ xs) zero h = refl
 texts_at f (x ∷ xs) (suc i) h = texts_at f xs i (omega arith)
 
--- which values fit a column
+-- which values fit in a column
 texts_of_none : {X : Type 0} (f : X → Value) → ((x : X) → text_bytes (f x) ≡ []) → (xs : List X)
     → map text_bytes (map f xs) ≡ map (λ x. []) xs
 texts_of_none f h [] = refl
@@ -197,7 +197,7 @@ said_not_null (integer_type p n) w e = null_number (integer_of w) (in_range p) e
 said_not_null (text_type n) w e = cc
 said_not_null t w e = cc
 
--- a cell says null only where the type has it
+-- a cell is null only if the type has null
 pub null_allowed : (t : LogicalType) (c : Option (List ℕ)) → cell_value t c ≡ Some null
     → is_nullable t ≡ true
 null_allowed t (Some w) e = absurd (said_not_null t w e)
@@ -249,7 +249,7 @@ pub fits_cells : (n : Bool) (vs : List Value) (valid : List Bool) → length val
 fits_cells true vs valid e = e
 fits_cells false vs valid e = tt
 
--- the column that is made of the cells is the column that they say
+-- the column made of the cells is the column that they mean
 pub column_made : (kind : Bool → LogicalType) (n : Bool) (vs : List Value) (valid : List Bool)
     (said : Option (List Value)) (v : ValidityView) (c : ColumnView)
     → is_nullable (kind n) ≡ n → AreCells n vs valid said → v ≡ cells_validity n valid
@@ -289,7 +289,7 @@ column_made kind n vs valid said v c nullable cells validity fit made =
           j;
     }
 
--- and where a text does not fit, there is none
+-- and if a text does not fit, there is none
 pub column_unmade : (t : LogicalType) (n : Bool) (vs : List Value) (valid : List Bool)
     (said : Option (List Value)) (v : ValidityView)
     → AreCells n vs valid said → v ≡ cells_validity n valid
@@ -326,7 +326,7 @@ pub is_there : {X : Type 0} (f : X → Value) (o : Option X) (t : LogicalType) (
 is_there f (Some x) t n c k e h = refl
 is_there f None t n c k e h = let allowed = null_allowed t c e in cc
 
--- one more value of those that are found at the elements of a list
+-- one more value of those found at the elements of a list
 pub value_read : {X W : Type 0} (f : Option (List ℕ) → Option Value) (n : Bool) (value : X → Value)
     (cell : W → Option (List ℕ)) (places : List W) (i : ℕ) (d : W) (items : List X)
     (valid : List Bool) (item : Option X) (blank : X)
@@ -361,7 +361,7 @@ value_read f n value cell places i d items valid item blank lt h e there fit = r
     more : map value (items ++ unwrap_or item blank ∷ []) ≡ map value items ++ v ∷ []
     more = map-append value items (unwrap_or item blank ∷ [])
 
--- the same of cells
+-- the same for cells
 pub cell_read : {X W : Type 0} (t : LogicalType) (n : Bool) (value : X → Value)
     (cell : W → Option (List ℕ)) (places : List W) (i : ℕ) (d : W) (items : List X)
     (valid : List Bool) (item : Option X) (blank : X)

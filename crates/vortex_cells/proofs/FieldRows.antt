@@ -21,7 +21,7 @@ use Rattle.vortex_cells.proofs.AllSome.{none_first}
 use Rattle.vortex_cells.proofs.CellRows.{value_read, is_there}
 use Rattle.vortex_cells.proofs.IntegerTexts.{integer_text}
 
--- bytes that are a text say what it says
+-- bytes that are a text have its value
 pub text_said : (t : LogicalType) (bs w : List ℕ) → w ≡ bs → IsUtf8 bs
     → value_of_text t w ≡ field_value t (Some bs)
 text_said t bs w same readable =
@@ -30,14 +30,14 @@ text_said t bs w same readable =
     (ap (λ b. option_and_then (cell_value t) (if b then Some (Some bs) else None))
     (is_utf8-from_IsUtf8 bs readable))
 
--- and others say nothing
+-- and others have none
 pub none_said : (t : LogicalType) (bs : List ℕ) → ¬ (IsUtf8 bs) → None ≡ field_value t (Some bs)
 none_said t bs unreadable =
     sym
     (ap (λ b. option_and_then (cell_value t) (if b then Some (Some bs) else None))
     (false_from_ne_true (is_utf8 bs) (λ e. unreadable (IsUtf8-from_is_utf8 bs e))))
 
--- bytes that are no text say no integer
+-- bytes that are no text are no integer
 no_integer : (bs : List ℕ) → is_utf8 bs ≡ false → integer_of bs ≡ None
 no_integer bs unreadable = by (integer_of bs) refl
   where
@@ -49,7 +49,7 @@ no_number : (p : PType) (bs : List ℕ) → is_utf8 bs ≡ false → number_of p
 no_number p bs unreadable =
     ap (option_and_then (λ z. number_where (in_range p z) z)) (no_integer bs unreadable)
 
--- so what bytes say as an integer is what they say as a cell
+-- so bytes have the same integer as the cell
 pub integer_said : (p : PType) (n : Bool) (bs : List ℕ)
     → number_of p bs ≡ field_value (integer_type p n) (Some bs)
 integer_said p n bs = by (is_utf8 bs) refl
@@ -72,7 +72,7 @@ there_in : {X : Type 0} (value : X → Value) (item : Option X) (t : LogicalType
 there_in value item t n None nullable e plain = cc
 there_in value item t n (Some c) nullable e plain = is_there value item t n c nullable e plain
 
--- one more field of those that are found at the elements of a list
+-- one more field of those found at the elements of a list
 pub field_read : {X W : Type 0} (t : LogicalType) (n : Bool) (value : X → Value)
     (field : W → Option (List ℕ)) (places : List W) (i : ℕ) (d : W) (items : List X)
     (valid : List Bool) (item : Option X) (blank : X)
@@ -86,7 +86,7 @@ field_read t n value field places i d items valid item blank nullable lt h e fit
     value_read (field_value t) n value field places i d items valid item blank lt h e
     (there_in value item t n (field_cell (field (get_or places i d))) nullable e) fit
 
--- the values of fields are those of the cells that they are
+-- the values of fields are those of their cells
 first_said : (t : LogicalType) (o : Option (Option (List ℕ))) (cs : Option (List (Option (List ℕ))))
     → with_first (option_and_then (cell_value t) o) (option_and_then (cell_values t) cs)
     ≡ option_and_then (cell_values t) (with_first o cs)

@@ -1,4 +1,4 @@
--- Bytes that say an integer are a text.
+-- Bytes that are an integer are a text.
 use Rattle.std.proofs.Common.{tests, ◌≡◌, ℕ, zero, suc, ◌==◌, Bool, true, false, Option, Some, None}
 use Rattle.std.proofs.Common.{List, [], ◌∷◌, ℤ, pos, refl, arith, ◌<◌}
 use Rattle.std.proofs.Common.{if◌then◌else◌}

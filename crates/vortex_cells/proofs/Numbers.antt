@@ -1,4 +1,4 @@
--- Numbers that words say.
+-- Numbers written as words.
 use Rattle.std.proofs.Common.{rules, tests, ◌≡◌, ℕ, zero, suc, ◌<◌, ◌≤◌, ◌^◌, Bool, true, false}
 use Rattle.std.proofs.Common.{Option, Some, None, Result, Ok, Err, List, [], ◌∷◌, ℤ, pos, refl, sym}
 use Rattle.std.proofs.Common.{ap, subst, ◌∙◌, arith, length, get_or, drop, nat_lt, ◌==◌, ◌&&◌}
@@ -49,7 +49,7 @@ digits_known w some b e =
     by true = refl
     by false = refl
 
--- what digits say
+-- the value of digits
 pub record AreDigits (w : List ℕ) : Type 0 where
   pub some : 0 < length w
   pub all : list_all is_ascii_digit w ≡ true
@@ -94,7 +94,7 @@ negative_is : (n : ℕ) → neg_ℤ (pos n) ≡ negative n
 negative_is zero = refl
 negative_is (suc n) = refl
 
--- the answer of `parse`, where the text says z
+-- the result of `parse`, if the text means z
 number_read : {E : Type 0} (r : Result ℤ E) (Fitting : Type 0) (said : Option ℤ) (z : ℤ)
     → said ≡ Some z → (FitsSigned w128 z → Fitting) → OkIff r Fitting z
     → ReadsNumber said (result_ok r)
@@ -154,7 +154,7 @@ ranged p z h =
     let high : le_z z (greatest_of p) ≡ true = grind (arith, ints, h.1) in
     and_from _ _ low high
 
--- each type holds no more than 64 bits and a sign do
+-- each type holds only numbers of 64 bits and a sign
 fits_wide : (p : PType) (z : ℤ) → FitsPType p z → FitsSigned w128 z
 fits_wide I8 z h = grind (arith, ints, h.0, h.1)
 fits_wide I16 z h = grind (arith, ints, h.0, h.1)
@@ -169,7 +169,7 @@ not_where : (b : Bool) (z : ℤ) → (b ≡ true → ⊥) → number_where b z �
 not_where true z h = absurd (h refl)
 not_where false z h = refl
 
--- a number is one of the type's where the type holds it
+-- a number is the type's where the type holds it
 pub number_held : {X : Type 0} (f : X → ℤ) (p : PType) (w : List ℕ) (z : ℤ) (o : Option X)
     → integer_of w ≡ Some z → MatchOption o (¬ FitsPType p z) (λ x. FitsPType p z × (f x ≡ z))
     → option_map (λ x. number (f x)) o ≡ number_of p w

@@ -12,12 +12,12 @@ use Rattle.std.proofs.lemmas.List.{drop_more, drop_all}
 use Rattle.vortex_cells.specs.CellValues.{decimal_from, digits_of, negative, integer_of}
 use Rattle.vortex_cells.proofs.Numbers.{are_digits, digits_known, integer_plain}
 
--- what is left behind the first k bytes says the rest of the number, and is of digits where all are
+-- what is left after the first k bytes is the rest of the number, all digits if the whole is
 pub record SaysFrom (bs : List ℕ) (k n : ℕ) : Type 0 where
   pub number : decimal_from n (drop k bs) ≡ decimal_from 0 bs
   pub digits : list_all is_ascii_digit (drop k bs) ≡ list_all is_ascii_digit bs
 
--- a turn over the bytes
+-- an iteration over the bytes
 pub next_digit : (bs : List ℕ) (k n d next : ℕ) → k < length bs → d ≡ get_or bs k 0
     → is_ascii_digit d ≡ true → next ≡ n * 10 + (d - 48) → SaysFrom bs k n
     → SaysFrom bs (k + 1) next
@@ -32,7 +32,7 @@ next_digit bs k n d next h is digit sum before = record {
       ∙ sym (ap (list_all is_ascii_digit) (drop_more bs k 0 h)) ∙ before.digits;
 }
 
--- the number behind the last byte
+-- the number after the last byte
 pub last_digit : (bs : List ℕ) (k n : ℕ) → 0 < length bs → length bs ≤ k → SaysFrom bs k n
     → digits_of bs ≡ Some n
 last_digit bs k n some past at =
@@ -44,7 +44,7 @@ last_digit bs k n some past at =
     number : n ≡ decimal_from 0 bs
     number = sym (ap (decimal_from n) (drop_all k bs past)) ∙ at.number
 
--- the greatest number of so many digits
+-- the greatest number of that many digits
 abbrev pub most_of : ℕ → ℕ
 most_of zero = 0
 most_of (suc k) = most_of k * 10 + 9
@@ -54,13 +54,13 @@ most_more zero m h = omega arith
 most_more (suc k) zero h = absurd (omega (arith, h))
 most_more (suc k) (suc m) h = omega (arith, most_more k m (omega (arith, h)))
 
--- a number of so few digits that 64 bits hold it with one more
+-- a number with few enough digits that 64 bits hold it with one more
 pub few_held : (k n : ℕ) → k < 19 → n ≤ most_of k → n ≤ 999999999999999999
 few_held k n few h =
     let most : most_of k ≤ 999999999999999999 = most_more k 18 (omega (arith, few)) in
     omega (arith, h, most)
 
--- and one digit more of it
+-- and with one more digit
 pub few_more : (k n d next : ℕ) → d ≤ 9 → n ≤ most_of k → next ≡ n * 10 + d
     → next ≤ most_of (k + 1)
 few_more k n d next digit h is =
@@ -74,7 +74,7 @@ fits : (n : ℕ) → n < 2 ^ hbits w128 → SFits w128 (negative n)
 fits zero h = record { sfits = h }
 fits (suc n) h = record { sfits = omega (arith, h) }
 
--- a number of 64 bits is held by 128 bits behind a minus sign too
+-- a number of 64 bits fits in 128 bits after a minus sign too
 pub turned : (n : ℕ) (z : ℤ) → n < 2 ^ hbits w128 → z ≡ pos n
     → to_z w128 (of_z w128 (pos 0 -ℤ z)) ≡ negative n
 turned n z h is =
@@ -96,7 +96,7 @@ plain_first w rest b is other =
     (integer_plain w
     (λ more e. other (ap (λ (bs : List ℕ). get_or bs 0 0) (sym is ∙ e))))
 
--- a number that is said in the one way is said in the other
+-- both ways to read a number agree
 pub said_as : (a b r : Option ℤ) → a ≡ b → MatchOption r ⊤ (λ z. a ≡ Some z)
     → MatchOption r ⊤ (λ z. b ≡ Some z)
 said_as a b r e h = subst (λ (o : Option ℤ). MatchOption r ⊤ (λ z. o ≡ Some z)) e h

@@ -1,4 +1,4 @@
--- What the calls that read cells return; the result stands last.
+-- Results of the calls that read cells; the call's result is the last argument.
 use Rattle.std.specs.Prelude.{◌≡◌, ℕ, List, map, length, Bool, true, Option, option_map, Result}
 use Rattle.vortex_errors.specs.declared.error.VortexError.{VortexError}
 use Rattle.vortex_errors.specs.declared.error.VortexError.TheVariants.{InvalidColumn}
@@ -11,15 +11,15 @@ use Rattle.vortex_cells.specs.CellValues.{value_of_text, cell_value, fit_column}
 use Rattle.vortex_cells.specs.Cells.{item_or_null, IsMade}
 
 module _ {X : Type 0} (value : X → Value) where
-  -- the item that has the value that the text says, of nullable types and of others
+  -- the item with the value of the text, of nullable types and of others
   abbrev pub ReadsItem : (Bool → LogicalType) → List ℕ → Option X → Type 0
   ReadsItem kind w item = (n : Bool) → option_map value item ≡ value_of_text (kind n) w
 
-  -- the same of a cell, which may say null
+  -- the same for a cell, which may be null
   abbrev pub ReadsCell : LogicalType → Option (List ℕ) → Option (Option X) → Type 0
   ReadsCell t c item = option_map (item_or_null value) item ≡ cell_value t c
 
-  -- the column of the items' values, where the validity fits them and each text fits a column
+  -- the column of the items' values, if the validity fits and each text fits in a column
   abbrev pub MakesColumn : (Bool → LogicalType) → ValidityView → List X
       → Result ColumnView VortexError → Type 0
   MakesColumn kind v items result =

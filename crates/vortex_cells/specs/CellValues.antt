@@ -1,4 +1,4 @@
--- The values that cells, which are texts or null, have by a type, and the columns of these.
+-- The values of cells, which are texts or null, by type, and the columns of them.
 use Rattle.std.specs.Prelude.{◌==◌, ℕ, zero, suc, ℤ, pos, negsuc, ◌+◌, ◌-◌, ◌*◌, ◌&&◌, nat_le}
 use Rattle.std.specs.Prelude.{nat_lt, map, List, [], ◌∷◌, length, Bool, true, false, Option, Some}
 use Rattle.std.specs.Prelude.{None, is_some, codes, if◌then◌else◌}
@@ -20,7 +20,7 @@ abbrev pub decimal_from : ℕ → List ℕ → ℕ
 decimal_from n [] = n
 decimal_from n (d ∷ ds) = decimal_from (10 * n + (d - 48)) ds
 
--- the number that digits say, of which there is one at least
+-- the number of digits, at least one
 abbrev pub digits_of : List ℕ → Option ℕ
 digits_of w =
     if nat_lt 0 (length w) && list_all is_ascii_digit w then Some (decimal_from 0 w) else None
@@ -29,7 +29,7 @@ abbrev pub negative : ℕ → ℤ
 negative zero = pos 0
 negative (suc n) = negsuc n
 
--- digits, with a minus sign before them or without
+-- digits, optionally after a minus sign
 abbrev pub integer_of : List ℕ → Option ℤ
 integer_of [] = None
 integer_of (b ∷ bs) =
@@ -48,19 +48,19 @@ truth_of_word w =
     else (if bytes_eq w (codes "false") then Some (truth false)
     else None)
 
--- the value that a text says, where it is one of the type's
+-- the value of a text, if it is one of the type's
 abbrev pub value_of_text : LogicalType → List ℕ → Option Value
 value_of_text (bool_type n) w = truth_of_word w
 value_of_text (integer_type p n) w = number_of p w
 value_of_text (text_type n) w = Some (text w)
 value_of_text t w = None
 
--- a cell is a text, or none for null: the value that it says
+-- a cell is a text, or none for null: its value
 abbrev pub cell_value : LogicalType → Option (List ℕ) → Option Value
 cell_value t None = if is_nullable t then Some null else None
 cell_value t (Some w) = value_of_text t w
 
--- what is made of cells, where the type is one that cells have
+-- the result for cells, if cells have the type
 abbrev pub if_cells : {A : Type 0} → LogicalType → Option A → Option A
 if_cells (bool_type n) o = o
 if_cells (integer_type p n) o = o
@@ -72,7 +72,7 @@ with_first None xs = None
 with_first (Some x) None = None
 with_first (Some x) (Some xs) = Some (x ∷ xs)
 
--- all elements, where none is missing
+-- all elements, if none is missing
 abbrev pub all_some : {A : Type 0} → List (Option A) → Option (List A)
 all_some [] = Some []
 all_some (o ∷ os) = with_first o (all_some os)
@@ -80,12 +80,12 @@ all_some (o ∷ os) = with_first o (all_some os)
 abbrev pub cell_values : LogicalType → List (Option (List ℕ)) → Option (List Value)
 cell_values t cs = all_some (map (cell_value t) cs)
 
--- the bytes of a text, and none of what is no text
+-- the bytes of a text; none for other values
 abbrev pub text_bytes : Value → List ℕ
 text_bytes (text bs) = bs
 text_bytes v = []
 
--- a text of a column has at most 4,294,967,295 bytes, and its texts take no more buffers than a
+-- a text of a column has at most 4,294,967,295 bytes, and its texts need no more buffers than a
 -- column has
 abbrev pub texts_fit : List (List ℕ) → Bool
 texts_fit ts =
@@ -117,6 +117,6 @@ abbrev pub literal_of_cell : LogicalType → Option (List ℕ) → Option Scalar
 literal_of_cell t c =
     if_cells t (option_map (λ v. record { dtype = t; value = v }) (cell_value t c))
 
--- whether the cell says a value of the type
+-- whether the cell has a value of the type
 abbrev pub cell_fits : LogicalType → Option (List ℕ) → Bool
 cell_fits t c = is_some (if_cells t (cell_value t c))

@@ -1,4 +1,4 @@
-//! Columns and values that are read from cells, each a text or null.
+//! Columns and values parsed from cells, each a text or null.
 ghost use Rattle.std.specs.Prelude.{◌≡◌, refl, [], Bool, None, map, option_map, is_some};
 ghost use Rattle.std.specs.Prelude.{MatchOption, Option, List};
 ghost use Rattle.std.specs.Option.{option_and_then};
@@ -31,27 +31,27 @@ pub(crate) trait CellTypes {
     ghost nullable: { (n : Bool) → is_nullable (kind n) ≡ n };
 }
 
-/// Values of one kind, as texts say them; texts are borrowed.
+/// Values of one kind, parsed from texts; texts are borrowed.
 pub(crate) trait CellKind<'a>: CellTypes {
     type Item: Copy + Drop;
 
     ghost value: { Self.Item → Value };
 
-    /// The value that a text says; nothing where it says none of this kind.
+    /// The value of a text; none if it is no value of this kind.
     fn read(text: &'a str) -> Option<Self::Item>
         ensures { ReadsItem value Self.kind text.now result };
 
-    /// What stands under a null.
+    /// The item under a null.
     fn blank() -> Self::Item
         ensures { text_bytes (value result) ≡ [] };
 
-    /// The value for a scalar, of the kind's types. E9 where memory is refused.
+    /// The scalar of the value, of the kind's types. E9 where an allocation fails.
     fn scalar_value(alloc: Global, item: Self::Item) -> VortexResult<ScalarValue>
         ensures value { AnswersUnlessMemory result (λ v. value_of v ≡ value item) }
         ensures typed { (n : Bool) → HasType (Self.kind n) (value item) };
 
-    /// A column of the values. E12 exactly where a list of valid bits has another length, a text is
-    /// longer than 4,294,967,295 bytes, or the texts take too many buffers.
+    /// A column of the values. E12 exactly if a list of valid bits has another length, a text is
+    /// longer than 4,294,967,295 bytes, or the texts need too many buffers.
     fn column(alloc: Global, values: Vec<Self::Item>, validity: Validity) -> VortexResult<Column>
         ensures { MakesColumn value Self.kind (validity_of validity) values.items result };
 }
@@ -164,7 +164,7 @@ impl<'a> CellKind<'a> for TextCells {
     }
 }
 
-/// What a cell says, a null among it; nothing where it says no value of the type.
+/// The value of a cell, or null; none if it is no value of the type.
 #[inline(always)]
 fn read_cell<'a, K: CellKind<'a>>(
     nullability: Nullability,
@@ -179,14 +179,14 @@ fn read_cell<'a, K: CellKind<'a>>(
     }
 }
 
-/// What cells say: an item for each, with a blank under each null, and which are not null.
+/// The values of cells: an item for each, with a blank under each null, and which are not null.
 #[derive(Drop)]
 pub(crate) struct Cells<T> {
     pub(crate) items: Vec<T>,
     pub(crate) valid: Vec<bool>,
 }
 
-/// What each cell says; nothing where one says no value of the type. E9 where memory is refused.
+/// The value of each cell; none if one is no value of the type. E9 where an allocation fails.
 fn read_cells<'a, K: CellKind<'a>>(
     alloc: Global,
     nullability: Nullability,
@@ -209,7 +209,7 @@ fn read_cells<'a, K: CellKind<'a>>(
     Ok(Some(Cells { items, valid }))
 }
 
-/// The validity of a column whose cells are valid as the marks say.
+/// The validity of a column whose cells are valid where marked.
 fn cells_validity(alloc: Global, nullability: Nullability, valid: &[bool]) -> VortexResult<Validity>
     ensures { AnswersUnlessMemory result
         (λ v. validity_of v ≡ cells_validity (allows_null nullability) valid.now) }
@@ -220,8 +220,7 @@ fn cells_validity(alloc: Global, nullability: Nullability, valid: &[bool]) -> Vo
     }
 }
 
-/// The column of what cells say; nothing where a text is too long for a column. E9 where memory is
-/// refused.
+/// The column of the values; none if a text is too long for a column. E9 where an allocation fails.
 pub(crate) fn column_of<'a, K: CellKind<'a>>(
     alloc: Global,
     nullability: Nullability,
@@ -241,8 +240,8 @@ pub(crate) fn column_of<'a, K: CellKind<'a>>(
     }
 }
 
-/// The column of the cells; nothing where one says no value of the type, or a text is too long for
-/// a column. E9 where memory is refused.
+/// The column of the cells; none if one is no value of the type, or a text is too long for a
+/// column. E9 where an allocation fails.
 fn read_column<'a, K: CellKind<'a>>(
     alloc: Global,
     nullability: Nullability,
@@ -257,8 +256,8 @@ fn read_column<'a, K: CellKind<'a>>(
     }
 }
 
-/// The value of the cell, with its type; nothing where it says no value of the type. E9 where
-/// memory is refused.
+/// The value of the cell, with its type; none if it is no value of the type. E9 where an allocation
+/// fails.
 fn read_value<'a, K: CellKind<'a>>(
     alloc: Global,
     dtype: DType,
@@ -279,7 +278,7 @@ fn read_value<'a, K: CellKind<'a>>(
     }
 }
 
-/// Whether the cell says a value of the type.
+/// Whether the cell has a value of the type.
 fn says_value<'a, K: CellKind<'a>>(nullability: Nullability, cell: Option<&'a str>) -> bool
     ensures { result
         ≡ is_some (cell_value (K.kind (allows_null nullability)) (cell_in cell.entry)) }
@@ -287,7 +286,7 @@ fn says_value<'a, K: CellKind<'a>>(nullability: Nullability, cell: Option<&'a st
     read_cell::<K>(nullability, cell).is_some()
 }
 
-/// The call over the cells of an integer type: the one place where it is chosen.
+/// The call over the cells of an integer type. Only here is it dispatched.
 macro_rules! with_int_cells {
     ($ptype:expr, $read:ident($($argument:expr),*)) => {
         match $ptype {
@@ -303,8 +302,8 @@ macro_rules! with_int_cells {
     };
 }
 
-/// The column of the cells of an integer type; nothing where one says no value of it. E9 where
-/// memory is refused.
+/// The column of the cells of an integer type; none if one is no value of it. E9 where an
+/// allocation fails.
 fn read_int_column(
     alloc: Global,
     ptype: PType,
@@ -318,8 +317,8 @@ fn read_int_column(
     with_int_cells!(ptype, read_column(alloc, nullability, cells))
 }
 
-/// The column of cells, each a text or null; nothing where one says no value of the type, where no
-/// cells have the type, or a text is longer than 4,294,967,295 bytes. E9 where memory is refused.
+/// The column of cells, each a text or null; none if one is no value of the type, if no cells have
+/// the type, or if a text is longer than 4,294,967,295 bytes. E9 where an allocation fails.
 pub fn column_of_cells(
     alloc: Global,
     dtype: &DType,
@@ -338,8 +337,8 @@ pub fn column_of_cells(
     }
 }
 
-/// The value of a cell with that type; nothing where it says none, or no cells have the type. E9
-/// where memory is refused.
+/// The value of a cell with that type; none if it is no value of it, or no cells have the type. E9
+/// where an allocation fails.
 pub fn literal_of_cell(
     alloc: Global,
     dtype: &DType,
@@ -363,7 +362,7 @@ pub fn literal_of_cell(
     }
 }
 
-/// Whether the cell says a value of the type.
+/// Whether the cell has a value of the type.
 pub fn cell_fits(dtype: &DType, cell: Option<&str>) -> bool
     ensures { result ≡ cell_fits (type_of dtype.now) (cell_in cell.entry) }
 {

@@ -1,4 +1,4 @@
-//! Numbers that words say by digits.
+//! Numbers parsed from digits.
 ghost use Rattle.std.specs.Prelude.{◌≡◌, pos, ◌∷◌, Some, is_some, option_map, MatchOption, ⊤, ◌<◌, ◌≤◌, length};
 ghost use Rattle.std.specs.List.{list_all};
 ghost use Rattle.std.specs.Char.{is_ascii_digit};
@@ -13,14 +13,14 @@ fn all_digits(word: &str) -> bool
     word.as_bytes().iter().all(|byte| byte.is_ascii_digit())
 }
 
-/// Whether there are digits and nothing else.
+/// Whether there are only digits, at least one.
 pub fn are_digits(word: &str) -> bool
     ensures { result ≡ is_some (digits_of word.now) }
 {
     !word.is_empty() && all_digits(word)
 }
 
-/// The number that so few digits say that 64 bits hold it; nothing where others stand there.
+/// The number of digits, few enough for 64 bits; none if there are other bytes.
 #[inline(always)]
 fn few_digits(digits: &[u8]) -> Option<u64>
     requires some { 0 < length digits.now }
@@ -37,7 +37,7 @@ fn few_digits(digits: &[u8]) -> Option<u64>
     Some(number)
 }
 
-/// The number that digits say; nothing where others stand there, and where 64 bits do not hold it.
+/// The number of digits; none if there are other bytes, or 64 bits do not hold it.
 #[inline(never)]
 fn many_digits(digits: &[u8]) -> Option<u64>
     requires { 0 < length digits.now }
@@ -53,7 +53,7 @@ fn many_digits(digits: &[u8]) -> Option<u64>
     Some(number)
 }
 
-/// The number that digits say; nothing where others stand there, and where 64 bits do not hold it.
+/// The number of digits; none if there are other bytes, or 64 bits do not hold it.
 #[inline(always)]
 fn short_number(digits: &[u8]) -> Option<u64>
     ensures { MatchOption result ⊤ (λ n. digits_of digits.now ≡ Some n) }
@@ -65,7 +65,7 @@ fn short_number(digits: &[u8]) -> Option<u64>
     }
 }
 
-/// The same as a number with a sign.
+/// The same as a signed number.
 #[inline(always)]
 fn short_plain(digits: &[u8]) -> Option<i128>
     ensures { MatchOption result ⊤ (λ z. option_map pos (digits_of digits.now) ≡ Some z) }
@@ -83,8 +83,8 @@ fn short_negative(digits: &[u8]) -> Option<i128>
     Some(-i128::from(number))
 }
 
-/// The number that digits say; nothing where others stand there, and for a number past every
-/// integer type. Numbers of 64 bits, which nearly all are, go by words of the machine.
+/// The number of digits; none if there are other bytes, and for a number outside every integer
+/// type. Numbers of 64 bits, which nearly all are, are read in machine words.
 fn read_plain(word: &str) -> Option<i128>
     ensures { ReadsNumber (option_map pos (digits_of word.now)) result }
 {
@@ -97,7 +97,7 @@ fn read_plain(word: &str) -> Option<i128>
     word.parse::<i128>().ok()
 }
 
-/// The same after a minus sign, which begins the word.
+/// The same after a minus sign, with which the word begins.
 fn read_negative(word: &str, digits: &str) -> Option<i128>
     requires { word.now ≡ 45 ∷ digits.now }
     ensures { ReadsNumber (option_map negative (digits_of digits.now)) result }
@@ -111,8 +111,8 @@ fn read_negative(word: &str, digits: &str) -> Option<i128>
     word.parse::<i128>().ok()
 }
 
-/// The number that a word says by digits, with a minus sign before them or without; nothing where
-/// it says none, and for a number past every integer type.
+/// The number of a word: digits, optionally after a minus sign; none for other words, and for a
+/// number outside every integer type.
 pub fn read_integer(word: &str) -> Option<i128>
     ensures { ReadsNumber (integer_of word.now) result }
 {
@@ -122,8 +122,7 @@ pub fn read_integer(word: &str) -> Option<i128>
     }
 }
 
-/// The number that bytes say by digits, as far as 64 bits hold it beside its sign; nothing for
-/// others.
+/// The number of bytes, if 64 bits and a sign hold it; none for others.
 #[inline(always)]
 fn short_integer(bytes: &[u8]) -> Option<i128>
     ensures { MatchOption result ⊤ (λ z. integer_of bytes.now ≡ Some z) }
@@ -136,7 +135,7 @@ fn short_integer(bytes: &[u8]) -> Option<i128>
     }
 }
 
-/// The number that bytes say, where it may be one of more bits.
+/// The number of bytes, if it may have more bits.
 #[cold]
 #[inline(never)]
 fn long_integer(bytes: &[u8]) -> Option<i128>
@@ -148,7 +147,7 @@ fn long_integer(bytes: &[u8]) -> Option<i128>
     }
 }
 
-/// The number that bytes say, as `read_integer` does of a word.
+/// The number of bytes, as `read_integer` parses a word.
 #[inline(always)]
 pub fn read_integer_in(bytes: &[u8]) -> Option<i128>
     ensures { ReadsNumber (integer_of bytes.now) result }

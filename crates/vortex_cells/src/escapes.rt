@@ -3,7 +3,7 @@ ghost use Rattle.std.specs.Prelude.{◌≡◌, [], ◌∷◌, MatchOption};
 ghost use Rattle.std.specs.Str.{chars};
 ghost use Rattle.vortex_cells.specs.Escapes.{escape_of};
 
-/// The first character of a text, and the text behind it.
+/// The first character of a text, and the text after it.
 fn split_first(text: &str) -> Option<(char, &str)>
     ensures { MatchOption result (chars text.now ≡ [])
         (λ parts. chars text.now ≡ parts.0 ∷ chars parts.1.now) }
@@ -13,8 +13,8 @@ fn split_first(text: &str) -> Option<(char, &str)>
     Some((first, rest.as_str()))
 }
 
-/// The escape character that a text means: its one character, or none where it is empty; `None`
-/// where it has more.
+/// The escape character of a text: its only character, or none if it is empty; `None` if it has
+/// more.
 pub fn escape_of(text: &str) -> Option<Option<char>>
     ensures { result ≡ escape_of (chars text.now) }
 {

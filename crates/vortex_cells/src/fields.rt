@@ -1,5 +1,4 @@
-//! Columns that are read from fields, bytes or null each, which stand row by row among those of other
-//! columns.
+//! Columns parsed from fields, bytes or null each, stored row by row with those of other columns.
 ghost use Rattle.std.specs.Prelude.{◌≡◌, ◌<◌, ◌*◌, None, map, length, MatchOption, IsUtf8};
 ghost use Rattle.std.specs.Option.{option_and_then};
 ghost use Rattle.vortex_errors.specs.Answers.{AnswersUnlessMemory};
@@ -15,8 +14,8 @@ use std::alloc::Global;
 use std::str;
 use vortex_columns::{Column, DType, NativePType, Nullability, PType, VortexResult};
 
-/// The text that bytes are; nothing where they are not UTF-8. ASCII, which nearly all texts are, is
-/// told by words.
+/// The text of bytes; none if they are not UTF-8. ASCII, which nearly all texts are, is tested by
+/// words.
 #[inline(always)]
 pub fn text_of(bytes: &[u8]) -> Option<&str>
     ensures { MatchOption result (¬ (IsUtf8 bytes.now))
@@ -28,15 +27,14 @@ pub fn text_of(bytes: &[u8]) -> Option<&str>
     str::from_utf8(bytes).ok()
 }
 
-/// Values of one kind, as bytes say them; texts are borrowed.
+/// Values of one kind, parsed from bytes; texts are borrowed.
 trait FieldKind<'a>: CellKind<'a> {
-    /// The value that bytes say; nothing where they say none of this kind, and where they are not
-    /// UTF-8.
+    /// The value of bytes; none if they are no value of this kind, or not UTF-8.
     fn read_bytes(bytes: &'a [u8]) -> Option<Self::Item>
         ensures { ReadsBytes Self.value Self.kind bytes.now result };
 }
 
-/// The value that bytes say as a text.
+/// The value of bytes as a text.
 #[inline(always)]
 fn read_text<'a, K: CellKind<'a>>(bytes: &'a [u8]) -> Option<K::Item>
     ensures { ReadsBytes K.value K.kind bytes.now result }
@@ -54,7 +52,7 @@ impl<'a> FieldKind<'a> for BoolCells {
     }
 }
 
-/// Integers are read from the bytes as they stand.
+/// Integers are read directly from the bytes.
 impl<'a, T: NativePType> FieldKind<'a> for IntCells<T> {
     #[inline(always)]
     fn read_bytes(bytes: &'a [u8]) -> Option<T> {
@@ -72,7 +70,7 @@ impl<'a> FieldKind<'a> for TextCells {
     }
 }
 
-/// What a field says, a null among it; nothing where it says no value of the type.
+/// The value of a field, or null; none if it is no value of the type.
 #[inline(always)]
 fn read_field<'a, K: FieldKind<'a>>(
     nullability: Nullability,
@@ -87,8 +85,8 @@ fn read_field<'a, K: FieldKind<'a>>(
     }
 }
 
-/// What each field of a column says, of rows of so many; nothing where one says no value of the
-/// type. E9 where memory is refused.
+/// The value of each field of a column, in rows of `width` fields; none if one is no value of the
+/// type. E9 where an allocation fails.
 fn read_fields<'a, K: FieldKind<'a>>(
     alloc: Global,
     nullability: Nullability,
@@ -119,8 +117,8 @@ fn read_fields<'a, K: FieldKind<'a>>(
     Ok(Some(Cells { items, valid }))
 }
 
-/// The column of its fields, of rows of so many; nothing where one says no value of the type, or a
-/// text is too long for a column. E9 where memory is refused.
+/// The column of its fields, in rows of `width` fields; none if one is no value of the type, or a
+/// text is too long for a column. E9 where an allocation fails.
 fn read_column<'a, K: FieldKind<'a>>(
     alloc: Global,
     nullability: Nullability,
@@ -142,7 +140,7 @@ fn read_column<'a, K: FieldKind<'a>>(
     }
 }
 
-/// The same of an integer type.
+/// The same for an integer type.
 fn read_int_column(
     alloc: Global,
     ptype: PType,
@@ -172,9 +170,9 @@ fn read_int_column(
     }
 }
 
-/// The column of the fields of a column in rows of so many, each bytes or null; nothing where one
-/// says no value of the type, where no cells have the type, or a text is longer than 4,294,967,295
-/// bytes. Bytes that are not UTF-8 say nothing. E9 where memory is refused.
+/// The column of the fields of a column in rows of `width` fields, each bytes or null; none if one
+/// is no value of the type (or is not UTF-8), if no cells have the type, or if a text is longer
+/// than 4,294,967,295 bytes. E9 where an allocation fails.
 pub fn column_of_fields(
     alloc: Global,
     dtype: &DType,

@@ -1,4 +1,4 @@
-//! Cells: texts and bytes that hold one value of a type, the columns of these, and the names of types.
+//! Cells: texts and bytes with one value of a type, the columns of them, and the names of types.
 #![tactic(auto)]
 
 pub mod cells;

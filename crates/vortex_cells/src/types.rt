@@ -1,4 +1,4 @@
-//! The types that scripts name.
+//! The types of scripts.
 ghost use Rattle.std.specs.Prelude.{◌≡◌, option_map};
 ghost use Rattle.vortex_types.specs.TypeOf.{allows_null, type_of};
 ghost use Rattle.vortex_cells.specs.TypeWords.{ptype_of_word, type_named, type_of_word};
@@ -29,7 +29,7 @@ fn read_ptype(word: &str) -> Option<PType>
     }
 }
 
-/// The type of that name, `bool`, `utf8` or an integer type, with null or without.
+/// The type of that name, `bool`, `utf8` or an integer type, nullable or not.
 pub fn type_named(name: &str, nullability: Nullability) -> Option<DType>
     ensures { option_map (λ t. type_of t) result ≡ type_named (allows_null nullability) name.now }
 {
@@ -43,7 +43,7 @@ pub fn type_named(name: &str, nullability: Nullability) -> Option<DType>
 }
 
 /// The type that a word names, as types are written: `bool`, `utf8` or an integer type, nullable
-/// where a question mark ends it.
+/// with a question mark at the end.
 pub fn read_type(word: &str) -> Option<DType>
     ensures { option_map (λ t. type_of t) result ≡ type_of_word word.now }
 {

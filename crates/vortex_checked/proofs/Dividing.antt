@@ -1,4 +1,4 @@
--- Division by multiplication. The numbers have a bound b, the upper end of what a word holds.
+-- Division by multiplication, for numbers below a bound b.
 use Rattle.std.proofs.Common.{◌≡◌, ℕ, ◌+◌, ◌-◌, ◌*◌, ◌/◌, ◌<◌, ◌≤◌, arith, ap, ◌∙◌, ◌^◌, subst}
 use Rattle.std.proofs.Math.Nat.{le_of_mul-le-mul_right, lt_of_mul-lt-mul_right, mul-le-mul_right}
 use Rattle.std.proofs.Math.Nat.{mul-le-mul_left, div-mul-le_self, lt-div-mul-add, two-pow-succ}
@@ -15,7 +15,7 @@ quotient_between x t q h low high =
     let b : x / t < q + 1 = (div-lt_iff_lt-mul {k = t} {x = x} {y = q + 1} h).1 high in
     omega (arith, a, b)
 
--- what is below the bound is divided by multiplication
+-- division by multiplication, for numbers below the bound
 pub by_reciprocal : (n bound t d m : ℕ) → n < bound → IsReciprocal bound t d m
     → (n * m) / t ≡ n / d
 by_reciprocal n bound t d m h r =
@@ -119,7 +119,7 @@ top_power w a width some fits =
     subst (λ s. (2 ^ s ≤ a) × (a < 2 * 2 ^ s)) place
     (top.2, omega (arith, top.3, two-pow-succ top.0))
 
--- with an inverse whose highest bit, b, is added apart
+-- with an inverse whose highest bit, b, is added separately
 pub by_wide_reciprocal : (b n d m p : ℕ) → 0 < b → n < b → m < b
     → IsReciprocal b (2 * b * p) d (b + m)
     → (n * m / b + (n - n * m / b) / 2) / p ≡ n / d

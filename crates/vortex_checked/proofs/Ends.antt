@@ -1,4 +1,4 @@
--- The ends between which a product fits.
+-- The range of factors' operands within which a product fits.
 use Rattle.std.proofs.Common.{◌≡◌, ℕ, zero, suc, ◌*◌, ◌/◌, ◌<◌, ◌≤◌, ◌↔◌, ℤ, pos}
 use Rattle.std.proofs.Common.{negsuc, ◌*ℤ◌, ◌≤ℤ◌, neg_ℤ, refl, sym, subst, arith, Bool}
 use Rattle.std.proofs.Common.{true, false, Option, Some}
@@ -10,7 +10,7 @@ use Rattle.std.proofs.Math.IntN.{negsuc-*ℤ-pos, pos-*ℤ-negsuc, pos-*ℤ-pos,
 use Rattle.vortex_checked.specs.Exact.{IsWithin, HasResult, quotient}
 use Rattle.vortex_checked.specs.Factor.{AreEnds}
 
--- how the size of a product stands to the end of the type
+-- a product compared with the end of the type
 within : (n d m : ℕ) → 0 < d → (n ≤ m / d) ↔ (n * d ≤ m)
 within n d m h = le-div_iff_mul-le {k = d} {x = n} {y = m} h
 
@@ -84,7 +84,7 @@ abbrev pub IsQuotientOr : (least greatest : ℤ) → Option ℤ → (other z : �
 IsQuotientOr least greatest o other z =
     (HasResult least greatest o → Some z ≡ o) × (¬ HasResult least greatest o → z ≡ other)
 
--- the same, of numbers that are told otherwise
+-- the same for equal numbers
 pub told_so : (least greatest a b f o p z : ℤ) → a ≡ b → o ≡ p
     → IsQuotientOr least greatest (quotient a f) o z
     → IsQuotientOr least greatest (quotient b f) p z
@@ -92,7 +92,7 @@ told_so least greatest a b f o p z e d h =
     subst (λ (k : ℤ). IsQuotientOr least greatest (quotient b f) k z) d
     (subst (λ (k : ℤ). IsQuotientOr least greatest (quotient k f) o z) e h)
 
--- an end that the type does not hold gives way to the type's own
+-- an end outside the type is replaced by the type's own
 module _ (least greatest x : ℤ) (in_type : IsWithin least greatest x) where
   lower : (v z : ℤ) → v ≤ℤ greatest → IsQuotientOr least greatest (Some v) least z
       → (z ≤ℤ x) ↔ (v ≤ℤ x)
@@ -124,7 +124,7 @@ module _ (least greatest x : ℤ) (in_type : IsWithin least greatest x) where
           let same : z ≡ v = cc in
           (λ h. subst (λ (y : ℤ). x ≤ℤ y) same h, λ h. subst (λ (y : ℤ). x ≤ℤ y) (sym same) h)
 
--- the two of them
+-- both ends
 both_ends : {A B C D E : Type 0} → A ↔ B → C ↔ D → (B × D) ↔ E → (A × C) ↔ E
 both_ends a c e =
     (λ p. e.0 (a.0 p.0, c.0 p.1), λ p. let q = e.1 p in (a.1 q.0, c.1 q.1))

@@ -1,4 +1,4 @@
--- The evidence of a product of two numbers, in twice their bits.
+-- The overflow word of a product of two numbers, in twice their bits.
 use Rattle.std.proofs.Common.{◌≡◌, ℕ, zero, suc, ◌+◌, ◌-◌, ◌*◌, ◌/◌, ◌%◌, ◌<◌, ◌≤◌, ◌^◌, ◌*ℤ◌}
 use Rattle.std.proofs.Common.{refl, sym, ap, ◌∙◌, subst, arith, Bool, true, false, pos, negsuc, ℤ, FitsSigned, inl, inr}
 use Rattle.std.proofs.Common.{div-add-mod', mul-le-mul_left, mul-le-mul_right, cond}
@@ -15,7 +15,7 @@ use mir.ValLaws.{to_z-neg}
 use Rattle.vortex_checked.specs.Evidence.{is_nonzero}
 use Rattle.vortex_checked.specs.Exact.{sign_word, wide_evidence}
 
--- what the powers of two of a width and of one of twice its bits say of each other
+-- how the powers of two of a width and of twice that width are related
 pub record IsTwice (w wide : Width) : Type 0 where
   whole : 2 ^ bits w ≡ 2 ^ hbits w + 2 ^ hbits w
   some : 0 < 2 ^ hbits w
@@ -46,7 +46,7 @@ xor_differs a b e =
       bit_at-lt b i,
     ))
 
--- evidence that tells where two words differ
+-- a word that is nonzero where two words differ
 told : {P : Type 0} (a b : ℕ) → (a ≡ b → P) → (P → a ≡ b) → FalseIff (is_nonzero (bit_xor a b)) P
 told {P} a b there back = by (bit_xor a b) refl
   where
@@ -109,7 +109,7 @@ module _ (w wide : Width) (twice : IsTwice w wide) where
       subst (λ n. sign_word w (cast_signed w n) ≡ 2 ^ bits w - 1) back
       (ap (sign_word w) (to_z-neg w j small))
 
-  -- the evidence of a number by its bits in the whole width
+  -- the overflow word of a number, from its bits in the whole width
   abbrev of_bits : ℕ → ℕ
   of_bits m =
       bit_xor (m / 2 ^ bits w) (sign_word w (cast_signed w (m % 2 ^ bits w)))

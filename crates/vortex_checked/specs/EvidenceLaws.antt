@@ -1,4 +1,4 @@
--- Truth values and numbers serve as evidence.
+-- Truth values and numbers are fault flags.
 use Rattle.std.specs.Prelude.{◌≡◌, ℕ, zero, suc, Bool, true, false, not, ◌||◌, nat_eq, refl}
 use Rattle.std.specs.Bool.{⊤}
 use Rattle.std.proofs.Common.{sym, ap, ◌∙◌, arith}

@@ -1,4 +1,4 @@
--- A number that a type holds is left as it is in the type's bits.
+-- Wrapping keeps a number that the type holds.
 use Rattle.std.specs.Prelude.{◌≡◌, ℕ, suc, ◌-◌, ◌^◌, ℤ, pos, negsuc, refl, Option, Some, None}
 use Rattle.std.specs.Prelude.{int_lt, ◌||◌}
 use Rattle.std.proofs.Common.{ap, sym, arith, cond, true, false, Bool}
@@ -30,7 +30,7 @@ outside_not least greatest z h = by (int_lt z least) (int_lt greatest z) refl re
     by false true e f = absurd (omega (arith, ints, h.1, f))
     by false false e f = λ i. e i || f i
 
--- where the type holds the result, it is answered
+-- where the type holds the result, it is returned
 pub held_is : (least greatest : ℤ) (o : Option ℤ) → HasResult least greatest o
     → o ≡ Some (held_or_zero least greatest o)
 held_is least greatest None h = absurd h

@@ -1,9 +1,9 @@
-//! Arithmetic of integers that tells where the type does not hold the result.
+//! Integer arithmetic that reports where the type does not hold the result.
 
 use crate::failure::Failure;
 
-/// One of the eight integer types: values as they are left in the type's bits, and apart from them
-/// where the exact result is none that the type holds.
+/// One of the eight integer types. Values are wrapped to the type's bits; overflow is reported
+/// separately.
 pub trait CheckedArithmetic: Copy + Default + Drop {
     ghost use Rattle.std.specs.Prelude.{◌≡◌, ◌+ℤ◌, ◌-ℤ◌, ◌*ℤ◌, ℤ, pos, Some};
     ghost use Rattle.std.specs.Bool.{FalseIff};
@@ -17,10 +17,10 @@ pub trait CheckedArithmetic: Copy + Default + Drop {
 
     ghost greatest: { ℤ };
 
-    /// What is left of a number in the type's bits.
+    /// A number, wrapped to the type's bits.
     ghost wrapped: { ℤ → ℤ };
 
-    /// The evidence that a product answers.
+    /// The overflow flag of a product.
     ghost mul_evidence: { Self → Self → Self.MulFailure };
 
     /// The sum, wrapped.
@@ -43,7 +43,7 @@ pub trait CheckedArithmetic: Copy + Default + Drop {
     fn mul_value(self, rhs: Self) -> Self
         ensures { number result ≡ wrapped (number self *ℤ number rhs) };
 
-    /// Evidence that the type does not hold the product, the default where it does.
+    /// The overflow flag: the default exactly where the type holds the product.
     fn mul_failure(self, rhs: Self) -> Self::MulFailure
         ensures evidence { result ≡ mul_evidence self rhs }
         ensures fault { FalseIff (Self.MulFailure.is_fault result)
@@ -59,7 +59,7 @@ pub trait CheckedArithmetic: Copy + Default + Drop {
         ensures { FalseIff result
             (HasResult least greatest (quotient (number self) (number rhs))) };
 
-    /// A number that the type holds is left as it is.
+    /// Wrapping keeps a number that the type holds.
     ghost keeps: { (z : ℤ) → IsWithin least greatest z → wrapped z ≡ z };
 
     /// The default is zero.

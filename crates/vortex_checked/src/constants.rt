@@ -1,4 +1,4 @@
-//! Arithmetic of a type's numbers with one number, which is looked at before the rows.
+//! Arithmetic with a constant, which is precomputed before the rows.
 ghost use Rattle.std.specs.Prelude.{◌≡◌, IfSome, ℤ, int_lt, pos, Some};
 ghost use Rattle.vortex_checked.specs.Exact.{IsWithin, quotient};
 
@@ -19,7 +19,7 @@ pub trait Divisor<T: CheckedArithmetic>: Copy {
         ensures fits { IsWithin T.least T.greatest (T.number result) };
 }
 
-/// One of the eight integer types, beside a number that stands in each row.
+/// One of the eight integer types, with a constant operand.
 pub trait ConstantArithmetic: CheckedArithmetic {
     ghost use Rattle.std.specs.Prelude.{◌≡◌, IfSome, int_lt, pos};
     ghost use Rattle.vortex_checked.specs.Exact.{IsWithin};
@@ -40,7 +40,7 @@ pub trait ConstantArithmetic: CheckedArithmetic {
     fn divisor(self) -> Option<Self::Divisor>
         ensures { IfSome result (λ d. Self.Divisor.value d ≡ Self.number self) };
 
-    /// Zero lies between the ends of the type.
+    /// Zero is between the ends of the type.
     ghost holds_zero: { IsWithin Self.least Self.greatest (pos 0) };
 }
 

@@ -2,7 +2,7 @@
 ghost use Rattle.std.specs.Prelude.{◌≡◌, ◌+◌, ◌*◌, ◌/◌, ◌<◌, ◌≤◌, ◌^◌, pos, int_div, unsigned_abs};
 ghost use Rattle.vortex_checked.specs.Reciprocal.{IsReciprocal};
 
-/// The place of the highest bit of the number before the divisor.
+/// The position of the highest bit of `divisor - 1`.
 fn shift_of(divisor: u64) -> u32
     requires { 1 < divisor }
     ensures below { 2 ^ result < divisor }
@@ -12,7 +12,7 @@ fn shift_of(divisor: u64) -> u32
     63 - (divisor - 1).leading_zeros()
 }
 
-/// The same, of 32 bits.
+/// The same for 32 bits.
 fn shift_of_32(divisor: u32) -> u32
     requires { 1 < divisor }
     ensures below { 2 ^ result < divisor }
@@ -22,7 +22,7 @@ fn shift_of_32(divisor: u32) -> u32
     31 - (divisor - 1).leading_zeros()
 }
 
-/// A divisor of numbers of 64 bits, above 1. The inverse has a 65th bit, which stands in no field.
+/// A divisor of numbers of 64 bits, above 1. The inverse has a 65th bit, which is not stored.
 #[derive(Clone, Copy)]
 pub struct Divisor64 {
     divisor: u64,
@@ -94,7 +94,7 @@ impl SizeDivisor64 {
     }
 }
 
-/// A divisor of numbers of 32 bits, above 1. The inverse has a 33rd bit, which stands in no field.
+/// A divisor of numbers of 32 bits, above 1. The inverse has a 33rd bit, which is not stored.
 #[derive(Clone, Copy)]
 pub struct Divisor32 {
     divisor: u32,

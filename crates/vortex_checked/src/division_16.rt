@@ -3,7 +3,7 @@
 ghost use Rattle.std.specs.Prelude.{◌≡◌, ◌+◌, ◌*◌, ◌/◌, ◌<◌, ◌≤◌, ◌^◌, pos, int_div, unsigned_abs};
 ghost use Rattle.vortex_checked.specs.Reciprocal.{IsReciprocal};
 
-/// The place of the highest bit of the number before the divisor.
+/// The position of the highest bit of `divisor - 1`.
 fn shift_of_16(divisor: u16) -> u32
     requires { 1 < divisor }
     ensures below { 2 ^ result < divisor }
@@ -13,7 +13,7 @@ fn shift_of_16(divisor: u16) -> u32
     15 - (divisor - 1).leading_zeros()
 }
 
-/// A divisor of numbers of 16 bits, above 1. The inverse has a 17th bit, which stands in no field.
+/// A divisor of numbers of 16 bits, above 1. The inverse has a 17th bit, which is not stored.
 #[derive(Clone, Copy)]
 pub struct Divisor16 {
     divisor: u16,

@@ -1,4 +1,4 @@
-//! Products with one number.
+//! Products with a constant.
 ghost use Rattle.std.specs.Prelude.{◌≡◌, ◌*ℤ◌, Some};
 ghost use Rattle.std.specs.Bool.{FalseIff};
 ghost use Rattle.vortex_checked.specs.Exact.{IsWithin, HasResult, quotient};
@@ -7,7 +7,7 @@ ghost use Rattle.vortex_checked.specs.Factor.{AreEnds};
 use crate::arithmetic::CheckedArithmetic;
 use crate::constants::ConstantArithmetic;
 
-/// The quotient, where there is one that the type holds, else the other number.
+/// The quotient where there is one that the type holds, else the other number.
 fn quotient_or<T: CheckedArithmetic>(number: T, divisor: T, other: T) -> T
     ensures held { HasResult T.least T.greatest (quotient (T.number number) (T.number divisor))
         → Some (T.number result) ≡ quotient (T.number number) (T.number divisor) }
@@ -41,7 +41,7 @@ pub fn factor_ends<T: ConstantArithmetic>(factor: T) -> (T, T)
     }
 }
 
-/// The product, wrapped, and whether the type does not hold it, by the ends of the factor.
+/// The product, wrapped, and whether the type does not hold it, from the factor's range.
 #[inline(always)]
 pub fn bounded_product<T: ConstantArithmetic>(
     number: T,

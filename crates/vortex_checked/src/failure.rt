@@ -1,14 +1,14 @@
-//! Evidence of a fault, which is joined over rows.
+//! A fault flag, which is joined over rows.
 
 use std::ops::BitOrAssign;
 
-/// Evidence of a fault: the default where there is none. `|=` joins it over rows, so that a loop
-/// asks once.
+/// A fault flag: the default where there is no fault. `|=` joins flags over rows, so a loop tests
+/// once.
 pub trait Failure: Copy + Default + PartialEq + BitOrAssign {
     ghost use Rattle.std.specs.Prelude.{Bool};
     ghost use Rattle.vortex_checked.specs.Evidence.{IsEvidence};
 
-    /// Whether it tells of a fault.
+    /// Whether it is a fault.
     ghost is_fault: { Self → Bool };
 
     ghost evidence: { IsEvidence Self.is_default Self.eq Self.can_bitor_assign

@@ -1,21 +1,21 @@
-//! Quotients that are guessed by lanes of floats and checked by integers.
+//! Quotients, estimated in vectors of floats and verified in integers.
 //!
-//! Nothing is claimed of floats: a guess may be any number, and one that is off is told.
+//! Contracts say nothing about floats: an estimate may be any number, and a wrong one is detected.
 ghost use Rattle.std.specs.Prelude.{◌≡◌, ◌/◌, ◌<◌, length};
 ghost use Rattle.std.specs.Bool.{FalseIff};
 
 use crate::arithmetic::CheckedArithmetic;
 use std::simd::prelude::*;
 
-/// One of the integer types, whose quotients are guessed 64 at a time.
+/// An integer type whose quotients are estimated 64 at a time.
 pub trait GuessedDivision: CheckedArithmetic {
     ghost use Rattle.std.specs.Prelude.{◌≡◌, ◌<◌, false, length, Some};
     ghost use Rattle.vortex_checked.specs.Exact.{IsWithin, quotient};
 
-    /// Guesses at 64 quotients.
+    /// Estimates of 64 quotients.
     type Guesses: Drop;
 
-    /// Whether guesses are worth their time. Nothing is claimed of it.
+    /// Whether estimates are likely to pay off. Affects speed only.
     fn may_serve(lefts: &[Self], rights: &[Self]) -> bool {
         true
     }
@@ -24,8 +24,8 @@ pub trait GuessedDivision: CheckedArithmetic {
         requires left { length lefts.now ≡ 64 }
         requires right { length rights.now ≡ 64 };
 
-    /// The quotient, truncated toward zero, by the guess at a place; and whether that is off. Where
-    /// it is not, this is the quotient, which the type holds.
+    /// The quotient, truncated toward zero, from the estimate at an index, and whether that is
+    /// wrong. Where it is not, this is the quotient, which the type holds.
     fn by_guess(self, rhs: Self, guesses: &Self::Guesses, i: usize) -> (Self, bool)
         requires { i < 64 }
         ensures exact { result.1 ≡ false
@@ -33,10 +33,10 @@ pub trait GuessedDivision: CheckedArithmetic {
         ensures fits { IsWithin Self.least Self.greatest (Self.number result.0) };
 }
 
-/// Guesses at four quotients of up to 32 bits, as the low bits of the lanes.
+/// Estimates of four quotients of up to 32 bits, as the low bits of the lanes.
 ///
-/// A little less than a half is taken from a quotient, and 1.5 * 2^52 added, which rounds it to a
-/// whole number. What is no number gives way to 0.
+/// A little less than a half is subtracted from a quotient, and 1.5 * 2^52 added, which rounds it
+/// to a whole number. NaN is replaced by 0.
 #[inline(always)]
 fn low_bits_64(left: f64x4, right: f64x4) -> u64x4 {
     let less = left / right - f64x4::splat(0.49999904632568359375);
@@ -45,8 +45,8 @@ fn low_bits_64(left: f64x4, right: f64x4) -> u64x4 {
     sum.simd_gt(none).select(sum, none).to_bits()
 }
 
-/// The same, of up to 16 bits: 1.5 * 2^23 is added, and the quotient is made a little greater
-/// before a half is taken.
+/// The same for up to 16 bits: 1.5 * 2^23 is added, and the quotient is made a little greater
+/// before a half is subtracted.
 #[inline(always)]
 fn low_bits_32(left: f32x4, right: f32x4) -> u32x4 {
     let less = left / right * f32x4::splat(1.000003814697265625) - f32x4::splat(0.5);
@@ -62,14 +62,14 @@ fn sizes_of_32(numbers: i32x4) -> i32x4 {
     (numbers ^ signs) - signs
 }
 
-/// The same, of 16 bits.
+/// The same for 16 bits.
 #[inline(always)]
 fn sizes_of_16(numbers: i16x4) -> i16x4 {
     let signs = numbers >> i16x4::splat(15);
     (numbers ^ signs) - signs
 }
 
-/// The size of a number as a float, where one holds it for sure.
+/// The size of a number as a float, where a float holds it exactly.
 #[inline(always)]
 fn float_of_size(number: i64) -> f64 {
     let size = number.unsigned_abs();
@@ -102,7 +102,7 @@ fn is_off_8(left: u8, right: u8, guess: u8) -> bool
     u16::from(left).wrapping_sub(u16::from(guess) * divisor) >= divisor
 }
 
-/// The same, of 16 bits.
+/// The same for 16 bits.
 #[inline(always)]
 fn is_off_16(left: u16, right: u16, guess: u16) -> bool
     ensures { FalseIff result ((0 < right) × (left / right ≡ guess)) }
@@ -111,7 +111,7 @@ fn is_off_16(left: u16, right: u16, guess: u16) -> bool
     u32::from(left).wrapping_sub(u32::from(guess) * divisor) >= divisor
 }
 
-/// The same, of 32 bits.
+/// The same for 32 bits.
 #[inline(always)]
 fn is_off_32(left: u32, right: u32, guess: u32) -> bool
     ensures { FalseIff result ((0 < right) × (left / right ≡ guess)) }
@@ -120,7 +120,7 @@ fn is_off_32(left: u32, right: u32, guess: u32) -> bool
     u64::from(left).wrapping_sub(u64::from(guess) * divisor) >= divisor
 }
 
-/// The same, of 64 bits.
+/// The same for 64 bits.
 #[inline(always)]
 fn is_off_64(left: u64, right: u64, guess: u64) -> bool
     ensures { FalseIff result ((0 < right) × (left / right ≡ guess)) }

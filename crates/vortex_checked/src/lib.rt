@@ -1,4 +1,4 @@
-//! Checked arithmetic of one row: the value that an integer type holds, and evidence of a fault.
+//! Checked arithmetic on one value; overflow is a flag that a loop ORs together.
 #![tactic(auto)]
 
 pub mod arithmetic;

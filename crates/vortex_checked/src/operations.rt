@@ -1,4 +1,4 @@
-//! The four operations, each a type, so that one is chosen before the rows.
+//! The four operations, each a type, so that the operation is chosen once, before the rows.
 
 use crate::arithmetic::CheckedArithmetic;
 use crate::failure::Failure;
@@ -11,26 +11,26 @@ pub trait CheckedPrimitiveOp<T: CheckedArithmetic> {
 
     type Fail: Failure;
 
-    /// What a refusal says where the operation faults.
+    /// The operator that the error names where the operation faults.
     const ERROR: &'static str;
 
     /// The exact result, where there is one.
     ghost exact: { ℤ → ℤ → Option ℤ };
 
-    /// The number that is answered, also where the type does not hold the exact result.
+    /// The number that is returned, even where the type does not hold the exact result.
     ghost value: { ℤ → ℤ → ℤ };
 
-    /// What more is known of the evidence.
+    /// What else is known of the flag.
     ghost tells: { T → T → Self.Fail → Type 0 };
 
-    /// The value, and evidence: the default exactly where the type holds the exact result.
+    /// The value and the flag, which is the default exactly where the type holds the exact result.
     fn apply(left: T, right: T) -> (T, Self::Fail)
         ensures value { T.number result.0 ≡ value (T.number left) (T.number right) }
         ensures fault { FalseIff (Self.Fail.is_fault result.1)
             (HasResult T.least T.greatest (exact (T.number left) (T.number right))) }
         ensures evidence { tells left right result.1 };
 
-    /// Where the type holds the exact result, it is answered.
+    /// Where the type holds the exact result, it is returned.
     ghost answers: { (a b : ℤ) → HasResult T.least T.greatest (exact a b)
         → exact a b ≡ Some (value a b) };
 }

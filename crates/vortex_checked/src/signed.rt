@@ -14,7 +14,7 @@ fn upper_half(left: i64, right: i64) -> u64
     (product.cast_unsigned() >> 64) as u64
 }
 
-/// Each bit the sign of a number.
+/// A word whose bits are all the sign of a number.
 fn sign_word(number: i64) -> u64
     ensures { result ≡ sign_word w64 number }
 {

@@ -1,4 +1,4 @@
--- Sequences of which some values are still to be asked: one value further, into it and out again.
+-- Sequences with values that are still to be checked: one value further, into it, and out again.
 use Rattle.std.proofs.Common.{◌≡◌, ℕ, suc, ◌+◌, ◌<◌, ◌≤◌, ◌↔◌, All, List, [], ◌∷◌}
 use Rattle.std.proofs.Common.{◌++◌, Option, Some, None, IfSome, option_to_list, refl, sym, ap}
 use Rattle.std.proofs.Common.{◌∙◌, subst, arith, ⊎_elim, if◌then◌else◌}
@@ -23,7 +23,7 @@ use Rattle.vortex_columns.specs.ValueSizes.{value_size, size_from}
 use Rattle.vortex_columns.proofs.Copied.{from_next}
 use Rattle.vortex_columns.proofs.HaveTypes.{parts_typed}
 
--- what is left to ask means the same as the whole
+-- what is left to check means the same as the whole
 abbrev pub Mean : Asking → List Asking → Type 0 → Type 0
 Mean f fs Whole = (RestHave f × All RestHave fs) ↔ Whole
 
@@ -31,7 +31,7 @@ Mean f fs Whole = (RestHave f × All RestHave fs) ↔ Whole
 abbrev pub further : Asking → Asking
 further f = record { values = f.values; shape = f.shape; next = f.next + 1 }
 
--- what it reads is there, and nests no deeper
+-- what it reads is in range, and nests no deeper
 abbrev pub IsWithin : ℕ → Asking → Type 0
 IsWithin depth f = IsAsking f × (value_depth (sequence_value f.values) ≤ depth)
 
@@ -72,7 +72,7 @@ part_is f t v e d =
     (λ (u : LogicalType). HasType t v ↔ HasType u (row (sequence_values f.values) f.next)) e
     (subst (λ (w : Value). HasType t v ↔ HasType t w) d (λ h. h, λ h. h))
 
--- with a frame more, or with none
+-- with one more frame, or with none
 all_with : (P : Asking → Type 0) (fs : List Asking) (r : Option Asking)
     → (All P fs × IfSome r P) ↔ All P (fs ++ option_to_list r)
 all_with P fs None = (

@@ -1,4 +1,4 @@
--- The weight and the depth of a list of columns that grew, and of the fields of a struct.
+-- The weight and the depth of growing lists of columns, and of the fields of a struct.
 use Rattle.std.proofs.Common.{◌≡◌, ◌+◌, ◌*◌, ℕ, List, [], ◌∷◌, ◌++◌, arith, max, ap, map}
 use denote.Param.Weighed.{most}
 use Rattle.vortex_columns.specs.declared.column.Column.TheDeep.{size-Column}
@@ -28,14 +28,14 @@ pub deepest_append : (xs ys : List ColumnView)
 deepest_append [] ys = omega arith
 deepest_append (x ∷ xs) ys = omega (arith, deepest_append xs ys)
 
--- what a call for these columns counts down from
+-- the measure of a call for these columns
 pub sizes : (cs : List ColumnView) → most size-Column cs ≡ 3 * deepest cs
 sizes [] = omega arith
 sizes (c ∷ cs) = omega (arith, sizes cs)
 
 pub ruleset weights = (weights_push, deepest_push, weights_append, deepest_append)
 
--- the fields of a struct weigh what its type says
+-- the fields of a struct have the weight of its type
 pub field_weights : (n : ℕ) (fs : Fields) (cs : List ColumnView) → AreFields n fs cs
     → column_weights cs ≡ fields_weight fs
 field_weights n no_fields [] h = omega arith
@@ -44,7 +44,7 @@ field_weights n (field name t fs) (c ∷ cs) h =
 field_weights n no_fields (c ∷ cs) h = absurd h
 field_weights n (field name t fs) [] h = absurd h
 
--- rows that are taken have the same types
+-- taken rows have the same types
 pub weights_taken : (ps : List ℕ) (cs : List ColumnView)
     → column_weights (map (taken ps) cs) ≡ column_weights cs
 weights_taken ps [] = omega arith

@@ -46,7 +46,7 @@ then_equal Less = refl
 then_equal Equal = refl
 then_equal Greater = refl
 
--- the order of what stands in place k of two sequences
+-- the order of the values at index k of two sequences
 abbrev order_in_place : ℕ → Comparing → Ordering
 order_in_place k c =
     compare_values (row (sequence_values c.left) k) (row (sequence_values c.right) k)
@@ -68,7 +68,7 @@ at_end c =
     ap (λ o. ordering_then o c.on_equal)
     (compare_from_ends (sequence_values c.left) (sequence_values c.right))
 
--- two sequences inside, and then what is left
+-- two sequences inside, then what is left
 pub inside : (k : ℕ) (c : Comparing) (left right : Sequence) → k < shared c
     → sequence_value left ≡ row (sequence_values c.left) k
     → sequence_value right ≡ row (sequence_values c.right) k

@@ -1,4 +1,4 @@
--- The values around one that is being copied, and how much of the work is left.
+-- The values around one that is being copied, and how much work is left.
 use Rattle.std.proofs.Common.{◌≡◌, ℕ, zero, suc, ◌+◌, ◌<◌, ◌≤◌, List, [], ◌∷◌, ◌++◌, length, map}
 use Rattle.std.proofs.Common.{drop, Option, Some, Vec, Global, refl, sym, ap, ◌∙◌, arith}
 use Rattle.std.proofs.lemmas.List.{drop_more, append-nil, append_assoc, map-append, length-append}
@@ -13,12 +13,12 @@ use Rattle.vortex_columns.specs.ValueSizes.{value_size, values_size, size_from}
 use Rattle.vortex_columns.specs.declared.cell.Sequence.{Sequence}
 use Rattle.vortex_columns.specs.declared.cell.Copying.{Copying}
 
--- copies of the first values, and then the others
+-- copies of the first values, then the others
 abbrev pub focus : Sequence → List (Option ScalarValue) → Value
 focus s copies =
     list (values_of (map value_or_null copies ++ drop (length copies) (sequence_values s)))
 
--- the same with another value in the place that is being copied
+-- the same with another value at the index being copied
 abbrev pub around : Copying → Value → Value
 around f v =
     list
@@ -50,7 +50,7 @@ pub there_one_less : (fs : List Copying) (f : Copying) → AreThere (fs ++ f ∷
 there_one_less [] f h = (tt, h.0)
 there_one_less (x ∷ fs) f h = let r = there_one_less fs f h.1 in ((h.0, r.0), r.1)
 
--- a copy more
+-- one more copy
 filled : (xs : List (Option ScalarValue)) (x : Option ScalarValue) (vs : List Value)
     → map value_or_null (xs ++ x ∷ []) ++ drop (length (xs ++ x ∷ [])) vs
     ≡ map value_or_null xs ++ (value_or_null x ∷ drop (length xs + 1) vs)

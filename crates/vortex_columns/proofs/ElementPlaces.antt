@@ -1,4 +1,4 @@
--- The places of the elements of lists of one size, and what is gathered from places.
+-- Indices of the elements of lists of one size, and items gathered from indices.
 use Rattle.std.proofs.Common.{◌≡◌, ℕ, zero, suc, ◌+◌, ◌*◌, ◌<◌, ◌≤◌, ℤ, pos, Bool, false, List, []}
 use Rattle.std.proofs.Common.{◌∷◌}
 use Rattle.std.proofs.Common.{◌++◌}
@@ -20,7 +20,7 @@ use Rattle.vortex_columns.specs.Taken.{element_places}
 use Rattle.vortex_columns.proofs.ListParts.{length_part, part_row}
 use Rattle.vortex_columns.proofs.StoredRows.{one_more_fits}
 
--- what holds of each item holds of each that is gathered
+-- a property of each item holds for each gathered item
 pub all_gathered : {A : Type 0} (P : A → Type 0) (items : List A) (e : A) (places : List ℕ)
     → All (λ i. i < length items) places → All P items
     → All P (map (λ i. slice_index_or items i e) places)
@@ -30,7 +30,7 @@ all_gathered P items e places within all k d h =
     subst P (sym (get_or-map (λ i. slice_index_or items i e) places k 0 d here))
     (all (slice_index places k) e (within k 0 here))
 
--- a bit for each place is the bits at the places
+-- one bit for each index is the bits at the indices
 pub bits_at_places : (bits out : List Bool) (places : List ℕ)
     → AreRows (length places) (λ i. slice_index_or bits (slice_index places i) false) out
     → out ≡ map (λ i. slice_index_or bits i false) places
@@ -42,7 +42,7 @@ bits_at_places bits out places h =
     get_or_default out k d false b ∙ h.each k here
     ∙ sym (get_or-map (λ i. slice_index_or bits i false) places k 0 d here))
 
--- what holds at each place holds at the place of a loop
+-- a property at each index holds at a loop's index
 pub at_place : {C : Type 0} (P : ℕ → Type 0) (f : C → ℕ) (places : List C) (i : ℕ) (p : C)
     → All P (map f places) → i < length places → p ≡ slice_index_or places i p → P (f p)
 at_place P f places i p h b is =
@@ -89,7 +89,7 @@ element_places_within size (p ∷ ps) n count h e =
     omega (arith, get_or-range_with_len (size * p) size k d here, here, fits, e))
     (element_places_within size ps n count (All-tail (λ q. q < n) p ps h) e)
 
--- the same where each list's range is known to lie within the elements
+-- the same where each list's range is known to be within the elements
 pub element_places_lie : (size : ℕ) (places : List ℕ) (count : ℕ)
     → All (λ p. size * p + size ≤ count) places → All (λ i. i < count) (element_places size places)
 element_places_lie size [] count h = All-nil (λ i. i < count)
@@ -101,7 +101,7 @@ element_places_lie size (p ∷ ps) count h =
     omega (arith, get_or-range_with_len (size * p) size k d here, here, fits))
     (element_places_lie size ps count (All-tail (λ q. size * q + size ≤ count) p ps h))
 
--- the elements of one list, among those that are taken
+-- the elements of one list, among the taken ones
 pub elements_taken : (rows : List Value) (size : ℕ) (places : List ℕ) (j : ℕ) → j < length places
     → size * slice_index places j + size ≤ length rows
     → part (map (row rows) (element_places size places)) (size * j) size
@@ -129,7 +129,7 @@ elements_taken rows size places j h within =
     ∙ part_row rows (size * p) size k here
     ∙ get_or_default (take size (drop (size * p) rows)) k null d (omega (arith, count', here))))
 
--- one place more
+-- one more index
 pub range_more : (a n : ℕ)
     → range_with_len a (n + 1) ≡ range_with_len a n ++ (a + n) ∷ []
 range_more a n =
@@ -142,7 +142,7 @@ range_pushed xs ys a n so =
     ap (λ zs. zs ++ (a + n) ∷ []) so ∙ append_assoc xs (range_with_len a n) ((a + n) ∷ [])
     ∙ ap (λ zs. xs ++ zs) (sym (range_more a n))
 
--- integers that are gathered, by the number of each
+-- gathered integers, by their numbers
 pub ints_gathered : {A : Type 0} (f : A → ℤ) (xs ys : List A) (d : A) (ns : List ℤ)
     (places : List ℕ)
     → map f xs ≡ ns → All (λ i. i < length ns) places
@@ -154,7 +154,7 @@ ints_gathered f xs ys d ns places same within so =
     ap (map f) so ∙ map_gathered f xs d (pos 0) places within_xs
     ∙ ap (λ zs. map (λ i. slice_index_or zs i (pos 0)) places) same
 
--- one list more
+-- one more list
 element_places_push : (size : ℕ) (ps : List ℕ) (p : ℕ)
     → element_places size (ps ++ p ∷ []) ≡ element_places size ps ++ range_with_len (size * p) size
 element_places_push size [] p = append-nil (range_with_len (size * p) size)

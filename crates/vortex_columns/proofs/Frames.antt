@@ -18,7 +18,7 @@ module _ {F X : Type 0} (Fits : F → X → Type 0) (filled : F → X → X) whe
       let deeper = frame_popped gs f x h.0 h.1 in
       (deeper.0, (h.0, deeper.1, h.2, h.3))
 
-  -- what is opened leaves its frame behind the others
+  -- opening leaves a frame after the others
   pub frame_put : (fs gs : List F) (f : F) (x y whole : X) → y ≡ filled f x → gs ≡ fs ++ f ∷ []
       → Fits f x → Make Fits filled fs y whole → Make Fits filled gs x whole
   frame_put fs gs f x y whole is pushed fits h =
@@ -26,7 +26,7 @@ module _ {F X : Type 0} (Fits : F → X → Type 0) (filled : F → X → X) whe
       (frame_pushed fs f x whole fits
       (subst (λ (z : X). Make Fits filled fs z whole) is h))
 
-  -- and what is whole goes into the last of the frames
+  -- a finished item goes into the last of the frames
   pub frame_taken : (fs gs : List F) (f : F) (x y whole : X) → y ≡ x → fs ≡ gs ++ f ∷ []
       → Make Fits filled fs y whole → Fits f x × Make Fits filled gs (filled f x) whole
   frame_taken fs gs f x y whole is popped h =

@@ -67,7 +67,7 @@ entry_typed k v (list (value x (value y no_values))) = (
 )
 entry_typed k v (list (value x (value y (value z zs)))) = (λ h. h.1.1, λ h. absurd h)
 
--- a sequence has the type that its values make up
+-- a sequence has the type that its values determine
 pub parts_typed : (t : LogicalType) (vs : List Value)
     → (IsMadeOf t (length vs) × ((k : ℕ) → k < length vs → HasType (part_type t k) (row vs k)))
     ↔ HasType t (list (values_of vs))

@@ -1,4 +1,4 @@
--- Rows that are valid on both sides, and which rows a storage tells to be valid.
+-- Rows that are valid on both sides, and the valid rows of a storage.
 use Rattle.std.proofs.Common.{◌≡◌, ◌<◌, Bool, true, false, length, refl, sym, ap, ◌∙◌}
 use Rattle.std.proofs.Common.{[], arith}
 use Rattle.std.specs.Prelude.{◌||◌, not}
@@ -11,7 +11,7 @@ use Rattle.vortex_columns.specs.ColumnView.{ColumnView, row, AreTyped}
 use Rattle.vortex_columns.specs.ValidityView.{non_nullable}
 use Rattle.vortex_columns.specs.ValidRows.{IsJointValidity, either_nullable}
 
--- where neither type has null each row is valid
+-- where neither type has null, every row is valid
 pub valid_everywhere : (l r : ColumnView) → length l.rows ≡ length r.rows
     → AreTyped l.dtype l.rows → AreTyped r.dtype r.rows → either_nullable l r ≡ false
     → IsJointValidity (either_nullable l r) l r (record { form = non_nullable; bits = [] })

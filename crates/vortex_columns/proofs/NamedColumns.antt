@@ -14,7 +14,7 @@ abbrev tail_of : List LogicalType → List LogicalType
 tail_of [] = []
 tail_of (t ∷ ts) = ts
 
--- names beside the columns' types are named columns
+-- names paired with the columns' types are named columns
 pub named_types_of : (ns : List (String Global)) (ts : List DType) (cs : List ColumnView)
     → map type_of ts ≡ map (λ c. c.dtype) cs → named_types ns ts ≡ named_columns ns cs
 named_types_of [] ts cs h = refl

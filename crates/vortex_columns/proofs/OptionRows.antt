@@ -1,4 +1,4 @@
--- Values with a validity of bits are the rows of options.
+-- Values with a bit validity are rows of options.
 use Rattle.std.proofs.Common.{◌≡◌, ℕ, ◌<◌, ℤ, pos, Bool, true, false, List, [], ◌∷◌, Bor, map}
 use Rattle.std.proofs.Common.{length, refl}
 use Rattle.std.proofs.Common.{sym, ap}
@@ -102,7 +102,7 @@ module _ (r : Result ColumnView VortexError) (v : ValidityView) where
       (fits_options xs ns v (ap length ns_are ∙ length-map xs (λ o. unwrap_or o under)) v_is)
       (λ c e. e ∙ ints_are p f under xs ns v ns_are v_is) h
 
--- texts that stand for options, blank where there is none
+-- texts of options, blank for none
 texts_of_options : (under : Bor (List ℕ)) (xs : List (Option (Bor (List ℕ)))) → under.now ≡ []
     → lent_texts (map (λ o. unwrap_or o under) xs) ≡ map option_text xs
 texts_of_options under [] blank = refl

@@ -6,7 +6,7 @@ use Rattle.vortex_columns.specs.PairOrder.{ArePaired, order_from, size_left}
 use Rattle.vortex_columns.specs.declared.cell.order.Comparing.{Comparing}
 use Rattle.vortex_columns.proofs.Compare.{then_next, then_equal}
 
--- the order of what is left of them: the innermost are asked first
+-- their remaining order: the innermost first
 abbrev pub order_around : List Comparing → Ordering
 order_around [] = Equal
 order_around (c ∷ cs) = ordering_then (order_around cs) (order_from c)

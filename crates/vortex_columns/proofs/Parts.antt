@@ -1,4 +1,4 @@
--- What a column's parts are to its rows.
+-- A column's parts and its rows.
 use Rattle.std.proofs.Common.{◌≡◌, ℕ, zero, suc, ◌<◌, ℤ, Bool, true, false, not, List, [], ◌∷◌, map}
 use Rattle.std.proofs.Common.{length, refl, sym, ap, ◌∙◌, subst, arith}
 use Rattle.std.specs.Prelude.{slice_index_or, Option, Some, None, MatchOption}
@@ -31,7 +31,7 @@ pub match_weaker : {X : Type 0} (P Q : Type 0) (R S : X → Type 0) (o : Option 
 match_weaker P Q R S None f g h = f h
 match_weaker P Q R S (Some x) f g h = g x h
 
--- a column that is opened, whose storage has values
+-- an opened column, whose storage has values
 module _ (a : Inside) (c : ColumnView) (is : column_view a ≡ c) (ok : IsColumn a) (k : Kept)
     (v : ValidityView) (at : stored_of a.storage ≡ kept k v) where
   pub kept_here : AreKept (length c.rows) c.dtype (form_allows_null v.form) k
@@ -45,7 +45,7 @@ module _ (a : Inside) (c : ColumnView) (is : column_view a ≡ c) (ok : IsColumn
       → row c.rows i ≡ kept_at k i
   value_here i h valid = opened_value a c is i h valid ∙ ap (λ (s : Stored). value_at s i) at
 
--- a column of no values has none of these parts
+-- a column without values has none of these parts
 no_bits : (n : ℕ) (t : LogicalType) (m : Bool) (k : Kept) → AreKept n t m k → is_bool_type t ≡ true
     → KeptBits k
 no_bits n t m (bools bits) a h = tt
@@ -339,7 +339,7 @@ module _ (a : Inside) (c : ColumnView) (is : column_view a ≡ c) (ok : IsColumn
         },
       )
 
--- a constant column is seen as its scalar in each row
+-- a constant column's view is its scalar in each row
 pub constant_rows : (s : ScalarView) (n : ℕ)
     → rows_of n (constant_of s) ≡ map (λ i. s.value) (range_with_len 0 n)
 constant_rows s n = λ j. map (λ i. row_constant s i j) (range_with_len 0 n)

@@ -1,4 +1,4 @@
--- The rows of a column's storage, one by one, and those of a column that is opened.
+-- The rows of a column's storage, one by one, and those of an opened column.
 use Rattle.std.proofs.Common.{◌≡◌, ℕ, ◌+◌, ◌*◌, ◌<◌, ◌≤◌, suc, take, drop, pos, Bool, true, false}
 use Rattle.std.proofs.Common.{not, IsTrue, List, [], ◌∷◌, map, length, refl, sym, ap, ◌∙◌, subst}
 use Rattle.std.proofs.Common.{arith, cond}
@@ -114,7 +114,7 @@ constant_valid t (text bs) i = plain_valid (is_nullable t) i
 constant_valid t (bytes bs) i = plain_valid (is_nullable t) i
 constant_valid t (list vs) i = plain_valid (is_nullable t) i
 
--- a value that is not null stands in each valid row
+-- a value that is not null is in each valid row
 kept_value : (k : Kept) (i : ℕ) → is_null (kept_at k i) ≡ false
 kept_value (bools bits) i = refl
 kept_value (integers p ns) i = refl
@@ -152,7 +152,7 @@ row_valid s i h = ap (λ b. cond b (value_at s i) null) h
 pub row_null : (s : Stored) (i : ℕ) → is_valid_row (stored_validity s) i ≡ false → row_at s i ≡ null
 row_null s i h = ap (λ b. cond b (value_at s i) null) h
 
--- a row that is not null is the value there
+-- a row that is not null is the stored value
 pub row_value : (s : Stored) (i : ℕ) → is_null (row_at s i) ≡ false → row_at s i ≡ value_at s i
 row_value s i h = row_valid s i (valid_is s i ∙ ap not h)
 
@@ -179,7 +179,7 @@ record_typed n i (field name t fs) (c ∷ cs) h a = (
 record_typed n i no_fields (c ∷ cs) h a = absurd a
 record_typed n i (field name t fs) [] h a = absurd a
 
--- a value of a row has the type, a text if it is UTF-8
+-- a value of a row has the type; it is a text if it is UTF-8
 typed_kept : (n : ℕ) (t : LogicalType) (m : Bool) (k : Kept) (i : ℕ) → i < n → AreKept n t m k
     → IsTextAt i k → HasType t (kept_at k i)
 typed_kept n t m (bools bits) i h a x =
@@ -213,7 +213,7 @@ typed_kept n t m (maps k v offsets sizes) i h a x =
     (part_each (IsList (IsPair (HasType k.dtype) (HasType v.dtype))) (entries k.rows v.rows) _ _
     within (entries_typed (HasType k.dtype) (HasType v.dtype) k.rows v.rows a.3 a.5 a.6))
 
--- and null too where the type has it
+-- and null too if the type has it
 typed_null : (n : ℕ) (t : LogicalType) (m : Bool) (k : Kept) → AreKept n t m k → IsTrue m
     → HasType t null
 typed_null n t m (bools bits) a e = subst (λ (u : LogicalType). HasType u null) (sym a.0) e
@@ -276,7 +276,7 @@ constant_typed n t nulls ok = tt
 constant_typed n t (constant_of s) ok = ok.1
 constant_typed n t (kept k v) ok = tt
 
--- the same of a column that is opened
+-- the same for an opened column
 module _ (a : Inside) (c : ColumnView) (is : column_view a ≡ c) where
   pub opened_len : a.len ≡ length c.rows
   opened_len =

@@ -1,4 +1,4 @@
--- What is taken of a column's storage is the storage of the rows that are taken.
+-- Taken rows of a column's storage are the storage of the taken rows.
 use Rattle.std.proofs.Common.{◌≡◌, ℕ, ◌<◌, pos, Bool, false, List, [], ◌∷◌, map}
 use Rattle.std.proofs.Common.{length, refl, sym, ap, ◌∙◌, subst, arith, cond}
 use Rattle.std.specs.Prelude.{slice_index, slice_index_or, All}
@@ -99,7 +99,7 @@ bits_fit all_valid bits n ps h = tt
 bits_fit all_invalid bits n ps h = tt
 bits_fit array bits n ps h = length-map ps (λ i. slice_index_or bits i false)
 
--- whether a row that is taken is valid
+-- whether a taken row is valid
 valid_taken : (f : ValidityForm) (bits : List Bool) (ps : List ℕ) (j : ℕ) → j < length ps
     → is_valid_by f (taken_bits f ps bits) j ≡ is_valid_by f bits (slice_index ps j)
 valid_taken non_nullable bits ps j h = refl
@@ -131,7 +131,7 @@ is_stored_taken n t (kept k v) ps within a = (
       (a.2 (slice_index ps j) (within j 0 h) (sym (valid_taken v.form v.bits ps j h) ∙ valid)),
 )
 
--- the value of a row that is taken
+-- the value of a taken row
 fields_taken : (cs : List ColumnView) (ps : List ℕ) (j : ℕ) → j < length ps
     → map (λ c. row c.rows j) (map (taken ps) cs) ≡ map (λ c. row c.rows (slice_index ps j)) cs
 fields_taken [] ps j h = refl
@@ -198,7 +198,7 @@ form_taken nulls ps = refl
 form_taken (constant_of s) ps = refl
 form_taken (kept k v) ps = refl
 
--- what is read of a column that is opened
+-- what is read of an opened column
 module _ (a : Inside) (c : ColumnView) (is : column_view a ≡ c) (ok : IsColumn a) (ps : List ℕ)
     (within : All (λ p. p < length c.rows) ps) (k : Kept) (v : ValidityView)
     (at : stored_of a.storage ≡ kept k v)
@@ -214,7 +214,7 @@ module _ (a : Inside) (c : ColumnView) (is : column_view a ≡ c) (ok : IsColumn
     pub opened_reach : All (Reaches v) ps
     opened_reach j d h = (has_rows j d h).1
 
--- the same of a column that is opened: what is made of its type and of what is taken of its storage
+-- the same for an opened column: made of its type and of what is taken of its storage
 module _ (a : Inside) (c : ColumnView) (is : column_view a ≡ c) (ok : IsColumn a) (ps : List ℕ)
     (within : All (λ p. p < length c.rows) ps) (t : LogicalType) (same : t ≡ type_of a.dtype)
     (n : ℕ) (count : n ≡ length ps) (s : Stored) (so : s ≡ taken_stored ps (stored_of a.storage))

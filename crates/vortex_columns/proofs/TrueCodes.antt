@@ -1,4 +1,4 @@
--- The numbers of the rows that are true, one row more at a time.
+-- The row numbers of the true rows, one more row at a time.
 use Rattle.std.proofs.Common.{◌≡◌, ℕ, ◌+◌, ◌<◌, ◌++◌, ◌∷◌, Bool, true, false, List, [], length}
 use Rattle.std.proofs.Common.{ap, sym, ◌∙◌, subst, arith}
 use Rattle.std.specs.Prelude.{All, cond}
@@ -45,7 +45,7 @@ among_below n rows = All-filter _ (λ code. code < n) (range_with_len 0 n) below
         subst (λ m. m < n) (sym (get_or-range_with_len 0 n k d k_in))
         (omega (arith, k_in))
 
--- the same of a list that is said to be theirs
+-- the same for a list that is claimed to be them
 pub are_rows : (rows : List Value) (n : ℕ) (codes : List ℕ) → length rows ≡ n
     → codes ≡ true_among n rows → All (λ code. code < length rows) codes
 are_rows rows n codes count is =

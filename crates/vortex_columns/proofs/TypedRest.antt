@@ -1,4 +1,4 @@
--- The rows behind a first one have the type that all have.
+-- The rows after a first one have the common type.
 use Rattle.std.proofs.Common.{◌≡◌, List, ◌∷◌, subst}
 use Rattle.std.specs.Prelude.{All}
 use Rattle.std.proofs.lemmas.List.Elements.{All-tail}

@@ -1,5 +1,4 @@
--- The texts of the values around one that is being written, as far as they are still to come, and
--- how much of the work is left.
+-- The remaining texts of the values around one that is being written, and how much work is left.
 use Rattle.std.proofs.Common.{◌≡◌, ℕ, zero, suc, ◌+◌, ◌<◌, ◌≤◌, List, [], ◌∷◌, ◌++◌, length, drop}
 use Rattle.std.proofs.Common.{get_or, refl, sym, ap, ◌∙◌, arith, append_assoc, add-one, Bool}
 use Rattle.std.specs.List.{flat_map}
@@ -23,17 +22,17 @@ use Rattle.vortex_columns.proofs.Copied.{from_next}
 use Rattle.vortex_columns.proofs.ValueTexts.{value_texts-length, value_text_at}
 use Rattle.vortex_columns.proofs.ValueTexts.{field_texts-length, field_text_at}
 
--- the texts of the values in a list, a map or a struct: of a struct each after its field's name
+-- the texts of the values in a list, a map or a struct; in a struct each follows its field's name
 abbrev pub inner_texts : Bool → LogicalType → List Value → List (List ℕ)
 inner_texts typed (struct_type fs n) vs = field_texts typed fs (values_of vs)
 inner_texts typed t vs = value_texts typed (element_type t) (values_of vs)
 
--- those from place k on, behind the others
+-- those from index k on, after the others
 abbrev pub joined_from : ℕ → List (List ℕ) → List ℕ
 joined_from zero texts = joined comma texts
 joined_from (suc k) texts = flat_map (λ (t : List ℕ). comma ++ t) (drop (suc k) texts)
 
--- what is still to come of one of them
+-- the remaining text of one of them
 abbrev pub rest : Bool → Writing → List ℕ
 rest typed f =
     joined_from f.next (inner_texts typed (shape_type f.shape) (sequence_values f.values))
@@ -48,7 +47,7 @@ abbrev pub AreThere : List Writing → Type 0
 AreThere [] = Unit {0}
 AreThere (f ∷ fs) = IsSequence f.values × AreThere fs
 
--- one value more is written
+-- one more value is written
 abbrev pub after_next : Writing → Writing
 after_next f = record { values = f.values; shape = f.shape; next = f.next + 1 }
 
@@ -146,7 +145,7 @@ from_end texts (suc k) h =
     ap (λ (ys : List (List ℕ)). flat_map (λ (y : List ℕ). comma ++ y) ys)
     (drop_all (suc k) texts h)
 
--- one value more, of any kind
+-- one more value, of any kind
 pub one_written : (typed : Bool) (f : Writing) (old more last tail : List ℕ)
     → f.next < count_written (shape_type f.shape) (sequence_values f.values)
     → more ≡ old
@@ -189,7 +188,7 @@ one_written typed f old more last tail h e g =
         ≡ a ++ (((s ++ ((n ++ x) ++ j)) ++ c) ++ z)
     regrouped a s n x j c z = simp append_assoc refl
 
--- a sequence of which nothing is written but the bracket before it
+-- a sequence of which only the opening bracket is written
 abbrev pub at_start : Sequence → Shape → Writing
 at_start values shape = record { values = values; shape = shape; next = 0 }
 
@@ -234,7 +233,7 @@ entered typed fs f inner shape old more last h same ty e g =
     (rests typed fs) h e
     (λ i. more ++ value_text typed (ty i) (same i))
 
--- nothing but the bracket is left
+-- only the bracket is left
 only_bracket : (typed : Bool) (f : Writing)
     → count_written (shape_type f.shape) (sequence_values f.values) ≤ f.next
     → rest typed f ≡ closing (shape_type f.shape)
@@ -273,7 +272,7 @@ pub finished : (typed : Bool) (f : Writing) (old last : List ℕ)
     → last ≡ old ++ (rest typed f ++ [])
 finished typed f old last h e = sym (append-nil last) ∙ ended typed f old last [] h e
 
--- how many steps the sequences around take
+-- how many steps the enclosing sequences take
 abbrev pub size_around : List Writing → ℕ
 size_around [] = 0
 size_around (f ∷ fs) = suc (size_from f.next f.values) + size_around fs

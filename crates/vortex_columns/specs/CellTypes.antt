@@ -1,4 +1,4 @@
--- What it takes for the values that a cell lends to have types.
+-- The condition for the values of a cell to have types.
 use Rattle.std.specs.Prelude.{◌≡◌, ℕ}
 use Rattle.vortex_types.specs.LogicalTypes.{LogicalType}
 use Rattle.vortex_types.specs.Values.{Value, Values, values_of, value_count}
@@ -16,6 +16,6 @@ ArePair key value = IsPair (HasType key) (HasType value)
 abbrev pub IsEntryOf : LogicalType → LogicalType → Value → Type 0
 IsEntryOf key value = IsList (ArePair key value)
 
--- so many values, each of the type
+-- that many values, each of the type
 abbrev pub AreSoMany : ℕ → LogicalType → Values → Type 0
 AreSoMany n t vs = (value_count vs ≡ n) × Each (HasType t) vs

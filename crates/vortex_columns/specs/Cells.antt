@@ -1,4 +1,4 @@
--- The value that a cell stands for.
+-- The value that a cell represents.
 use Rattle.std.specs.Prelude.{◌≡◌, ◌+◌, ◌<◌, ◌≤◌, List, [], ◌∷◌, map, take, drop, length, All}
 use Rattle.std.specs.Prelude.{IsUtf8}
 use Rattle.vortex_types.specs.Values.{Value, null, truth, number, text, bytes, list, values_of}
@@ -29,7 +29,7 @@ cell_value (cell.Text bs) = text bs.now
 cell_value (cell.Bytes bs) = bytes bs.now
 cell_value (cell.Sequence s) = sequence_value s
 
--- what it reads is there
+-- what it reads is in range
 abbrev pub IsSequence : Sequence → Type 0
 IsSequence (Items items) = Unit {0}
 IsSequence (Fields fields i) = All (λ c. i < length c.rows) fields.now.items

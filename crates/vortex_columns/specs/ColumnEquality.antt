@@ -1,5 +1,5 @@
--- When two columns are equal: of equal types, nullability included, with equal values row by row.
--- In which form they hold them, and what lies under their nulls, makes no difference.
+-- When two columns are equal: equal types, nullability included, and equal values row by row. The
+-- storage form, and bytes under nulls, do not matter.
 use Rattle.std.specs.Prelude.{◌≡◌, Bool, true, false, ◌&&◌, List, refl}
 use Rattle.std.proofs.Common.{ap, sym, ◌∙◌}
 use Rattle.std.specs.Bool.{Decides}
@@ -29,7 +29,7 @@ value_eq-decides v w = (
       ∙ (Equal-is _).1 (equals_are_same.equal v),
 )
 
--- of a column, what its equality asks
+-- the part of a column that equality compares
 abbrev Asked : Type 0
 Asked = LogicalType × List Value
 

@@ -1,4 +1,5 @@
--- How many columns a column is made of at most, and how deep they lie: both are seen of its type.
+-- An upper bound on how many columns a column is made of, and on their depth: both follow from its
+-- type.
 use Rattle.std.specs.Prelude.{ℕ, suc, ◌+◌, List, [], ◌∷◌, max, Option, Some, None}
 use denote.Param.Weighed.{most}
 use Rattle.vortex_types.specs.LogicalTypes.{LogicalType, null_type, bool_type, integer_type}

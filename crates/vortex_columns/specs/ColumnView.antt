@@ -1,5 +1,5 @@
--- What is seen of a column: its type, its rows, the scalar that it is a constant of, if any, and
--- the form of its validity. What lies under a null is not seen.
+-- The view of a column: its type, its rows, the scalar if it is a constant, and the form of its
+-- validity. What is under a null is not part of the view.
 use Rattle.std.specs.Prelude.{◌≡◌, ℕ, zero, suc, ◌+◌, ◌*◌, ◌<◌, ◌≤◌, ℤ, pos, Bool, true, false}
 use Rattle.std.specs.Prelude.{not, if◌then◌else◌, Option, Some, None, IfSome, refl, String}
 use Rattle.std.specs.Prelude.{string_bytes}
@@ -38,18 +38,18 @@ AreTyped t = All (HasType t)
 abbrev pub valid_rows : List Value → List Bool
 valid_rows = map (λ v. not (is_null v))
 
--- the validity tells of each row whether it is null
+-- the validity marks exactly the null rows
 abbrev pub TellsNulls : List Value → ValidityView → Type 0
 TellsNulls rows v = (i : ℕ) → i < length rows → is_valid_row v i ≡ not (is_null (row rows i))
 
--- the form of a column's validity tells truly whether this value of it is null
+-- the form of a column's validity is right about whether this value is null
 abbrev pub FormTells : ValidityForm → Value → Type 0
 FormTells non_nullable v = is_null v ≡ false
 FormTells all_valid v = is_null v ≡ false
 FormTells all_invalid v = is_null v ≡ true
 FormTells array v = Unit {0}
 
--- the form tells truly of each row, and the scalar that the column is a constant of has its type
+-- the form is right for each row, and the scalar of a constant column has its type
 abbrev pub TellsTruly : ColumnView → Type 0
 TellsTruly c =
     ((i : ℕ) → i < length c.rows → FormTells c.form (row c.rows i))
@@ -59,7 +59,7 @@ TellsTruly c =
 abbrev pub scalar_in : ColumnView → ℕ → ScalarView
 scalar_in c i = record { dtype = c.dtype; value = row c.rows i }
 
--- the same value in each row: null, or valid in a type that has null or not
+-- the same value in each row: null, or valid, in a type that has null or not
 abbrev pub constant_form : LogicalType → Value → ValidityForm
 constant_form t null = all_invalid
 constant_form t v = if is_nullable t then all_valid else non_nullable
@@ -88,7 +88,7 @@ null_column n =
 abbrev pub IsUnlessNull : Value → Value → Type 0
 IsUnlessNull v w = is_null v ≡ false → v ≡ w
 
--- a column of truth values that is no constant
+-- a column of truth values, not constant
 pub record HasBits (c : ColumnView) : Type 0 where
   pub bool : is_bool_type c.dtype ≡ true
   pub computed : c.constant ≡ None
@@ -99,7 +99,7 @@ pub record AreBits (c : ColumnView) (bits : List Bool) : Type 0 where
   pub each : (i : ℕ) → i < length bits
       → IsUnlessNull (row c.rows i) (truth (slice_index_or bits i false))
 
--- a column of integers of one type that is no constant
+-- a column of integers of one type, not constant
 abbrev pub IsIntegerType : PType → LogicalType → Type 0
 IsIntegerType p (integer_type q n) = q ≡ p
 IsIntegerType p t = ⊥
@@ -114,7 +114,7 @@ pub record AreInts (c : ColumnView) (ns : List ℤ) : Type 0 where
   pub each : (i : ℕ) → i < length ns
       → IsUnlessNull (row c.rows i) (number (slice_index_or ns i (pos 0)))
 
--- texts or bytes that are no constant
+-- texts or bytes, not constant
 abbrev pub is_bytes_like : LogicalType → Bool
 is_bytes_like (text_type n) = true
 is_bytes_like (bytes_type n) = true
@@ -154,12 +154,12 @@ abbrev pub entries : List Value → List Value → List Value
 entries (k ∷ ks) (v ∷ vs) = entry k v ∷ entries ks vs
 entries ks vs = []
 
--- each list lies within so many elements
+-- each list is within that many elements
 abbrev pub LieWithin : ℕ → List ℕ → List ℕ → Type 0
 LieWithin count offsets sizes = (i : ℕ) → i < length offsets
     → slice_index offsets i + slice_index sizes i ≤ count
 
--- the names and types of columns under these names
+-- names and types of columns under these names
 abbrev pub named_columns : List (String Global) → List ColumnView → Fields
 named_columns (n ∷ ns) (c ∷ cs) = field (string_bytes n) c.dtype (named_columns ns cs)
 named_columns ns cs = no_fields
@@ -172,7 +172,7 @@ abbrev pub value_in : ℕ → Value → Value
 value_in k (list vs) = nth_value k vs
 value_in k v = null
 
--- a struct column that is no constant and has this field
+-- a struct column, not constant, that has this field
 pub record HasField (k : ℕ) (c : ColumnView) : Type 0 where
   pub present : k < field_count (fields_in c.dtype)
   pub computed : c.constant ≡ None
@@ -196,12 +196,12 @@ abbrev pub is_map_type : LogicalType → Bool
 is_map_type (map_type k v n) = true
 is_map_type t = false
 
--- a column of that kind that is no constant
+-- a column of that kind, not constant
 pub record HasKind (test : LogicalType → Bool) (c : ColumnView) : Type 0 where
   pub kind : test c.dtype ≡ true
   pub computed : c.constant ≡ None
 
--- each row that is not null is the list at its place among the elements
+-- each row that is not null is the list at its range of the elements
 pub record AreLists (c : ColumnView) (e : ColumnView) (offsets sizes : List ℕ) : Type 0 where
   pub dtype : c.dtype ≡ list_type e.dtype (is_nullable c.dtype)
   pub offset_count : length offsets ≡ length c.rows

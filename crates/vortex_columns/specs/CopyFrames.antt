@@ -1,5 +1,5 @@
--- A column whose copy has begun: a frame for each column of which some parts are copied and one is
--- still to come.
+-- A column that is being copied: a frame for each column with some parts copied and one still to
+-- come.
 use Rattle.std.specs.Prelude.{ℕ, ◌+◌, ◌*◌, ◌∷◌, ◌++◌}
 use Rattle.vortex_types.specs.TypeOf.{type_of}
 use Rattle.vortex_columns.specs.ColumnView.{ColumnView}
@@ -27,7 +27,7 @@ stored_view h s =
       form = (stored_validity s).form;
     }
 
--- what is kept once the hole is filled
+-- the result once the hole is filled
 abbrev pub plugged : Hole → ColumnView → Kept
 plugged (Field copies rest) c = structs (copies.items ++ c ∷ rest.now)
 plugged (Element alloc offsets sizes) c = lists c offsets.items sizes.items

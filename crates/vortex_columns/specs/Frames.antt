@@ -1,4 +1,4 @@
--- Frames that wait on the heap for what stands inside them, the outermost first.
+-- Frames on the heap that wait for what is inside them, the outermost first.
 use Rattle.std.specs.Prelude.{◌≡◌, ℕ, ◌+◌, List, [], ◌∷◌}
 
 -- what fits a frame, and what the frame makes of it

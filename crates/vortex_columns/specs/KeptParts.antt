@@ -1,4 +1,4 @@
--- The parts of values that are kept, kind by kind.
+-- The parts of stored values, kind by kind.
 use Rattle.std.specs.Prelude.{◌≡◌, ℕ, ◌<◌, length, List, [], slice_index_or}
 use Rattle.vortex_types.specs.declared.dtype.PType.{PType}
 use Rattle.vortex_columns.specs.Stored.{Kept, bools, integers, texts, byte_strings, structs, lists}

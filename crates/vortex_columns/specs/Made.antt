@@ -1,4 +1,4 @@
--- What the constructors of columns take, and the columns that they make.
+-- The arguments of constructors of columns, and the columns that they make.
 use Rattle.std.specs.Borrow.{Bor}
 use Rattle.std.specs.Prelude.{◌≡◌, ℕ, ◌*◌, ℤ, pos, List, [], map, length}
 use Rattle.std.specs.Prelude.{◌<◌, true, IsUtf8, String, string_bytes, Vec, slice_index}
@@ -44,7 +44,7 @@ texts_of ts = map string_bytes ts
 abbrev pub MakeTexts : List (String Global) → ValidityView → Type 0
 MakeTexts ts v = FitsRows v (length ts) × HaveRoom (texts_of ts)
 
--- texts that lie elsewhere
+-- texts that are in other buffers
 abbrev pub lent_texts : List (Bor (List ℕ)) → List (List ℕ)
 lent_texts ts = map (λ t. t.now) ts
 
@@ -63,7 +63,7 @@ MakeByteStrings bs v = FitsRows v (length bs) × HaveRoom (byte_strings_of bs)
 abbrev pub byte_string_column : List (Vec ℕ Global) → ValidityView → ColumnView
 byte_string_column bs v = byte_string_rows (byte_strings_of bs) v
 
--- views that lie among buffers, of texts in the rows that are not null
+-- views that are valid for buffers, of texts in the rows that are not null
 abbrev pub MakeTextViews : List BinaryView → List (Vec ℕ Global) → ValidityView → Type 0
 MakeTextViews views buffers v =
     AreViewsIn (byte_strings_of buffers) views

@@ -11,7 +11,7 @@ abbrev pub option_row : {A : Type 0} → (A → Value) → Option A → Value
 option_row f (Some x) = f x
 option_row f None = null
 
--- a set bit for each value that is there
+-- a set bit for each value that is present
 abbrev pub option_validity : {A : Type 0} → List (Option A) → ValidityView
 option_validity xs = record { form = array; bits = map is_some xs }
 
@@ -25,7 +25,7 @@ optional_bools = option_column (bool_type true) truth
 abbrev pub optional_ints : {A : Type 0} → PType → (A → ℤ) → List (Option A) → ColumnView
 optional_ints p f = option_column (integer_type p true) (λ x. number (f x))
 
--- the bytes of a text, and none where there is none
+-- the bytes of a text, and no bytes for none
 abbrev pub option_text : Option (Bor (List ℕ)) → List ℕ
 option_text (Some t) = t.now
 option_text None = []

@@ -1,4 +1,4 @@
--- The order of two sequences that are compared from a place on, and how much of them is left.
+-- The order of two sequences from an index on, and how much of them is left.
 use Rattle.std.specs.Prelude.{ℕ, suc, ◌+◌, ◌≤◌, List, [], drop, length, min, Option, Some, None}
 use Rattle.std.specs.Prelude.{Vec}
 use Rattle.std.specs.Global.{Global}
@@ -13,7 +13,7 @@ use Rattle.vortex_columns.specs.declared.cell.order.Found.{Found}
 use Rattle.vortex_columns.specs.declared.cell.order.Found.TheVariants.{Order, Last, Before}
 use Rattle.vortex_columns.specs.declared.cell.order.Around.{Around}
 
--- the values of two lists from place k on
+-- the values of two lists from index k on
 abbrev pub compare_from : ℕ → List Value → List Value → Ordering
 compare_from k vs ws = compare_lists (values_of (drop k vs)) (values_of (drop k ws))
 
@@ -30,7 +30,7 @@ on_end c =
     ordering_then (nat_cmp (length (sequence_values c.left)) (length (sequence_values c.right)))
     c.on_equal
 
--- how many places have a value of both
+-- how many indices have a value on both sides
 abbrev pub shared : Comparing → ℕ
 shared c = min (length (sequence_values c.left)) (length (sequence_values c.right))
 

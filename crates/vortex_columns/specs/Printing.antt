@@ -12,7 +12,7 @@ use Rattle.vortex_types.specs.Values.{Value, null, truth, number, text, bytes, l
 use Rattle.vortex_types.specs.Values.{Values, no_values, value}
 use Rattle.vortex_columns.specs.ColumnView.{ColumnView}
 
--- what follows a whole number: its type, nullable or not, where numbers are typed
+-- what follows a whole number: its type, nullable or not, if numbers are typed
 abbrev pub number_suffix : Bool → LogicalType → List ℕ
 number_suffix true (integer_type p n) = ptype_text p
 number_suffix typed t = []

@@ -1,5 +1,5 @@
--- How far the question has come whether a value has its type: sequences of which the first values
--- are asked, each with the type of the whole.
+-- The state of a type check of a value: sequences whose first values are checked, each with the
+-- type of the whole.
 use Rattle.std.specs.Prelude.{◌≡◌, ℕ, ◌<◌, ◌≤◌, nat_lt, if◌then◌else◌, Bool, List, [], ◌++◌}
 use Rattle.std.specs.Prelude.{length, Option, Some, None, option_to_list, Vec}
 use Rattle.std.specs.declared.alloc.Global.{Global}
@@ -19,7 +19,7 @@ abbrev pub HasSingleType : LogicalType → Value → Type 0
 HasSingleType t (list vs) = ⊥
 HasSingleType t v = HasType t v
 
--- a value of the type can be made of so many
+-- a value of the type can have that many values
 abbrev pub IsMadeOf : LogicalType → ℕ → Type 0
 IsMadeOf (struct_type fs n) count = count ≡ field_count fs
 IsMadeOf (list_type t n) count = Unit {0}
@@ -27,7 +27,7 @@ IsMadeOf (fixed_size_list_type t s n) count = count ≡ s
 IsMadeOf (map_type k v n) count = Unit {0}
 IsMadeOf t count = ⊥
 
--- and the value in place k has this type
+-- and the value at index k has this type
 abbrev pub part_type : LogicalType → ℕ → LogicalType
 part_type (struct_type fs n) k = field_type k fs
 part_type t k = element_type t
@@ -38,7 +38,7 @@ asked_count f = length (sequence_values f.values)
 abbrev pub IsAsking : Asking → Type 0
 IsAsking f = IsSequence f.values × IsMadeOf (shape_type f.shape) (asked_count f)
 
--- nothing is asked of it yet
+-- nothing is checked yet
 abbrev pub IsOpened : Asking → Sequence → LogicalType → Type 0
 IsOpened f s t =
     IsAsking f × (f.next ≡ 0) × (f.values ≡ s) × (shape_type f.shape ≡ t)
@@ -46,7 +46,7 @@ IsOpened f s t =
 abbrev pub PartHasType : Asking → ℕ → Type 0
 PartHasType f k = HasType (part_type (shape_type f.shape) k) (row (sequence_values f.values) k)
 
--- each value that is still to be asked has its type
+-- each value that is still to be checked has its type
 abbrev pub RestHave : Asking → Type 0
 RestHave f = (k : ℕ) → f.next ≤ k → k < asked_count f → PartHasType f k
 
@@ -57,6 +57,6 @@ abbrev pub frames_in : Option (Vec Asking Global) → List Asking
 frames_in None = []
 frames_in (Some frames) = frames.items
 
--- it stands behind the others, unless nothing is left of it
+-- pushed after the others, unless nothing is left of it
 abbrev pub LiesBehind : Bool → Asking → List Asking → List Asking → Type 0
 LiesBehind lies f old new = new ≡ (if lies then old ++ option_to_list (with_rest f) else old)

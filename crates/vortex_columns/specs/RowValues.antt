@@ -1,4 +1,4 @@
--- The values that rows of Rust's own values stand for: null where there is none.
+-- The values of rows that are given as Rust's values: null for none.
 use Rattle.std.specs.Borrow.{Bor}
 use Rattle.std.specs.Prelude.{ℕ, ℤ, Bool, List, Option}
 use Rattle.vortex_types.specs.Values.{Value, truth, number, text}

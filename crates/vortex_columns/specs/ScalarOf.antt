@@ -1,4 +1,4 @@
--- The scalars that are made of plain values, of types that have no null.
+-- Scalars made from plain values, of types without null.
 use Rattle.std.specs.Prelude.{ℕ, ℤ, Bool, false, List}
 use Rattle.vortex_types.specs.declared.dtype.PType.{PType}
 use Rattle.vortex_types.specs.LogicalTypes.{bool_type, integer_type, text_type}

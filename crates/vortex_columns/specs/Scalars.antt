@@ -1,4 +1,4 @@
--- How a scalar's parts are seen.
+-- The view of a scalar's parts.
 use Rattle.vortex_columns.specs.declared.scalar.Scalar.TheInside.{Inside}
 use Rattle.vortex_types.specs.Typing.{HasType}
 use Rattle.vortex_types.specs.TypeOf.{type_of}

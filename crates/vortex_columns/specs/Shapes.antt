@@ -1,4 +1,4 @@
--- The type that a `Shape` stands for, and the fields of a struct.
+-- The type of a `Shape`, and the fields of a struct.
 use Rattle.std.specs.Prelude.{Bool, true, false}
 use Rattle.vortex_types.specs.LogicalTypes.{LogicalType, struct_type}
 use Rattle.vortex_types.specs.TypeOf.{type_of}

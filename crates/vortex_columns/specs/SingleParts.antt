@@ -1,4 +1,5 @@
--- What a value that is no sequence holds: its number, its text, its bytes; none of another value.
+-- The content of a value that is no sequence: its number, its text, its bytes; none for other
+-- values.
 use Rattle.std.specs.Prelude.{ℕ, ℤ, List, Option, Some, None}
 use Rattle.vortex_types.specs.Values.{Value, number, text, bytes}
 

@@ -1,6 +1,6 @@
--- How a column's parts are seen. What is seen of its storage is a function of `Stored`, which
--- forgets where lists lie: so a
--- copy of a storage is seen as its source.
+-- The view of a column's parts. The view of its storage is a function of `Stored`, which does
+-- not contain where lists are stored, so a
+-- copy of a storage has the view of its source.
 use Rattle.std.specs.Prelude.{◌≡◌, ℕ, ◌+◌, ◌*◌, ◌<◌, ◌≤◌, ℤ, pos, Bool, true, false, List, [], ◌∷◌}
 use Rattle.std.specs.Prelude.{map, length, String, slice_index, slice_index_or}
 use Rattle.std.specs.Prelude.{if◌then◌else◌, All, IsUtf8, Option, Some, None}
@@ -58,7 +58,7 @@ stored_of storage.Null = nulls
 stored_of (storage.Constant s) = constant_of s
 stored_of (storage.Rows e v) = kept (kept_of e) (validity_of v)
 
--- the scalar that is in each row, if the rows are kept as one
+-- the scalar that is in each row, if the rows are stored as one
 abbrev pub constant_in : Stored → Option ScalarView
 constant_in (constant_of s) = Some s
 constant_in s = None
@@ -91,14 +91,14 @@ row_at s i = if is_valid_row (stored_validity s) i then value_at s i else null
 abbrev pub rows_of : ℕ → Stored → List Value
 rows_of n s = map (row_at s) (range_with_len 0 n)
 
--- a column for each field, of its type and of so many rows
+-- a column for each field, of its type and of that many rows
 abbrev pub AreFields : ℕ → Fields → List ColumnView → Type 0
 AreFields n no_fields [] = Unit {0}
 AreFields n (field name t fs) (c ∷ cs) =
     (c.dtype ≡ t) × (length c.rows ≡ n) × AreTyped c.dtype c.rows × AreFields n fs cs
 AreFields n fs cs = ⊥
 
--- so many values of the type, which has null or not
+-- that many values of the type, which has null or not
 abbrev pub AreKept : ℕ → LogicalType → Bool → Kept → Type 0
 AreKept n t m (bools bits) = (t ≡ bool_type m) × (length bits ≡ n)
 AreKept n t m (integers p ns) = (t ≡ integer_type p m) × (length ns ≡ n) × All (FitsPType p) ns
@@ -115,12 +115,12 @@ AreKept n t m (maps k v offsets sizes) =
     × (length k.rows ≡ length v.rows) × LieWithin (length k.rows) offsets sizes
     × AreTyped k.dtype k.rows × AreTyped v.dtype v.rows
 
--- what lies in a place is a text, if texts are kept
+-- the value at an index is a text, if texts are stored
 abbrev pub IsTextAt : ℕ → Kept → Type 0
 IsTextAt i (texts ts) = IsUtf8 (slice_index_or ts i [])
 IsTextAt i k = Unit {0}
 
--- in a row that is not null; under a null any bytes may lie
+-- in a row that is not null; under a null any bytes are allowed
 abbrev pub IsTextIfValid : ℕ → Kept → ValidityView → Type 0
 IsTextIfValid i k v = is_valid_row v i ≡ true → IsTextAt i k
 
@@ -143,7 +143,7 @@ column_view a =
 abbrev pub IsColumn : Inside → Type 0
 IsColumn a = IsStored a.len (type_of a.dtype) (stored_of a.storage)
 
--- what row i reads is there
+-- what row i reads is in range
 abbrev pub HasPlace : ℕ → Kept → Type 0
 HasPlace i (bools bits) = i < length bits
 HasPlace i (integers p ns) = i < length ns
@@ -163,7 +163,7 @@ abbrev pub HasRow : ℕ → Stored → Type 0
 HasRow i (kept k v) = HasPlace i k × Reaches v i × IsTextIfValid i k v
 HasRow i s = Unit {0}
 
--- what a constructor makes: a value in each row that is valid, and null in the others
+-- the result of a constructor: a value in each valid row, and null in the others
 abbrev pub made_of : LogicalType → ValidityView → ℕ → (ℕ → Value) → ColumnView
 made_of t v n f =
     record {
@@ -178,12 +178,12 @@ bool_column bits v =
     made_of (bool_type (form_allows_null v.form)) v (length bits)
     (λ i. truth (slice_index_or bits i false))
 
--- columns that make a struct column of so many rows under these names
+-- columns that make a struct column of that many rows under these names
 abbrev pub MakeStructs : List (String Global) → List ColumnView → ℕ → ValidityView → Type 0
 MakeStructs names cs n v =
     (length names ≡ length cs) × AllDiffer names × All (λ c. length c.rows ≡ n) cs × FitsRows v n
 
--- offsets and sizes that make lists of so many elements
+-- offsets and sizes that make lists of that many elements
 abbrev pub MakeLists : ℕ → List ℕ → List ℕ → ValidityView → Type 0
 MakeLists count offsets sizes v =
     (length sizes ≡ length offsets) × LieWithin count offsets sizes × FitsRows v (length offsets)

@@ -1,4 +1,4 @@
--- Rows of a column that are taken by their numbers.
+-- Rows of a column that are taken by their row numbers.
 use Rattle.std.specs.Prelude.{◌≡◌, ℕ, ◌*◌, ◌<◌, Bool, false, pos, List, [], ◌∷◌, ◌++◌, map, length}
 use Rattle.std.specs.Prelude.{All, slice_index, slice_index_or}
 use Rattle.std.specs.List.{range_with_len}
@@ -8,7 +8,7 @@ use Rattle.vortex_columns.specs.Stored.{Kept, bools, integers, texts, byte_strin
 use Rattle.vortex_columns.specs.Stored.{fixed_size_lists, maps, Stored, nulls, constant_of, kept}
 use Rattle.vortex_columns.specs.Stored.{HasPlace}
 
--- each code is the number of a row
+-- each code is a row number
 abbrev pub AreRowsOf : ColumnView → List ℕ → Type 0
 AreRowsOf c codes = All (λ code. code < length c.rows) codes
 
@@ -17,7 +17,7 @@ pub record IsTaken (c : ColumnView) (codes : List ℕ) (d : ColumnView) : Type 0
   pub dtype : d.dtype ≡ c.dtype
   pub rows : d.rows ≡ map (row c.rows) codes
 
--- the same with all else that is seen of a column: how its rows are kept stays
+-- the same with the rest of the column's view: how its rows are stored stays
 abbrev pub taken : List ℕ → ColumnView → ColumnView
 taken places c =
     record {
@@ -27,7 +27,7 @@ taken places c =
       form = c.form;
     }
 
--- the places of the elements of lists of one size
+-- the indices of the elements of lists of one size
 abbrev pub element_places : ℕ → List ℕ → List ℕ
 element_places size [] = []
 element_places size (p ∷ ps) = range_with_len (size * p) size ++ element_places size ps
@@ -45,7 +45,7 @@ taken_kept places (fixed_size_lists e size) =
 taken_kept places (maps k v offsets sizes) =
     maps k v (map (slice_index offsets) places) (map (slice_index sizes) places)
 
--- a list of bits has one for each place
+-- a list of bits has one for each index
 abbrev pub taken_bits : ValidityForm → List ℕ → List Bool → List Bool
 taken_bits array places bits = map (λ i. slice_index_or bits i false) places
 taken_bits f places bits = bits
@@ -58,6 +58,6 @@ taken_stored places nulls = nulls
 taken_stored places (constant_of s) = constant_of s
 taken_stored places (kept k v) = kept (taken_kept places k) (taken_validity places v)
 
--- what is read at each place is there
+-- what is read at each index is in range
 abbrev pub ArePlaces : List ℕ → Kept → Type 0
 ArePlaces places k = All (λ i. HasPlace i k) places

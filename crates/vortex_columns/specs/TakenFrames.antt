@@ -1,5 +1,5 @@
--- A column of which rows are being taken: a frame for each column of which some parts are taken and
--- one is still to come.
+-- A column whose rows are being taken: a frame for each column with some parts taken and one still
+-- to come.
 use Rattle.std.specs.Prelude.{ℕ, ◌+◌, ◌*◌, List, ◌∷◌, ◌++◌, map, All}
 use Rattle.vortex_columns.specs.ColumnView.{ColumnView}
 use Rattle.vortex_columns.specs.ColumnParts.{type_weight, column_weights}
@@ -15,12 +15,12 @@ use Rattle.vortex_columns.specs.declared.column.taken_frames.Frame.{Frame}
 use Rattle.vortex_columns.specs.declared.column.taken_frames.Step.{Step}
 use Rattle.vortex_columns.specs.declared.column.taken_frames.Step.TheVariants.{Whole, Part}
 
--- the numbers of the rows
+-- the row numbers
 abbrev pub rows_in : Rows → List ℕ
 rows_in (Codes codes) = codes.now
 rows_in (Indices indices) = indices.items
 
--- a column of rows that are taken, and their numbers in the column that they are taken of
+-- a column of taken rows, and their numbers in its source
 pub record Taking : Type 0 where
   pub column : ColumnView
   pub rows : List ℕ
@@ -29,17 +29,17 @@ pub record Taking : Type 0 where
 abbrev pub taking : List ℕ → ColumnView → Taking
 taking rows c = record { column = taken rows c; rows = rows }
 
--- what is kept once the hole is filled
+-- the result once the hole is filled
 abbrev pub plugged : Hole → Taking → Kept
 plugged (Field fields rest) t = structs (fields.items ++ t.column ∷ map (taken t.rows) rest.now)
 plugged (FixedElement size lists) t = fixed_size_lists t.column size
 
--- the rows that are taken of the column itself
+-- the rows taken of the column itself
 abbrev pub rows_around : Hole → List ℕ → List ℕ
 rows_around (Field fields rest) rows = rows
 rows_around (FixedElement size lists) rows = rows_in lists
 
--- each field that is still to come has the rows
+-- each remaining field has the rows
 abbrev pub HaveRows : Hole → List ℕ → Type 0
 HaveRows (Field fields rest) rows = All (λ c. AreRowsOf c rows) rest.now
 HaveRows (FixedElement size lists) rows = Unit {0}

@@ -1,4 +1,4 @@
--- The rows of a column that are true, by their numbers in ascending order.
+-- The true rows of a column, by their row numbers in ascending order.
 use Rattle.std.specs.Prelude.{ℕ, Bool, false, List, length}
 use Rattle.std.specs.List.{filter, range_with_len}
 use Rattle.vortex_types.specs.Values.{Value, truth}

@@ -14,23 +14,23 @@ valid_view Every = record { form = all_valid; bits = [] }
 valid_view No = record { form = all_invalid; bits = [] }
 valid_view (Listed bits) = record { form = array; bits = bits.now }
 
--- told by a list of bits
+-- given by a list of bits
 abbrev pub IsListed : ValidRows → Type 0
 IsListed (Listed bits) = Unit {0}
 IsListed v = ⊥
 
--- tells of each row whether it is null
+-- marks exactly the null rows
 pub record AreValid (v : ValidityView) (rows : List Value) : Type 0 where
   pub fits : FitsRows v (length rows)
   pub each : (i : ℕ) → i < length rows → is_valid_row v i ≡ not (is_null (row rows i))
 
--- serves n rows of a type that has null or not, of which these are valid
+-- is valid for n rows of a type that has null or not, of which these are valid
 pub record IsValidity (nullable : Bool) (n : ℕ) (valid : ℕ → Bool) (v : ValidityView) : Type 0 where
   pub nullability : form_allows_null v.form ≡ nullable
   pub fits : FitsRows v n
   pub each : (i : ℕ) → i < n → is_valid_row v i ≡ valid i
 
--- those rows of a column that are not null, for a type that has null or not, and for its own
+-- the rows of a column that are not null, for a type that has null or not, and for its own
 abbrev pub IsValidityIn : Bool → ColumnView → ValidityView → Type 0
 IsValidityIn nullable c = IsValidity nullable (length c.rows) (λ i. not (is_null (row c.rows i)))
 
@@ -43,7 +43,7 @@ IsJointValidity nullable l r =
     IsValidity nullable (length l.rows)
     (λ i. not (is_null (row l.rows i) || is_null (row r.rows i)))
 
--- serves the same numbers of rows, of which the same are valid
+-- is valid for the same row counts, with the same valid rows
 pub record IsAsValid (v w : ValidityView) : Type 0 where
   pub fits : (n : ℕ) → FitsRows v n → FitsRows w n
   pub each : (i : ℕ) → is_valid_row w i ≡ is_valid_row v i

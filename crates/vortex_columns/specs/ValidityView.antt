@@ -1,9 +1,9 @@
--- What is seen of a `Validity`: its form, and the bits of an array.
+-- The view of a `Validity`: its form, and the bits of an array.
 use Rattle.std.specs.Prelude.{◌≡◌, ℕ, ◌<◌, Bool, true, false, List, [], length, slice_index_or}
 use Rattle.vortex_columns.specs.declared.validity.Validity.{Validity}
 use Rattle.vortex_columns.specs.declared.validity.Validity.TheVariants as validity
 
--- how a column tells its null rows: it can have none, it has none, all are null, or by a list of
+-- how a column marks its null rows: it can have none, it has none, all are null, or by a list of
 -- bits
 pub data ValidityForm : Type 0 where
   non_nullable : ValidityForm

@@ -1,4 +1,4 @@
--- How many steps it takes to go over a value.
+-- How many steps a walk over a value takes.
 use Rattle.std.specs.Prelude.{ℕ, ◌+◌, drop}
 use Rattle.vortex_types.specs.Values.{Value, Values, null, truth, number, text, bytes, list}
 use Rattle.vortex_types.specs.Values.{no_values, value, values_of}
@@ -18,6 +18,6 @@ abbrev mutual
   values_size no_values = 0
   values_size (value v vs) = value_size v + values_size vs
 
--- from place k on
+-- from index k on
 abbrev pub size_from : ℕ → Sequence → ℕ
 size_from k s = values_size (values_of (drop k (sequence_values s)))

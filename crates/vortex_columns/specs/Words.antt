@@ -1,4 +1,4 @@
--- The words of the contracts, from one place.
+-- The words that contracts use, from one module.
 pub use Rattle.vortex_errors.specs.declared.error.VortexError.TheVariants.{InvalidColumn}
 pub use Rattle.vortex_errors.specs.Answers.{AnswersUnlessMemory, AnswersWhere, MadeWhere}
 pub use Rattle.vortex_types.specs.LogicalTypes.{bool_type, integer_type, text_type, is_nullable}

@@ -1,4 +1,4 @@
-//! Values where they lie, in scalars and columns.
+//! Values of scalars and columns, borrowed.
 ghost use Rattle.std.specs.Prelude.{◌≡◌, ◌<◌, ◌≤◌, length};
 ghost use Rattle.vortex_types.specs.Values.{list};
 ghost use Rattle.vortex_types.specs.ValueOf.{values_or_null};
@@ -16,11 +16,11 @@ use std::alloc::Global;
 use std::cmp::Ordering;
 use vortex_types::{ScalarValue, VortexResult};
 
-/// How many levels of a value go by calls within calls: more than values are known to have, in about
-/// a megabyte of stack.
+/// The depth down to which values are walked recursively: deeper than known values, in about a
+/// megabyte of stack.
 pub(crate) const LEVELS: usize = 1_000;
 
-/// A value, or null, that is read where it lies. Takes no memory.
+/// A value, or null, borrowed. Allocates nothing.
 #[derive(Clone, Copy)]
 pub enum Cell<'a> {
     /// Null, of whatever type.
@@ -44,15 +44,15 @@ pub enum Sequence<'a> {
     Items(&'a Vec<Option<ScalarValue>>),
     /// One row of a struct's fields.
     Fields(&'a Vec<Column>, usize),
-    /// A range of a list's elements: from a place on, so many.
+    /// A range of a list's elements: its start and its length.
     Elements(&'a Column, usize, usize),
-    /// A range of a map's keys and values: from a place on, so many.
+    /// A range of a map's keys and values: its start and its length.
     Entries(&'a Column, &'a Column, usize, usize),
-    /// A key and its value, in one place.
+    /// A key and its value, at one index.
     Entry(&'a Column, &'a Column, usize),
 }
 
-/// The value of a scalar where it lies: its text, bytes and inner values are borrowed. Takes no memory.
+/// The value of a scalar: its text, bytes and inner values are borrowed. Allocates nothing.
 pub fn cell_of(value: &ScalarValue) -> Cell<'_>
     ensures whole { IsCell result }
     ensures value { cell_value result ≡ value_of value.now }
@@ -81,7 +81,7 @@ impl<'a> Sequence<'a> {
         }
     }
 
-    /// The value in place `k`.
+    /// The value at index `k`.
     pub fn get(&self, k: usize) -> Cell<'a>
         requires whole { IsSequence self.now }
         requires k_in { k < length (sequence_values self.now) }
@@ -95,7 +95,7 @@ impl<'a> Sequence<'a> {
             },
             Sequence::Fields(fields, i) => fields[k].cell(*i),
             Sequence::Elements(elements, start, _) => {
-                // so that the place is known to fit
+                // so that the index is known not to overflow
                 let _ = elements.len();
                 elements.cell(*start + k)
             }
@@ -115,7 +115,7 @@ impl<'a> Sequence<'a> {
 }
 
 impl Cell<'_> {
-    /// The place of the value's kind among the kinds.
+    /// The position of the value's kind among the kinds.
     fn rank(&self) -> u8
         ensures { result ≡ kind_rank (cell_value self.now) }
     {
@@ -129,7 +129,7 @@ impl Cell<'_> {
         }
     }
 
-    /// The order of two values, and `Equal` of two sequences, whose values are not looked at.
+    /// The order of two values, and `Equal` for two sequences, whose values are not read.
     fn compare_single(&self, other: &Cell<'_>) -> Ordering
         ensures { result ≡ single_order (cell_value self.now) (cell_value other.now) }
     {
@@ -142,9 +142,9 @@ impl Cell<'_> {
         }
     }
 
-    /// The order of two values: of two lists that of the first values that differ, and else the
-    /// shorter one is less. Takes no memory down to a thousand levels. What is around lists that
-    /// stand deeper is kept in memory, or on the stack where memory is refused.
+    /// The order of two values: for two lists the order of their first different values, else the
+    /// shorter one is less. Allocates nothing down to a thousand levels. For deeper lists the
+    /// enclosing ones are kept in memory, or on the stack where an allocation fails.
     pub fn compare(&self, other: &Cell<'_>) -> Ordering
         requires self_whole { IsCell self.now }
         requires other_whole { IsCell other.now }
@@ -164,7 +164,7 @@ impl Cell<'_> {
 }
 
 impl Cell<'_> {
-    /// A copy that a scalar can hold; none of null.
+    /// A copy that a scalar can hold; none for null.
     pub fn try_to_value(&self, alloc: Global) -> VortexResult<Option<ScalarValue>>
         requires { IsCell self.now }
         ensures { AnswersUnlessMemory result (λ v. value_or_null v ≡ cell_value self.now) }
@@ -175,7 +175,7 @@ impl Cell<'_> {
         }
     }
 
-    /// A copy of a value that is no sequence; none of null, nor of a sequence.
+    /// A copy of a value that is no sequence; none for null or a sequence.
     fn copy_single(&self, alloc: Global) -> VortexResult<Option<ScalarValue>>
         requires { IsCell self.now }
         ensures { AnswersUnlessMemory result
@@ -192,15 +192,14 @@ impl Cell<'_> {
     }
 }
 
-/// A sequence around, and copies of its first values: the next is being copied.
+/// An enclosing sequence, and copies of its first values: the next is being copied.
 #[derive(Drop)]
 struct Copying<'a> {
     values: Sequence<'a>,
     copies: Vec<Option<ScalarValue>>,
 }
 
-/// Copies of the values. The sequences around one that is being copied stand in a list: how deep
-/// they nest takes no stack.
+/// Copies of the values. Enclosing sequences are kept in a list, so deep nesting uses no stack.
 fn copy_values(alloc: Global, root: &Sequence<'_>) -> VortexResult<Vec<Option<ScalarValue>>>
     requires { IsSequence root.now }
     ensures { AnswersUnlessMemory result

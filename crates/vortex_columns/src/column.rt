@@ -1,5 +1,5 @@
-//! What a column is: its type, and its rows as they are stored. Its constructors, its reads and
-//! parts, its copies and the taking of its rows stand in rooms of their own.
+//! Columns: a type, and rows as they are stored. Constructors, reads, copies and taking rows are in
+//! their own modules.
 
 mod constructors;
 mod copies;
@@ -81,9 +81,9 @@ impl Model for Column {
     ghost size_decreases = { λ a h. storage_falls a.len (type_of a.dtype) a.storage h };
 }
 
-/// A column is dropped by a list of what is still to go, so its depth takes no stack. Lists within
-/// lists take no memory, and the fields of a struct are themselves the list where that is empty.
-/// Where the list cannot grow, what it has no place for goes by a call.
+/// A column is dropped with a work list, so deep nesting uses no stack. Lists within lists allocate
+/// nothing, and a struct's field vector is reused as the list if that is empty. If the list cannot
+/// grow, the remaining columns are dropped recursively.
 impl Drop for Column {
     #[tactic(auto, using(crate::proofs::ColumnWeights::weights))]
     fn drop(self) {
@@ -112,7 +112,7 @@ impl Drop for Column {
                     if list.is_empty() {
                         list = fields;
                     } else {
-                        // what found no place goes with `fields`
+                        // what did not fit is dropped with `fields`
                         let _grown = list.append(&mut fields);
                     }
                     last

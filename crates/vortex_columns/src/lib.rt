@@ -1,4 +1,4 @@
-//! Columns of typed rows, scalars, and cells that are borrowed from both; with the types that stand
+//! Columns of typed rows, scalars, and cells borrowed from both; with the types of the crates
 //! below.
 #![tactic(auto)]
 

@@ -1,4 +1,4 @@
-//! The lists that a column keeps: whether they fit, and copies of them.
+//! Lists in a column: whether they fit, and copies of them.
 ghost use Rattle.std.specs.Prelude.{◌≡◌, ◌*◌, ◌<◌, ◌↔◌, ℕ, IsTrue, IsUtf8, All, [], length, true};
 ghost use Rattle.std.specs.Prelude.{slice_index_or};
 ghost use Rattle.vortex_columns.specs.ColumnView.{LieWithin};
@@ -24,12 +24,12 @@ pub(crate) fn are_texts(values: &BinaryViews, validity: &Validity) -> bool
     true
 }
 
-/// Tells that a text is UTF-8.
+/// Proves to the caller that a text is UTF-8.
 fn learn_text(text: &str)
     ensures { IsUtf8 text.now }
 {}
 
-/// Looks at each text, which is UTF-8.
+/// Proves to the caller that each text is UTF-8.
 pub(crate) fn learn_texts(texts: &[&str])
     ensures { All (λ t. IsUtf8 t.now) texts.now }
 {
@@ -38,7 +38,7 @@ pub(crate) fn learn_texts(texts: &[&str])
     }
 }
 
-/// Looks at each value, whose bytes are below 256.
+/// Proves to the caller that the bytes of each value are below 256.
 pub(crate) fn learn_bytes(values: &BinaryViews)
     ensures { All (All (λ b. b < 256)) values.now }
 {
@@ -48,7 +48,7 @@ pub(crate) fn learn_bytes(values: &BinaryViews)
     }
 }
 
-/// Whether each range lies within so many elements.
+/// Whether each range is within that many elements.
 pub(crate) fn lie_within(elements: usize, offsets: &[usize], sizes: &[usize]) -> bool
     requires { length offsets.now ≡ length sizes.now }
     ensures { IsTrue result ↔ LieWithin elements offsets.now sizes.now }
@@ -61,7 +61,7 @@ pub(crate) fn lie_within(elements: usize, offsets: &[usize], sizes: &[usize]) ->
     true
 }
 
-/// Whether there are so many elements for so many lists of one size.
+/// Whether there are that many elements for that many lists of one size.
 pub(crate) fn is_product(elements: usize, size: u32, len: usize) -> bool
     ensures { IsTrue result ↔ elements ≡ size * len }
 {

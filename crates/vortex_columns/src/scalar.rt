@@ -38,7 +38,7 @@ impl Scalar {
     ghost use Rattle.vortex_columns.specs.Words.{constant_form, validity_of};
 
     /// A value of a type, or null. E12 exactly where the value does not have the type, or the type
-    /// has no null. Takes no memory down to a thousand levels, and is never out of memory
+    /// has no null. Allocates nothing down to a thousand levels, and never runs out of memory
     /// (`Cell::has_type`).
     pub fn try_new(dtype: DType, value: Option<ScalarValue>) -> VortexResult<Scalar>
         ensures { MadeWhere result
@@ -84,7 +84,7 @@ impl Scalar {
         &self.dtype
     }
 
-    /// The value, unless it is null.
+    /// The value, or none for null.
     pub fn value(&self) -> Option<&ScalarValue>
         ensures { MatchOption result (self.now.value ≡ null)
             (λ v. self.now.value ≡ value_of v.now) }
@@ -99,7 +99,7 @@ impl Scalar {
         self.value.is_none()
     }
 
-    /// The truth value, of a Bool that is not null.
+    /// The truth value of a Bool that is not null.
     pub fn as_bool_opt(&self) -> Option<bool>
         ensures { result ≡ truth_of self.now.value }
     {
@@ -109,7 +109,7 @@ impl Scalar {
         }
     }
 
-    /// The number, of an integer of any of the eight types that is not null.
+    /// The number of an integer of any of the eight types that is not null.
     pub fn as_int_opt(&self) -> Option<i128>
         ensures { result ≡ number_of self.now.value }
     {
@@ -119,7 +119,7 @@ impl Scalar {
         }
     }
 
-    /// The text, borrowed, of a Utf8 that is not null.
+    /// The text of a Utf8 that is not null, borrowed.
     pub fn as_text_opt(&self) -> Option<&str>
         ensures { MatchOption result (text_of self.now.value ≡ None)
             (λ t. self.now.value ≡ text t.now) }
@@ -130,7 +130,7 @@ impl Scalar {
         }
     }
 
-    /// The bytes, borrowed, of a Binary that is not null.
+    /// The bytes of a Binary that is not null, borrowed.
     pub fn as_bytes_opt(&self) -> Option<&[u8]>
         ensures { MatchOption result (bytes_of self.now.value ≡ None)
             (λ b. self.now.value ≡ bytes b.now) }
@@ -141,7 +141,7 @@ impl Scalar {
         }
     }
 
-    /// The value where it lies.
+    /// The value, borrowed.
     pub fn cell(&self) -> Cell<'_>
         ensures whole { IsCell result }
         ensures value { cell_value result ≡ self.now.value }
@@ -152,7 +152,7 @@ impl Scalar {
         }
     }
 
-    /// The validity of a column of this scalar alone.
+    /// The validity of a column of this scalar.
     pub(crate) fn validity(&self) -> Validity
         ensures { validity_of result
             ≡ record { form = constant_form self.now.dtype self.now.value; bits = [] } }
@@ -178,7 +178,7 @@ impl Scalar {
         })
     }
 
-    /// A copy that is seen as its source is.
+    /// A copy with the same view.
     pub fn try_clone(&self, _alloc: Global) -> VortexResult<Scalar>
         ensures { AnswersUnlessMemory result (λ s. s ≡ self.now) }
     {
@@ -352,7 +352,7 @@ impl PartialEq for Scalar {
     }
 }
 
-/// The order of the values; none exactly where the types differ apart from nullability.
+/// The order of the values; none exactly where the types differ other than in nullability.
 impl PartialOrd for Scalar {
     ghost use Rattle.vortex_types.specs.ScalarView.{compare_scalars};
     ghost use Rattle.vortex_types.specs.ScalarLaws.{compare_scalars-laws};

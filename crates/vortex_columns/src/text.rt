@@ -14,10 +14,10 @@ use vortex_types::{DType, ScalarValue, VortexResult};
 
 impl Column {
     /// The type, a colon, and the value of each row after a space, as `i32?: 1 null -3`; of no rows
-    /// the type and the colon. Refuses for memory alone.
+    /// the type and the colon. Fails only where memory runs out.
     ///
-    /// The type is written as `DType::write_text` tells. A null is `null`, a truth value `true` or
-    /// `false`, a number stands without its type, a text in quotes without escapes, and bytes are
+    /// The type is written as by `DType::write_text`. A null is `null`, a truth value `true` or
+    /// `false`, a number is without its type, a text in quotes without escapes, and bytes are
     /// `0x` and two hexadecimal digits each. A list is `[1, null]`, a record `{a: 1, b: "x"}`, and
     /// a map the list of its entries, as `[{key: "x", value: 1}]`.
     #[tactic(auto, using(crate::proofs::PrintedColumns::one_more_cell))]
@@ -37,7 +37,7 @@ impl Column {
 
 impl Scalar {
     /// Writes the value as `Column::text` does, but each whole number with its type, as `1i32`.
-    /// Refuses for memory alone.
+    /// Fails only where memory runs out.
     pub fn write_literal(&self, out: &mut String) -> VortexResult<()>
         ensures { AnswersUnlessMemory result
             (λ _. Appends out.old (literal_text self.now.dtype self.now.value) out.new) }
@@ -47,7 +47,7 @@ impl Scalar {
 }
 
 impl Scalar {
-    /// The text of `write_literal` alone.
+    /// The text of `write_literal`.
     fn literal(&self, alloc: Global) -> VortexResult<String>
         ensures { AnswersUnlessMemory result
             (λ text. string_bytes text ≡ literal_text self.now.dtype self.now.value) }
@@ -58,7 +58,7 @@ impl Scalar {
     }
 }
 
-/// The bytes of `write_literal`; want of memory is an error.
+/// The bytes of `write_literal`; running out of memory is an error.
 impl fmt::Debug for Scalar {
     ghost use Rattle.std.specs.Prelude.{Some};
     ghost use Rattle.vortex_columns.specs.Printing.{literal_text};
@@ -66,7 +66,7 @@ impl fmt::Debug for Scalar {
     ghost debug_output = { λ scalar. Some (literal_text scalar.dtype scalar.value) };
 
     fn fmt<W: fmt::Write>(&self, f: &mut fmt::Formatter<W>) -> fmt::Result {
-        // bytes and lists hold an allocator, and what is written without one needs none
+        // bytes and lists hold an allocator; values without one need none
         let text = match self.value() {
             None => return write!(f, "null"),
             Some(ScalarValue::Bool(b)) => return write!(f, "{b}"),
@@ -110,7 +110,7 @@ fn print_cell<W: fmt::Write>(cell: &Cell<'_>, f: &mut fmt::Formatter<W>) -> fmt:
     }
 }
 
-/// The bytes of `text`; want of memory is an error.
+/// The bytes of `text`; running out of memory is an error.
 impl fmt::Debug for Column {
     fn fmt<W: fmt::Write>(&self, f: &mut fmt::Formatter<W>) -> fmt::Result {
         if let Some(alloc) = self.allocator() {
@@ -119,7 +119,7 @@ impl fmt::Debug for Column {
                 Err(_) => Err(fmt::Error),
             };
         }
-        // no value lies within another, so that each is written where it is read
+        // no value is within another, so each is written directly
         write!(f, "{:?}:", self.dtype())?;
         for i in 0..self.len() {
             write!(f, " ")?;

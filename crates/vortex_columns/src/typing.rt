@@ -10,19 +10,19 @@ use crate::cell::{Cell, LEVELS, Sequence};
 use crate::value_text::Shape;
 use vortex_types::DType;
 
-/// Whether each is a byte, as it always is.
+/// Whether each is a byte, which is always true.
 pub(crate) fn are_bytes(bytes: &[u8]) -> bool
     ensures yes { IsTrue result }
     ensures fit { All (λ b. b < 256) bytes.now }
 {
-    // the range of its items is known of a slice that the body reads
+    // the body reads a slice, so the range of its items is known
     let _ = bytes.len();
     true
 }
 
 impl Cell<'_> {
-    /// Whether the value has the type. Takes no memory down to a thousand levels. What is around
-    /// lists that stand deeper is kept in memory, or on the stack where memory is refused.
+    /// Whether the value has the type. Allocates nothing down to a thousand levels. For deeper
+    /// lists the enclosing ones are kept in memory, or on the stack where an allocation fails.
     pub fn has_type(&self, dtype: &DType) -> bool
         requires { IsCell self.now }
         ensures { IsTrue result ↔ HasType (type_of dtype.now) (cell_value self.now) }
@@ -50,7 +50,7 @@ impl Cell<'_> {
 }
 
 impl Shape<'_> {
-    /// Whether a value of the type can be made of so many.
+    /// Whether a value of the type can have that many values.
     fn is_made_of(self, count: usize) -> bool
         ensures { IsTrue result ↔ IsMadeOf (shape_type self.entry) count }
     {
@@ -65,7 +65,7 @@ impl Shape<'_> {
     }
 }
 
-/// A sequence whose values from place `next` on are still to be asked, and the type of the whole.
+/// A sequence whose values from index `next` on are still to be checked, and the type of the whole.
 #[derive(Clone, Copy)]
 struct Asking<'a, 't> {
     values: Sequence<'a>,
@@ -74,7 +74,7 @@ struct Asking<'a, 't> {
 }
 
 impl<'a, 't> Asking<'a, 't> {
-    /// Begins with the first of the values; none where they are too few or too many for the type.
+    /// Begins with the first value; none if the type does not allow that many values.
     fn open(values: &Sequence<'a>, shape: Shape<'t>) -> Option<Asking<'a, 't>>
         requires { IsSequence values.now }
         ensures { MatchOption result
@@ -114,8 +114,7 @@ impl<'a, 't> Asking<'a, 't> {
         }
     }
 
-    /// Lays it behind those above, unless nothing is left of it. Where the list cannot grow it is
-    /// not laid there, and nothing changes.
+    /// Pushes it, unless nothing is left of it. Where the list cannot grow, nothing changes.
     fn lay_by(self, above: &mut Option<Vec<Asking<'a, 't>>>) -> bool
         requires { IsSequence self.values }
         ensures { LiesBehind result self.entry (frames_in above.old) (frames_in above.new) }
@@ -136,7 +135,7 @@ impl<'a, 't> Asking<'a, 't> {
     }
 }
 
-/// Takes the last of those above.
+/// Pops the last one.
 fn take_last<'a, 't>(above: &mut Option<Vec<Asking<'a, 't>>>) -> Option<Asking<'a, 't>>
     ensures { MatchOption result (frames_in above.old ≡ [])
         (λ last. frames_in above.old ≡ frames_in above.new ++ last ∷ []) }
@@ -147,9 +146,9 @@ fn take_last<'a, 't>(above: &mut Option<Vec<Asking<'a, 't>>>) -> Option<Asking<'
     }
 }
 
-/// Whether the values are a value of the type. Sequences inside are asked by calls within calls,
-/// which take no memory, while levels are left. The sequences around what lies deeper stand in a
-/// list; where it cannot grow, calls go on.
+/// Whether the values are a value of the type. Inner sequences are checked recursively, without
+/// allocating, while levels are left. For deeper ones the enclosing sequences are kept in a list;
+/// where it cannot grow, recursion continues.
 fn has_shape(root: &Sequence<'_>, shape: Shape<'_>, levels: usize) -> bool
     requires { IsSequence root.now }
     ensures { IsTrue result ↔ HasType (shape_type shape.entry) (sequence_value root.now) }

@@ -1,4 +1,4 @@
-//! Which rows of one column are not null, and of two, chosen before the rows.
+//! Which rows of one column, or of two, are not null, decided before the rows.
 ghost use Rattle.std.specs.Prelude.{◌≡◌, true, length};
 ghost use Rattle.vortex_columns.specs.ValidityView.{array, validity_of};
 ghost use Rattle.vortex_columns.specs.ValidRows.{AnswersUnlessMemory, valid_view, IsListed};
@@ -17,12 +17,12 @@ pub enum ValidRows<'a> {
     Every,
     /// No row.
     No,
-    /// Those whose bit is set.
+    /// The rows whose bit is set.
     Listed(&'a BitBuffer),
 }
 
 impl<'a> ValidRows<'a> {
-    /// The rows that are valid by a validity, whatever its nullability.
+    /// The valid rows of a validity, whatever its nullability.
     pub fn of(validity: &'a Validity) -> ValidRows<'a>
         ensures rows { IsAsValid (validity_of validity.now) (valid_view result) }
         ensures listed { IsListed result → (validity_of validity.now).form ≡ array }
@@ -47,7 +47,7 @@ impl<'a> ValidRows<'a> {
     }
 }
 
-/// The rows that are valid on both sides, where either type has null.
+/// The rows that are valid on both sides, if either type has null.
 fn join_valid(alloc: Global, lhs: &Column, rhs: &Column) -> VortexResult<Validity>
     requires { length lhs.now.rows ≡ length rhs.now.rows }
     ensures { AnswersUnlessMemory result
@@ -65,8 +65,8 @@ fn join_valid(alloc: Global, lhs: &Column, rhs: &Column) -> VortexResult<Validit
 }
 
 /// The validity of rows that are null on neither side, of columns of one length, for a type that is
-/// nullable if either is. A list of bits is made only where a side has one. E9 where memory
-/// is refused.
+/// nullable if either is. Makes a list of bits only if a side has one. E9 where an allocation
+/// fails.
 pub fn both_valid(alloc: Global, lhs: &Column, rhs: &Column) -> VortexResult<Validity>
     requires { length lhs.now.rows ≡ length rhs.now.rows }
     ensures { AnswersUnlessMemory result

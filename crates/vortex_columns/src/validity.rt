@@ -37,7 +37,7 @@ impl Validity {
         }
     }
 
-    /// Whether it can serve so many rows: a list of bits has one for each.
+    /// Whether it is valid for that many rows: a list of bits has one for each.
     pub fn fits(&self, len: usize) -> bool
         ensures { IsTrue result ↔ FitsRows (validity_of self.now) len }
     {
@@ -71,7 +71,7 @@ impl Validity {
         }
     }
 
-    /// A copy that is seen as its source is.
+    /// A copy with the same view.
     pub fn try_clone(&self, _alloc: Global) -> VortexResult<Validity>
         ensures { AnswersUnlessMemory result (λ v. validity_of v ≡ validity_of self.now) }
     {
@@ -79,7 +79,7 @@ impl Validity {
     }
 }
 
-/// A copy that is seen as its source is.
+/// A copy with the same view.
 impl Clone for Validity {
     ghost use Rattle.vortex_columns.specs.ValidityView.{validity_of};
 

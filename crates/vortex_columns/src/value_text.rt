@@ -1,4 +1,4 @@
-//! The texts of values, written behind what a text holds already.
+//! The texts of values, appended to a string.
 ghost use Rattle.std.specs.Prelude.{◌++◌, codes};
 ghost use Rattle.std.specs.Fmt.{signed_decimal};
 ghost use Rattle.std.specs.List.{flat_map};
@@ -14,7 +14,7 @@ use crate::cell::{Cell, Sequence};
 use std::fmt::Write;
 use vortex_types::{DType, VortexResult, write_separator};
 
-/// A type where it lies: one of its own, or that of a map's entries, by key and value.
+/// A borrowed type: a `DType`, or that of a map's entries, by key and value.
 #[derive(Clone, Copy)]
 pub(crate) enum Shape<'a> {
     Of(&'a DType),
@@ -28,7 +28,7 @@ impl<'a> Shape<'a> {
     ghost use Rattle.vortex_columns.specs.Printing.{element_type};
     ghost use Rattle.vortex_columns.specs.Shapes.{is_struct};
 
-    /// What follows a whole number: its type, where numbers are typed.
+    /// What follows a whole number: its type, if numbers are typed.
     fn number_suffix(self, typed: bool) -> &'static str
         ensures { result.now ≡ number_suffix typed (shape_type self.entry) }
     {
@@ -111,7 +111,7 @@ fn write_bytes(out: &mut String, bytes: &[u8]) -> VortexResult<()>
     Ok(())
 }
 
-/// A word as it stands.
+/// A word, unchanged.
 fn write_word(out: &mut String, word: &str) -> VortexResult<()>
     ensures { AnswersUnlessMemory result (λ _. Appends out.old word.now out.new) }
 {
@@ -119,7 +119,7 @@ fn write_word(out: &mut String, word: &str) -> VortexResult<()>
     Ok(())
 }
 
-/// A whole number, and its type where numbers are typed.
+/// A whole number, and its type if numbers are typed.
 fn write_number(out: &mut String, typed: bool, shape: Shape<'_>, n: i128) -> VortexResult<()>
     ensures { AnswersUnlessMemory result (λ _. Appends out.old
         (signed_decimal n ++ number_suffix typed (shape_type shape.entry)) out.new) }
@@ -129,7 +129,7 @@ fn write_number(out: &mut String, typed: bool, shape: Shape<'_>, n: i128) -> Vor
     Ok(())
 }
 
-/// A text between quotes.
+/// A text in quotes.
 fn write_quoted(out: &mut String, text: &str) -> VortexResult<()>
     ensures { AnswersUnlessMemory result
         (λ _. Appends out.old (quote ++ text.now ++ quote) out.new) }
@@ -140,7 +140,7 @@ fn write_quoted(out: &mut String, text: &str) -> VortexResult<()>
     Ok(())
 }
 
-/// Bytes, by two digits each.
+/// Bytes, two digits each.
 fn write_hexadecimal(out: &mut String, bytes: &[u8]) -> VortexResult<()>
     ensures { AnswersUnlessMemory result
         (λ _. Appends out.old (codes "0x" ++ flat_map hex_text bytes.now) out.new) }
@@ -149,7 +149,7 @@ fn write_hexadecimal(out: &mut String, bytes: &[u8]) -> VortexResult<()>
     write_bytes(out, bytes)
 }
 
-/// A value that is no sequence; `null` in place of one.
+/// A value that is no sequence; `null` for a sequence.
 fn write_single(
     out: &mut String,
     typed: bool,
@@ -172,7 +172,7 @@ fn write_single(
     }
 }
 
-/// A sequence that is being written, of that type, and the place of what is written of it next.
+/// A sequence that is being written, of that type, and the index of its next value.
 #[derive(Clone, Copy)]
 struct Writing<'a, 't> {
     values: Sequence<'a>,
@@ -187,7 +187,7 @@ impl<'a, 't> Writing<'a, 't> {
     ghost use Rattle.vortex_columns.specs.WrittenValues.{opening, closing, count_written};
     ghost use Rattle.vortex_columns.specs.WrittenValues.{name_before, inner_type};
 
-    /// Writes the bracket that the values stand behind.
+    /// Writes the opening bracket.
     fn begin(
         out: &mut String,
         shape: Shape<'t>,
@@ -205,7 +205,7 @@ impl<'a, 't> Writing<'a, 't> {
         })
     }
 
-    /// How many values there are to write: of a struct no more than its fields.
+    /// How many values there are to write: for a struct at most one for each field.
     fn count(&self) -> usize
         requires { IsSequence self.now.values }
         ensures { result
@@ -218,8 +218,8 @@ impl<'a, 't> Writing<'a, 't> {
         }
     }
 
-    /// Writes what stands before the next value: a separator, and the name of a struct's field.
-    /// Tells the value's type.
+    /// Writes what comes before the next value: a separator, and the name of a struct's field.
+    /// Returns the value's type.
     fn write_before(&self, out: &mut String) -> VortexResult<Shape<'t>>
         requires { self.now.next
             < count_written (shape_type self.now.shape) (sequence_values self.now.values) }
@@ -237,7 +237,7 @@ impl<'a, 't> Writing<'a, 't> {
         Ok(self.shape.field(self.next))
     }
 
-    /// Writes the bracket that stands behind the values.
+    /// Writes the closing bracket.
     fn end(&self, out: &mut String) -> VortexResult<()>
         ensures { AnswersUnlessMemory result
             (λ _. Appends out.old (closing (shape_type self.now.shape)) out.new) }
@@ -247,8 +247,8 @@ impl<'a, 't> Writing<'a, 't> {
     }
 }
 
-/// The values of a sequence, between brackets. The sequences around one that is being written stand
-/// in a list: how deep they nest takes no stack.
+/// The values of a sequence, in brackets. Enclosing sequences are kept in a list, so deep nesting
+/// uses no stack.
 fn write_sequence(
     out: &mut String,
     typed: bool,
@@ -285,7 +285,7 @@ fn write_sequence(
     }
 }
 
-/// A value of that type, with the type behind each whole number where numbers are `typed`.
+/// A value of that type, with the type after each whole number if `typed`.
 pub(crate) fn write_value(
     out: &mut String,
     typed: bool,

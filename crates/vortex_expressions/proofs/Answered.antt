@@ -1,4 +1,4 @@
--- What the calls that write columns, literals and trees answer.
+-- Results of the calls that write columns, literals and trees.
 use Rattle.std.proofs.Common.{◌≡◌, ◌≢◌, ℕ, suc, ◌<◌, ◌≤◌, Bool, true, false, List, [], ◌∷◌, Option}
 use Rattle.std.proofs.Common.{Some, None, Result, Ok, Err, refl, ap, sym, subst, ◌∙◌, arith}
 use Rattle.std.proofs.Common.{option_map, ℤ, pos, negsuc, string_bytes, lit<}
@@ -96,7 +96,7 @@ column_pushed (leaf (held c)) k text shown name old new at h e g a = absurd at
 column_pushed (constant s) k text shown name old new at h e g a = absurd at
 column_pushed (call f ts) k text shown name old new at h e g a = absurd at
 
--- the tokens of leaves, in which no bracket stands
+-- the tokens of leaves, which contain no bracket
 leaf_tokens : (d : ℕ) (o : Option Syntax) → ((a : Syntax) → o ≡ Some a → nests_behind d a ≡ true)
     → option_and_then (tokens_behind d) o ≡ option_map spelling o
 leaf_tokens d None h = refl
@@ -139,7 +139,7 @@ constant_part d s = zero_tokens d (constant s)
 leaf_part : (d : ℕ) (l : Leaf) → part_tokens (tree d 0 (leaf l)) ≡ column_tokens (leaf l)
 leaf_part d l = zero_tokens d (leaf l) ∙ leaf_tokens d (leaf_syntax l) (leaf_nests d l)
 
--- what is answered, by what was answered below
+-- the result, from the results below
 module _ (old new : TreeWriter) where
   turned : (P Q : Bool → Type 0) (r : Result Bool VortexError) → ((b : Bool) → P b → Q b)
       → AnswersUnlessMemory r P → AnswersUnlessMemory r Q

@@ -1,4 +1,4 @@
--- What stands beside a literal leaves it the type that it has alone.
+-- An item next to a literal leaves it its default type.
 use Rattle.std.proofs.Common.{◌≡◌, Bool, true, false, ◌&&◌, ◌⊎◌, inl, inr, [], ◌∷◌, Option, Some}
 use Rattle.std.proofs.Common.{None, refl, ap, sym, subst, ◌∙◌, option_map}
 use Rattle.std.specs.Prelude.{map, ◌||◌, if◌then◌else◌, is_some}
@@ -35,7 +35,7 @@ use Rattle.vortex_expressions.proofs.LiteralsBack.{Stands}
 abbrev pub alike : LogicalType → LogicalType → Type 0
 alike t u = without_nullability t ≡ without_nullability u
 
--- what stands beside a literal leaves it the type that it has alone
+-- an item next to a literal leaves it its default type
 abbrev pub Beside : Option LogicalType → LogicalType → Type 0
 Beside o t = (u : LogicalType) → o ≡ Some u → is_integer_type u ≡ true → alike u t
 
@@ -72,7 +72,7 @@ settles o (literal l) t ty st e h =
     ap (λ v. and_then (or_refuses UntypedNull v) (constant_at l)) (takes_own o l ty own_here h)
     ∙ ap (constant_at l) (sym is) ∙ st.3 ∙ ap (λ v. answers v) st.1
 
--- the type of an item, where it has one
+-- the type of an item, if it has one
 bound_is : (i : Item) (t : Tree) (ty u : LogicalType) → Stands i t → tree_type meaning t ≡ Some ty
     → bound_type i ≡ Some u → u ≡ ty
 bound_is (bound v) t ty u st e h = some_is u ty (sym h ∙ ap (tree_type meaning) st ∙ e)
@@ -130,7 +130,7 @@ module _ (P : Type 0) (u : LogicalType) where
       (or_one (literal_type j) (first_some (literal_type k ∷ [])) lj
       (or_one (literal_type k) (first_some []) lk no_one)))
 
--- an item with the tree that it stands for, and that tree's type
+-- an item with its tree, and that tree's type
 pub record Operand (t : Tree) : Type 0 where
   pub item : Item
   pub stands : Stands item t
@@ -173,7 +173,7 @@ pub settled_operand : {t : Tree} (o : Option LogicalType) (x : Operand t) → Be
     → settled o x.item ≡ answers t
 settled_operand {t} o x h = settles o x.item t x.dtype x.stands x.typed h
 
--- types that operators and BETWEEN take are alike
+-- operators and BETWEEN take types that agree
 same_alike : (t u : LogicalType) → alike_types t u ≡ true → alike t u
 same_alike t u h = (type_eq-decides (without_nullability t) (without_nullability u)).0 h
 
@@ -201,7 +201,7 @@ arithmetic_alike (integer_type p n) (integer_type q m) h = integers_alike p q n 
 arithmetic_alike (integer_type p n) u h = absurd (false≢true h)
 arithmetic_alike t u h = absurd (false≢true h)
 
--- what stands beside the operands of an operator
+-- the items next to the operands of an operator
 pub record Pair (o : Option LogicalType) (t u : LogicalType) : Type 0 where
   pub first : Beside o t
   pub second : Beside o u

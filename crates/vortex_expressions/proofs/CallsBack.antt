@@ -1,4 +1,4 @@
--- The syntax of a tree stands for that tree.
+-- The syntax of a tree binds to that tree.
 use Rattle.std.proofs.Common.{◌≡◌, ℕ, Bool, true, false, ◌==◌, ◌&&◌, [], ◌∷◌, length, Option, Some}
 use Rattle.std.proofs.Common.{None, refl, ap, sym, ◌∙◌}
 use Rattle.std.specs.Prelude.{codes, ⊤, MatchOption, if◌then◌else◌, is_some, IsUtf8, encode_utf8}

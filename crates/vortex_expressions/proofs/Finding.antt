@@ -1,4 +1,4 @@
--- What is told of a part is told of the whole.
+-- A result for a part is a result for the whole.
 use Rattle.std.proofs.Common.{◌≡◌, inr, Result}
 use Rattle.std.specs.Bool.{IsTrue}
 use Rattle.std.specs.Result.{IsErrAnd}

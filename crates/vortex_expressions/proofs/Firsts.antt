@@ -1,4 +1,4 @@
--- The first that there is, from a place on.
+-- The first of several options, from an index on.
 use Rattle.std.proofs.Common.{ℕ, List, map, drop, Option}
 use Rattle.vortex_expressions.specs.Items.{first_some}
 

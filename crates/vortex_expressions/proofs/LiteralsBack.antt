@@ -1,4 +1,4 @@
--- Columns and literals stand for what they were written of.
+-- Columns and literals bind to what they were written from.
 use Rattle.std.proofs.Common.{◌≡◌, ℕ, suc, ◌<◌, ◌^◌, Bool, true, false, cond, ◌==◌, ◌&&◌, not, List}
 use Rattle.std.proofs.Common.{[], ◌∷◌, length, Some, refl, ap, sym, ◌∙◌, arith, option_map, nat_lt}
 use Rattle.std.proofs.Common.{ℤ, pos, negsuc}
@@ -70,7 +70,7 @@ unquoted_doubled q (b ∷ bs) = unquoted_step q b (doubled q bs) (b == q) refl
 pub quoted_text : (q : ℕ) (bs : List ℕ) → IsUtf8 bs → between_quotes q (doubled q bs) ≡ answers bs
 quoted_text q bs u = ap text_of (unquoted_doubled q bs) ∙ utf8_text bs u
 
--- an item that stands for a tree: the tree, or a literal that has its type alone
+-- an item of a tree: the tree, or a literal with its default type
 abbrev pub Stands : Item → Tree → Type 0
 Stands (bound u) t = u ≡ t
 Stands (literal l) t = (s : ScalarView) × (constant s ≡ t) × (own_type l ≡ Some s.dtype)
@@ -145,7 +145,7 @@ number_held : (p : PType) (n : Bool) (w : List ℕ) (z : ℤ) → integer_of w �
     ≡ answers (constant (record { dtype = integer_type p n; value = value.number z }))
 number_held p n w z e h = let k = is_in_range p z h in rw (e, k) refl
 
--- what a literal without its type is
+-- a literal without its type
 abbrev literal_of : Value → Literal
 literal_of value.null = literal.null
 literal_of (value.truth b) = literal.truth b
@@ -399,7 +399,7 @@ literal_own t w (value.text bs) a e h k o = text_own t w bs e h o
 literal_own t w (value.bytes bs) a e h k o = absurd cc
 literal_own t w (value.list vs) a e h k o = absurd cc
 
--- a literal, by what it was written of
+-- a literal, from what it was written from
 module _ (scope : Fields) (s : ScalarView) (a : Syntax) (h : HasType s.dtype s.value)
     (m : IsLiteral s a) where
   literal_read : item_of scope m.value ≡ answers (literal (literal_of s.value))

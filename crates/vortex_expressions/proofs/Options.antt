@@ -1,4 +1,4 @@
--- What options that are there were made of.
+-- The parts of options that are present.
 use Rattle.std.proofs.Common.{◌≡◌, Bool, true, false, Option, Some, None, refl, option_map}
 use Rattle.std.specs.Prelude.{if◌then◌else◌}
 use Rattle.vortex_expressions.specs.Writing.{both, all_three}

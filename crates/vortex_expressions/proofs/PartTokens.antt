@@ -14,7 +14,7 @@ use Rattle.vortex_interface.specs.Trees.{call, no_trees, list_of}
 use Rattle.vortex_interface.specs.declared.options.EmptyOptions.{EmptyOptions}
 use Rattle.vortex_functions.specs.declared.custom.NoCustom.{NoCustom}
 use Rattle.vortex_syntax.specs.Nesting.{nesting_limit}
-use Rattle.vortex_syntax.specs.declared.step.Operator as syntax
+use Rattle.vortex_syntax.specs.declared.step.WrittenOperator as syntax
 use Rattle.vortex_syntax.specs.declared.token.Sign.TheVariants as sign
 use Rattle.vortex_syntax.specs.Tokens.{Token, nullable, sign}
 use Rattle.vortex_syntax.specs.Syntax.{Syntax, negated, tested, cast}
@@ -34,7 +34,7 @@ use Rattle.vortex_expressions.specs.WritingSteps.{cast_parts, call_plan, bracket
 abbrev Trees : Type 0
 Trees = trees.Trees NoCustom EmptyOptions
 
--- tokens behind others
+-- tokens after others
 abbrev pub behind : List Token → Option (List Token) → Option (List Token)
 behind ts o = option_map (λ us. ts ++ us) o
 
@@ -82,7 +82,7 @@ all_signs : (ts : List Token) → all_tokens (map token ts) ≡ Some ts
 all_signs [] = refl
 all_signs (t ∷ ts) = ap (joined_tokens (Some (t ∷ []))) (all_signs ts)
 
--- options that something follows from
+-- options with a consequence
 fused : {A B C : Type 0} (f : B → Option C) (g : A → B) (o : Option A)
     → option_and_then f (option_map g o) ≡ option_and_then (λ a. f (g a)) o
 fused f g None = refl
@@ -111,7 +111,7 @@ nth_is no_trees k = refl
 nth_is (trees.tree t ts) zero = refl
 nth_is (trees.tree t ts) (suc k) = nth_is ts k
 
--- texts of parts, where each is there
+-- texts of parts, if each is present
 abbrev if_so : Bool → List Token → Option (List Token)
 if_so b ts = if b then Some ts else None
 
@@ -158,11 +158,11 @@ within_if true true ts xs ys = refl
 within_if true false ts xs ys = refl
 within_if false p ts xs ys = refl
 
--- each form, by the syntax of its operands
+-- each form, from the syntax of its operands
 abbrev operand_tokens : ℕ → ℕ → Option Syntax → Option (List Token)
 operand_tokens d l o = option_and_then (λ a. tokens_behind d (at_level l a)) o
 
-binary_made : (d : ℕ) (o : syntax.Operator) (x y : Option Syntax)
+binary_made : (d : ℕ) (o : syntax.WrittenOperator) (x y : Option Syntax)
     → option_and_then (tokens_behind d) (both (joined_syntax o) x y)
     ≡ joined_tokens (operand_tokens d (left o) x)
     (joined_tokens (Some (sign (operator_sign o) ∷ []))
@@ -175,7 +175,7 @@ binary_made d o (Some a) (Some b) =
     two_if (nests_behind d first) (nests_behind d second) (spelling first) (spelling second)
     (sign (operator_sign o))
 
-binary_case : (d : ℕ) (o : syntax.Operator) (x y : Option Tree)
+binary_case : (d : ℕ) (o : syntax.WrittenOperator) (x y : Option Tree)
     → option_and_then (tokens_behind d)
     (both (joined_syntax o) (option_and_then syntax_of x) (option_and_then syntax_of y))
     ≡ option_and_then all_tokens (both (binary_parts d o) x y)
@@ -226,7 +226,7 @@ cast_end = sign sign.As ∷ nullable (codes "bool") ∷ sign sign.Close ∷ []
 abbrev cast_begin : List Token
 cast_begin = sign sign.Cast ∷ sign sign.Open ∷ []
 
--- tokens before and behind a tree in brackets
+-- tokens before and after a tree in brackets
 enclosed : (d : ℕ) (xs ys : List Token) (t : Tree)
     → all_tokens (map token xs ++ (tree (suc d) 0 t ∷ map token ys)) ≡ joined_tokens (Some xs)
     (joined_tokens (option_and_then (tokens_behind (suc d)) (syntax_of t)) (Some ys))

@@ -1,4 +1,4 @@
--- What is written of a tree reads back as that tree.
+-- The text of a tree is read back as that tree.
 use Rattle.std.proofs.Common.{◌≡◌, ℕ, List, Option, Some, None, refl, subst}
 use Rattle.std.specs.Option.{option_and_then}
 use Rattle.vortex_types.specs.LogicalTypes.{Fields}

@@ -1,4 +1,4 @@
--- What an expression says stands over the scope that it is read over.
+-- The meaning of an expression fits the scope that it is read over.
 use Rattle.std.proofs.Common.{◌≡◌, ℕ, Bool, true, false, List, [], ◌∷◌, length, Option, Some, None}
 use Rattle.std.proofs.Common.{refl, ap, subst, option_map, ℤ}
 use Rattle.std.specs.Prelude.{if◌then◌else◌, is_some, IsUtf8, ⊤, MatchOption}
@@ -28,7 +28,7 @@ use Rattle.vortex_cells.specs.Ranges.{in_range}
 use Rattle.vortex_cells.specs.CellValues.{integer_of, number_of, number_where}
 use Rattle.vortex_cells.specs.Escapes.{escape_of}
 use Rattle.vortex_cells.proofs.Numbers as numbers
-use Rattle.vortex_syntax.specs.declared.step.Operator as syntax
+use Rattle.vortex_syntax.specs.declared.step.WrittenOperator as syntax
 use Rattle.vortex_syntax.specs.declared.step.LikeKind.{LikeKind}
 use Rattle.vortex_syntax.specs.declared.token.Sign.{Sign}
 use Rattle.vortex_syntax.specs.declared.token.Sign.TheVariants as sign
@@ -55,7 +55,7 @@ use Rattle.vortex_expressions.specs.Calls.{liked_item, matched_item}
 use Rattle.vortex_expressions.specs.Binding.{item_of, tree_of}
 use Rattle.vortex_expressions.specs.Writing.{IsCallable, IsOver, AllOver}
 
--- outcomes that answer
+-- outcomes with a result
 answers_is : {A : Type 0} (a b : A) → answers a ≡ answers b → a ≡ b
 answers_is a b e = cc
 
@@ -304,7 +304,7 @@ module _ (scope : Fields) where
       as_item_over (called (ours (NullTest n)) None (j ∷ [])) i
       (λ t g. called_over (ours (NullTest n)) None (j ∷ []) t tt (h, tt) g) e
 
-  joined_over : (o : syntax.Operator) (j k i : Item) → ItemOver j → ItemOver k
+  joined_over : (o : syntax.WrittenOperator) (j k i : Item) → ItemOver j → ItemOver k
       → joined_item o j k ≡ answers i → ItemOver i
   joined_over o j k i h g e =
       let is = j ∷ k ∷ [] in

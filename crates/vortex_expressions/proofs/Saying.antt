@@ -1,4 +1,4 @@
--- What the steps of a text leave is what the text says.
+-- The steps of a text leave what the text means.
 use Rattle.std.proofs.Common.{◌≡◌, ℕ, List, map, Result, Ok, Err, ap, sym, ◌∙◌, subst}
 use Rattle.std.specs.Prelude.{IfOk, IfErr}
 use Rattle.vortex_types.specs.LogicalTypes.{Fields}

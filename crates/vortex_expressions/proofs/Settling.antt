@@ -1,4 +1,4 @@
--- Items that are settled, up to a place.
+-- Items with their types, up to an index.
 use Rattle.std.proofs.Common.{◌≡◌, ℕ, List, ◌++◌, map, drop, Option}
 use Rattle.vortex_types.specs.LogicalTypes.{LogicalType}
 use Rattle.vortex_expressions.specs.declared.item.Item as held

@@ -1,12 +1,12 @@
--- Why calls stop, told by the calls that they are made of.
+-- Why calls stop, from the calls that they consist of.
 use Rattle.std.proofs.Common.{◌≡◌, ap, Result}
 use Rattle.std.specs.Result.{IsErrAnd}
 use Rattle.std.proofs.lemmas.Result.{err_from_is_err_and}
 use Rattle.vortex_errors.proofs.Answering.{UnlessMemory-weaker}
 use Rattle.vortex_expressions.specs.declared.refusal.Refusal.{Refusal}
 use Rattle.vortex_expressions.specs.declared.refusal.Refusal.TheVariants as refusal
-use Rattle.vortex_expressions.specs.declared.refusal.Stop.{Stop}
-use Rattle.vortex_expressions.specs.declared.refusal.Stop.TheVariants.{Refused, Missing}
+use Rattle.vortex_expressions.specs.declared.refusal.BindStop.{BindStop}
+use Rattle.vortex_expressions.specs.declared.refusal.BindStop.TheVariants.{Refused, Missing}
 use Rattle.vortex_expressions.specs.Outcomes.{Outcome, and_then}
 use Rattle.vortex_expressions.specs.Answering.{UnlessOutOfMemory, StopsBy, Gives}
 
@@ -21,12 +21,14 @@ unless-weaker refusal.NoEscape f h = f h
 unless-weaker refusal.NoCast f h = f h
 
 -- where the first call stops, both do
-pub stops_first : {A B : Type 0} (o : Outcome A) (f : A → Outcome B) (s : Stop) → StopsBy o s
+pub stops_first : {A B : Type 0} (o : Outcome A) (f : A → Outcome B) (s : BindStop)
+    → StopsBy o s
     → StopsBy (and_then o f) s
 stops_first o f (Refused r) h = unless-weaker r (λ e. ap (λ o. and_then o f) e) h
 stops_first o f Missing h = ap (λ o. and_then o f) h
 
--- a call that hands on why another stopped
-pub handed_on : {A B : Type 0} (view : A → B) (o : Outcome B) (r : Result A Stop) (s : Stop)
+-- a call that passes on why another stopped
+pub handed_on : {A B : Type 0} (view : A → B) (o : Outcome B) (r : Result A BindStop)
+    (s : BindStop)
     → IsErrAnd r (λ e. e ≡ s) → StopsBy o s → Gives view r o
 handed_on view o r s h k = let p = err_from_is_err_and r h in rw (p.1, p.2) k

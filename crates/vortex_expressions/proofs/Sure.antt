@@ -1,4 +1,4 @@
--- No part is missing of an expression.
+-- No part of an expression is missing.
 use Rattle.std.proofs.Common.{◌≡◌, ℕ, ◌≤◌, Bool, true, false, cond, List, [], ◌∷◌, length, Option}
 use Rattle.std.proofs.Common.{Some, None, refl, ap, ◌∙◌, arith}
 use Rattle.std.specs.Prelude.{is_some, IfSome}
@@ -14,7 +14,7 @@ use Rattle.vortex_interface.specs.Trees.{call, trees_of}
 use Rattle.vortex_interface.specs.Eval.{tree_type, tree_types, types_or_none}
 use Rattle.vortex_cells.specs.TypeWords.{type_named}
 use Rattle.vortex_cells.specs.Escapes.{escape_of}
-use Rattle.vortex_syntax.specs.declared.step.Operator as written
+use Rattle.vortex_syntax.specs.declared.step.WrittenOperator as written
 use Rattle.vortex_syntax.specs.declared.step.LikeKind.{LikeKind}
 use Rattle.vortex_syntax.specs.declared.token.Sign.{Sign}
 use Rattle.vortex_syntax.specs.declared.token.Sign.TheVariants as sign
@@ -35,7 +35,7 @@ use Rattle.vortex_expressions.specs.Calls as calls
 use Rattle.vortex_expressions.specs.Binding.{item_of, tree_of}
 use Rattle.vortex_expressions.specs.Answers.{name_of, name_said, answer_of, answers_of}
 
--- there is an answer of which P holds, or a refusal
+-- there is a result with P, or an error
 abbrev pub Sure : {A : Type 0} → (A → Type 0) → Outcome A → Type 0
 Sure P (answers a) = P a
 Sure P (refuses r) = Unit {0}
@@ -98,13 +98,13 @@ sure_type : (b : Bool) (t : Tree) (o : Option MismatchPlace) → is_some (tree_t
 sure_type true t o k h = k
 sure_type false t o k h = sure_refused o h
 
--- functions that tell a place of each type that they refuse
+-- functions that have a place for each type that they do not accept
 sure_call : (s : Shipped) (ts : List Tree) → fits (function_arity meaning (ours s)) (length ts) ≡ true
     → is_some (shipped_place s (types_or_none (tree_types meaning (trees_of ts)))) ≡ true
     → Sure IsTyped (call_of (ours s) ts)
 sure_call s ts h k = rw h (sure_type _ (call (ours s) (trees_of ts)) _ refl k)
 
--- the tests for null refuse no type
+-- the tests for null accept all types
 null_typed : (n : Bool) (t : Tree) (o : Option LogicalType) → tree_type meaning t ≡ o
     → is_some o ≡ true → IsTyped (call (ours (NullTest n)) (trees_of (t ∷ [])))
 null_typed n t None e h = absurd cc
@@ -218,7 +218,7 @@ module _ (scope : Fields) where
       (sure_if IsTyped (is_nullable t) _ _
       (sure_called Cast (Some t) (i ∷ []) refl (λ ks. refl) (h, tt)) tt) tt))
 
-  sure_joined : (o : written.Operator) (a b : Item) → IsItem a → IsItem b
+  sure_joined : (o : written.WrittenOperator) (a b : Item) → IsItem a → IsItem b
       → Sure IsItem (calls.joined_item o a b)
   sure_joined o a b h k =
       sure_item _ (sure_called (Binary (calls.operator_of o)) _ (a ∷ b ∷ []) refl (λ ks. refl)

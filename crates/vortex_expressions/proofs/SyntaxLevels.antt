@@ -15,8 +15,8 @@ use Rattle.vortex_interface.specs.Trees as trees
 use Rattle.vortex_interface.specs.Trees.{place, held, leaf, constant, call, no_trees}
 use Rattle.vortex_interface.specs.declared.options.EmptyOptions.{EmptyOptions}
 use Rattle.vortex_functions.specs.declared.custom.NoCustom.{NoCustom}
-use Rattle.vortex_syntax.specs.declared.step.Operator as syntax
-use Rattle.vortex_syntax.specs.declared.step.Operator.TheVariants as written
+use Rattle.vortex_syntax.specs.declared.step.WrittenOperator as syntax
+use Rattle.vortex_syntax.specs.declared.step.WrittenOperator.TheVariants as written
 use Rattle.vortex_syntax.specs.declared.token.Sign.TheVariants as sign
 use Rattle.vortex_syntax.specs.Tokens as token
 use Rattle.vortex_syntax.specs.Tokens.{quoted, sign}
@@ -110,7 +110,7 @@ level_is (constant s) a e =
 level_is (call (ours s) ts) a e = shipped_level_is s (syntaxes_of ts) a e
 level_is (call (custom f o) ts) a e = absurd cc
 
--- each operand binds as tightly as its place asks
+-- each operand binds at least as tightly as required there
 pub record FitsAt (l : ℕ) (a : Syntax) : Type 0 where
   pub high : l ≤ level (at_level l a)
   pub fits : Fits (at_level l a)
@@ -122,7 +122,7 @@ fits_at l a le f = by (nat_le l (level a)) refl
     by true h = record { high = rw h (leb-true l (level a) h); fits = rw h f }
     by false h = record { high = rw h le; fits = rw h f }
 
-left_low : (o : syntax.Operator) → left o ≤ 8
+left_low : (o : syntax.WrittenOperator) → left o ≤ 8
 left_low written.Or = lit≤ tt
 left_low written.And = lit≤ tt
 left_low written.Add = lit≤ tt
@@ -136,7 +136,7 @@ left_low written.LessOrEqual = lit≤ tt
 left_low written.Greater = lit≤ tt
 left_low written.GreaterOrEqual = lit≤ tt
 
-right_low : (o : syntax.Operator) → right o ≤ 8
+right_low : (o : syntax.WrittenOperator) → right o ≤ 8
 right_low written.Or = lit≤ tt
 right_low written.And = lit≤ tt
 right_low written.Add = lit≤ tt

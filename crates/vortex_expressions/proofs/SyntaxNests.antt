@@ -1,11 +1,11 @@
--- How deep brackets nest in what a tree is spelled with.
+-- How deep brackets nest in the spelling of a tree.
 use Rattle.std.proofs.Common.{◌≡◌, ℕ, suc, Bool, true, false, ◌&&◌, List, [], ◌∷◌, ◌++◌, Option}
 use Rattle.std.proofs.Common.{Some, None, refl, ap, sym, ◌∙◌, append_assoc, nat_lt}
 use Rattle.std.proofs.lemmas.List.{append-nil}
 use Rattle.std.proofs.lemmas.Bool.{false≢true}
 use Rattle.vortex_syntax.specs.Nesting.{nesting_limit}
-use Rattle.vortex_syntax.specs.declared.step.Operator as syntax
-use Rattle.vortex_syntax.specs.declared.step.Operator.TheVariants as written
+use Rattle.vortex_syntax.specs.declared.step.WrittenOperator as syntax
+use Rattle.vortex_syntax.specs.declared.step.WrittenOperator.TheVariants as written
 use Rattle.vortex_syntax.specs.declared.token.Sign.TheVariants as sign
 use Rattle.vortex_syntax.specs.Tokens as token
 use Rattle.vortex_syntax.specs.Tokens.{Token, nullable, quoted, sign}
@@ -38,7 +38,7 @@ type_nests : (w : List ℕ) (n : Bool) (d : ℕ) (us : List Token)
 type_nests w true d us = refl
 type_nests w false d us = refl
 
-operator_nests : (o : syntax.Operator) (d : ℕ) (us : List Token)
+operator_nests : (o : syntax.WrittenOperator) (d : ℕ) (us : List Token)
     → nests_from d (sign (operator_sign o) ∷ us) ≡ nests_from d us
 operator_nests written.Or d us = refl
 operator_nests written.And d us = refl

@@ -1,4 +1,4 @@
--- Calls that are well typed: their operands, the types of those, and that they are made.
+-- Well-typed calls: their operands, their types, and that the calls succeed.
 use Rattle.std.proofs.Common.{◌≡◌, ℕ, suc, Bool, true, false, List, [], ◌∷◌, length, Option, Some}
 use Rattle.std.proofs.Common.{None, refl, ap, sym, ◌∙◌, arith}
 use Rattle.std.specs.Prelude.{nat_eq, if◌then◌else◌, is_some}
@@ -90,7 +90,7 @@ pub not_three : (n : ℕ) → nat_eq (suc (suc (suc (suc n)))) 3 ≡ true → �
 not_three n h = let k : suc (suc (suc (suc n))) ≡ 3 = eqb-true (suc (suc (suc (suc n)))) 3 h in
     let j : ⊥ = omega (arith, k) in j
 
--- calls of settled operands
+-- calls of operands with types
 call_is_made : (f : Callable) (xs : List Tree) → fits (function_arity meaning f) (length xs) ≡ true
     → is_some (tree_type meaning (call f (trees_of xs))) ≡ true
     → call_of f xs ≡ answers (call f (trees_of xs))

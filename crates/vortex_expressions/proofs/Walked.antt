@@ -1,5 +1,5 @@
--- Writing a tree task by task: what is written and what is still to be written are the tree's
--- tokens, and less is left with each step.
+-- Writing a tree task by task: what is written and what is left are the tree's tokens, and less is
+-- left with each step.
 use Rattle.std.proofs.Common.{◌≡◌, ℕ, zero, suc, ◌+◌, ◌<◌, ◌≤◌, Bool, true, false, List, [], ◌∷◌}
 use Rattle.std.proofs.Common.{◌++◌, map, Option, Some, None, refl, ap, sym, subst, ◌∙◌}
 use Rattle.std.proofs.Common.{append_assoc, arith, option_map, nat_lt, lit≤, lit<, length}
@@ -58,7 +58,7 @@ pushes_both ts us old mid new f g =
 pub pushes_none : (w : Writer) → Pushes [] w w
 pushes_none w = λ us h. subst (λ (ws : List Token). Holds ws w) (sym (append-nil us)) h
 
--- what parts cost
+-- the cost of parts
 part_most : (d l : ℕ) (t : Tree) → part_cost (tree d l t) ≤ tree_cost t + 4
 part_most d zero t = omega arith
 part_most d (suc l) t = omega arith

@@ -1,4 +1,4 @@
--- The steps of a tree, up to a place.
+-- The steps of a tree, up to an index.
 use Rattle.std.proofs.Common.{◌≡◌, ℕ, suc, ◌+◌, ◌<◌, ◌≤◌, List, ◌∷◌, length, map, drop, get_or}
 use Rattle.std.proofs.Common.{ap, sym, ◌∙◌, subst, arith}
 use Rattle.std.proofs.Math.Seq.{drop-cons}
@@ -6,7 +6,7 @@ use Rattle.std.proofs.lemmas.List.{drop_all}
 use Rattle.vortex_types.specs.LogicalTypes.{Fields}
 use Rattle.vortex_syntax.specs.declared.step.Step as written
 use Rattle.vortex_syntax.specs.Postfix.{step_in}
-use Rattle.vortex_expressions.specs.declared.refusal.Stop.{Stop}
+use Rattle.vortex_expressions.specs.declared.refusal.BindStop.{BindStop}
 use Rattle.vortex_expressions.specs.Outcomes.{Outcome, answers, and_then}
 use Rattle.vortex_expressions.specs.Items.{Item, Tree}
 use Rattle.vortex_expressions.specs.Stacks.{run, stepped, left, tree_left}
@@ -37,7 +37,7 @@ module _ (scope : Fields) (steps : List written.Step) where
       so_far ∙ one_more n s st lt
       ∙ ap (λ o. and_then (and_then o (run scope (map step_in (drop (n + 1) steps)))) left) h
 
-  pub stops : (n : ℕ) (s : written.Step) (st : List Item) (e : Stop) → n < length steps
+  pub stops : (n : ℕ) (s : written.Step) (st : List Item) (e : BindStop) → n < length steps
       → StopsBy (stepped scope (step_in (get_or steps n s)) st) e → SoFar n st
       → StopsBy (tree_left scope (map step_in steps)) e
   stops n s st e lt h so_far =

@@ -1,4 +1,4 @@
--- The steps of a tree of syntax leave what it stands for.
+-- The steps of a syntax tree leave its meaning.
 use Rattle.std.proofs.Common.{◌≡◌, List, [], ◌∷◌, ◌++◌, true, false, Some, None}
 use Rattle.std.proofs.Common.{refl, ap, sym, ◌∙◌, append_assoc}
 use Rattle.std.proofs.lemmas.List.{append-nil}
@@ -75,7 +75,7 @@ module _ (scope : Fields) where
   leaves (cast a w n) =
       next [] (postfix a) _ _ (cast_item w n) (leaves a) (λ i. last (i ∷ []) _ _ (λ st. refl))
 
-  -- of an expression
+  -- for an expression
   pub tree_left-is : (t : Syntax) → tree_left scope (postfix t) ≡ tree_of scope t
   unfolding run
   tree_left-is t =

@@ -1,4 +1,4 @@
--- Lists of answers over the columns of a scope, each a tree with its name where it has one.
+-- Lists of answers over the columns of a scope, each a tree with its name if it has one.
 use Rattle.std.specs.Prelude.{◌≡◌, ℕ, List, [], ◌∷◌, Option, Some, None, string_bytes}
 use Rattle.std.specs.Option.{option_map}
 use Rattle.vortex_types.specs.LogicalTypes.{Fields}
@@ -20,7 +20,7 @@ pub record Answer : Type 0 where
 abbrev pub answer_in : held.Answer → Answer
 answer_in a = record { tree = a.tree; name = option_map string_bytes a.name }
 
--- the name that stands behind `as`, without its quotes
+-- the name after `as`, without its quotes
 abbrev pub name_of : Token → Outcome (List ℕ)
 name_of (name w) = text_of w
 name_of (quoted w) = between_quotes 34 w
@@ -33,7 +33,7 @@ name_said (Some t) = and_then (name_of t) (λ w. answers (Some w))
 abbrev pub with_name : Option Token → Tree → Outcome Answer
 with_name n t = and_then (name_said n) (λ w. answers (record { tree = t; name = w }))
 
--- first all of an answer, then those behind it
+-- first all of an answer, then those after it
 abbrev pub with_first : Outcome Answer → Outcome (List Answer) → Outcome (List Answer)
 with_first a o = and_then a (λ x. and_then o (λ xs. answers (x ∷ xs)))
 
@@ -45,7 +45,7 @@ module _ (scope : Fields) where
   answers_of [] = answers []
   answers_of (a ∷ bs) = with_first (answer_of a) (answers_of bs)
 
-  -- the same by the steps of the trees
+  -- the same from the steps of the trees
   abbrev pub answer_left : Told → Outcome Answer
   answer_left a = and_then (tree_left scope a.steps) (with_name a.name)
 
@@ -53,13 +53,13 @@ module _ (scope : Fields) where
   answers_left [] = answers []
   answers_left (a ∷ bs) = with_first (answer_left a) (answers_left bs)
 
-  -- the text says the list
+  -- the text means the list
   pub record ExpressesAll (text : List ℕ) (list : List Answer) : Type 0 where
     pub syntax : List syntax.Answer
     pub read : ReadsAnswers text syntax
     pub bound : answers_of syntax ≡ answers list
 
-  -- the text is a list of answers that is refused so
+  -- the text is a list of answers with this error
   pub record IsRefusedAll (text : List ℕ) (r : Refusal) : Type 0 where
     pub syntax : List syntax.Answer
     pub read : ReadsAnswers text syntax

@@ -1,4 +1,4 @@
--- The tree that an expression stands for over the columns of a scope.
+-- The tree that an expression binds to over the columns of a scope.
 use Rattle.std.specs.Prelude.{◌≡◌, ℕ, List, None}
 use Rattle.vortex_types.specs.LogicalTypes.{Fields}
 use Rattle.vortex_syntax.specs.Syntax.{Syntax, operand, negative, typed, grouped, negated, joined}
@@ -12,7 +12,7 @@ use Rattle.vortex_expressions.specs.Calls.{not_item, joined_item, tested_item, b
 use Rattle.vortex_expressions.specs.Calls.{matched_item}
 
 module _ (scope : Fields) where
-  -- what a tree of syntax stands for, from left to right; literals have no types yet
+  -- the meaning of a syntax tree, from left to right; literals have no types yet
   abbrev pub item_of : Syntax → Outcome Item
   item_of (operand t) = operand_item scope t
   item_of (negative ds) = negative_item ds
@@ -27,17 +27,17 @@ module _ (scope : Fields) where
   item_of (matched k a p e) = and_then (item_of a) (λ x. and_then (item_of p) (matched_item k e x))
   item_of (cast a w n) = and_then (item_of a) (cast_item w n)
 
-  -- an expression that is a literal alone has the type that it has alone
+  -- an expression that is only a literal has its default type
   abbrev pub tree_of : Syntax → Outcome Tree
   tree_of t = and_then (item_of t) (settled None)
 
-  -- the text says the tree
+  -- the text means the tree
   pub record Expresses (text : List ℕ) (tree : Tree) : Type 0 where
     pub syntax : Syntax
     pub read : Reads text syntax
     pub bound : tree_of syntax ≡ answers tree
 
-  -- the text is an expression that is refused so
+  -- the text is an expression with this error
   pub record IsRefused (text : List ℕ) (r : Refusal) : Type 0 where
     pub syntax : Syntax
     pub read : Reads text syntax

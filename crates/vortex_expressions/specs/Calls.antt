@@ -1,4 +1,4 @@
--- What each form of syntax makes of its parts.
+-- The result of each form of syntax for its parts.
 use Rattle.std.specs.Prelude.{ℕ, List, [], ◌∷◌, Bool, true, false, Option, Some, None, ◌==◌}
 use Rattle.std.specs.Prelude.{if◌then◌else◌}
 use Rattle.std.specs.Str.{is_utf8, chars}
@@ -16,8 +16,8 @@ use Rattle.vortex_interface.specs.Functions.{ours}
 use Rattle.vortex_interface.specs.Trees.{leaf, place}
 use Rattle.vortex_cells.specs.TypeWords.{type_named}
 use Rattle.vortex_cells.specs.Escapes.{escape_of}
-use Rattle.vortex_syntax.specs.declared.step.Operator as syntax
-use Rattle.vortex_syntax.specs.declared.step.Operator.TheVariants as written
+use Rattle.vortex_syntax.specs.declared.step.WrittenOperator as syntax
+use Rattle.vortex_syntax.specs.declared.step.WrittenOperator.TheVariants as written
 use Rattle.vortex_syntax.specs.declared.step.LikeKind.{LikeKind}
 use Rattle.vortex_syntax.specs.declared.token.Sign.{Sign}
 use Rattle.vortex_syntax.specs.declared.token.Sign.TheVariants as sign
@@ -31,8 +31,8 @@ use Rattle.vortex_expressions.specs.Outcomes.{or_refuses}
 use Rattle.vortex_expressions.specs.Items.{Item, literal, bound, Tree, called, common_type}
 use Rattle.vortex_expressions.specs.Items.{constant_at}
 
--- Between quotes each quote is written twice, and of two the second is passed over: with the mark
--- the first was read.
+-- In quotes each quote is doubled, and the second of two is skipped: the mark is true after the
+-- first.
 abbrev pub unquoted_behind : ℕ → Bool → List ℕ → List ℕ
 unquoted_behind q b [] = []
 unquoted_behind q true (b ∷ bs) = unquoted_behind q false bs
@@ -47,7 +47,7 @@ text_of bs = if is_utf8 bs then answers bs else refuses NotUtf8
 abbrev pub between_quotes : ℕ → List ℕ → Outcome (List ℕ)
 between_quotes q bs = text_of (unquoted q bs)
 
--- what is made becomes an item
+-- the result becomes an item
 abbrev pub as_item : Outcome Tree → Outcome Item
 as_item o = and_then o (λ t. answers (bound t))
 
@@ -89,7 +89,7 @@ abbrev pub typed_item : List ℕ → Bool → Item → Outcome Item
 typed_item w n (bound t) = missing
 typed_item w n (literal l) = as_item (and_then (type_of_name w n) (constant_at l))
 
--- the one cast there is: of a truth value, to the nullable type
+-- the only cast: of a truth value, to the nullable type
 abbrev pub cast_to : Item → LogicalType → Outcome Tree
 cast_to i t =
     if is_bool_type t then
@@ -99,11 +99,11 @@ cast_to i t =
 abbrev pub cast_item : List ℕ → Bool → Item → Outcome Item
 cast_item w n i = as_item (and_then (type_of_name w n) (cast_to i))
 
--- beside And, Or and Not null is a truth value
+-- with And, Or and Not, null is a truth value
 abbrev pub truth_type : Option LogicalType
 truth_type = Some (bool_type false)
 
-abbrev pub operator_of : syntax.Operator → Operator
+abbrev pub operator_of : syntax.WrittenOperator → Operator
 operator_of written.Or = operator.Or
 operator_of written.And = operator.And
 operator_of written.Equal = operator.Eq
@@ -117,26 +117,26 @@ operator_of written.Sub = operator.Sub
 operator_of written.Mul = operator.Mul
 operator_of written.Div = operator.Div
 
-abbrev pub joined_type : syntax.Operator → List Item → Option LogicalType
+abbrev pub joined_type : syntax.WrittenOperator → List Item → Option LogicalType
 joined_type written.Or is = truth_type
 joined_type written.And is = truth_type
 joined_type o is = common_type is
 
--- a tree, or where that is said Not of it
+-- a tree, or Not of it if the flag is true
 abbrev pub negated_if : Bool → Tree → Outcome Tree
 negated_if n t = if n then called (ours Not) None (bound t ∷ []) else answers t
 
 abbrev pub not_item : Item → Outcome Item
 not_item a = as_item (called (ours Not) truth_type (a ∷ []))
 
-abbrev pub joined_item : syntax.Operator → Item → Item → Outcome Item
+abbrev pub joined_item : syntax.WrittenOperator → Item → Item → Outcome Item
 joined_item o a b =
     let is = a ∷ b ∷ [] in as_item (called (ours (Binary (operator_of o))) (joined_type o is) is)
 
 abbrev pub tested_item : Bool → Item → Outcome Item
 tested_item n a = as_item (called (ours (NullTest n)) None (a ∷ []))
 
--- both bounds lie within
+-- both bounds are inclusive
 abbrev pub within_bounds : BetweenOptions
 within_bounds = record { lower_strict = NonStrict; upper_strict = NonStrict }
 
@@ -154,7 +154,7 @@ like_options k escape = record {
   escape = escape;
 }
 
--- the escape that a text says: its one character, or none where it has no character
+-- the escape of a text: its only character, or none if it has no character
 abbrev pub escape_said : List ℕ → Outcome (Option ℕ)
 escape_said bs = or_refuses NoEscape (escape_of (chars bs))
 
@@ -165,7 +165,7 @@ abbrev pub liked_item : LikeKind → Option ℕ → Item → Item → Outcome It
 liked_item k escape a p =
     as_item (called (ours (Like (like_options k escape))) (Some (text_type false)) (a ∷ p ∷ []))
 
--- the backslash escapes where no other character is chosen
+-- the backslash is the default escape
 abbrev pub matched_item : LikeKind → Option (List ℕ) → Item → Item → Outcome Item
 matched_item k None a p = liked_item k (Some backslash) a p
 matched_item k (Some e) a p = and_then (escape_in e) (λ c. liked_item k c a p)

@@ -1,4 +1,4 @@
--- Literals that have no type yet, and trees; and what calls make of them.
+-- Literals without a type yet, and trees; and calls of them.
 use Rattle.std.specs.Prelude.{List, [], ◌∷◌, length, map, Option, Some, None, is_some}
 use Rattle.std.specs.Prelude.{if◌then◌else◌}
 use Rattle.std.specs.Option.{option_or}
@@ -22,7 +22,7 @@ use Rattle.vortex_expressions.specs.Literals.{Literal, literal_in, own_type, typ
 use Rattle.vortex_expressions.specs.Outcomes.{Outcome, answers, refuses, missing, and_then}
 use Rattle.vortex_expressions.specs.Outcomes.{or_refuses}
 
--- trees, and functions, without any of a caller's
+-- trees and functions, without callers' functions
 abbrev pub Tree : Type 0
 Tree = trees.Tree NoCustom EmptyOptions
 
@@ -40,7 +40,7 @@ abbrev pub item_in : held.Item → Item
 item_in (variant.Literal l) = literal (literal_in l)
 item_in (variant.Bound t) = bound t
 
--- the type of a tree, and the one that a literal has alone
+-- the type of a tree, and the default type of a literal
 abbrev pub bound_type : Item → Option LogicalType
 bound_type (literal l) = None
 bound_type (bound t) = tree_type meaning t
@@ -53,17 +53,17 @@ abbrev pub first_some : {A : Type 0} → List (Option A) → Option A
 first_some [] = None
 first_some (o ∷ os) = option_or o (first_some os)
 
--- the type that literals take which stand side by side with trees: the first tree's, or where no
--- tree stands there, that of the first literal which has one alone
+-- the type that literals take next to other items: the first tree's, or without a tree that of the
+-- first literal with a default type
 abbrev pub common_type : List Item → Option LogicalType
 common_type is =
     option_or (first_some (map bound_type is)) (first_some (map literal_type is))
 
--- the value of that type which a literal says
+-- the value of a literal in that type
 abbrev pub constant_at : Literal → LogicalType → Outcome Tree
 constant_at l t = and_then (or_refuses NotHeld (value_at t l)) (λ s. answers (constant s))
 
--- a tree as it is, and a literal with the type that it takes beside that one
+-- a tree unchanged, and a literal with the type that it takes
 abbrev pub settled : Option LogicalType → Item → Outcome Tree
 settled o (bound t) = answers t
 settled o (literal l) = and_then (or_refuses UntypedNull (type_beside o l)) (constant_at l)
@@ -74,7 +74,7 @@ all_settled o [] = answers []
 all_settled o (i ∷ is) =
     and_then (settled o i) (λ t. and_then (all_settled o is) (λ ts. answers (t ∷ ts)))
 
--- E3 at that place; a function without one refuses no types
+-- E3 at that place; a function without one accepts all types
 abbrev pub refused_at : Option MismatchPlace → Outcome Tree
 refused_at None = missing
 refused_at (Some p) = refuses (Binding (TypeMismatch p))

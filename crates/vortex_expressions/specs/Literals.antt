@@ -11,7 +11,7 @@ use Rattle.vortex_cells.specs.CellValues.{literal_of_cell}
 use Rattle.vortex_expressions.specs.declared.literal.Literal as held
 use Rattle.vortex_expressions.specs.declared.literal.Literal.TheVariants as variant
 
--- number: digits, with a minus sign before them or without
+-- number: digits, optionally after a minus sign
 -- text: without its quotes
 pub data Literal : Type 0 where
   number : List ℕ → Literal
@@ -25,7 +25,7 @@ literal_in (variant.Text bs) = text (string_bytes bs)
 literal_in (variant.Truth b) = truth b
 literal_in variant.Null = null
 
--- the type of a literal that stands alone; null has none
+-- the default type of a literal; null has none
 abbrev pub own_type : Literal → Option LogicalType
 own_type (number w) = Some (integer_type I64 false)
 own_type (text bs) = Some (text_type false)
@@ -36,7 +36,7 @@ own_type null = None
 abbrev pub number_type : LogicalType → LogicalType
 number_type t = if is_integer_type t then with_nullability t false else integer_type I64 false
 
--- the type of a literal beside a value of a type: a number takes an integer type, and null takes
+-- the type of a literal next to a value of a type: a number takes an integer type, and null takes
 -- any
 abbrev pub type_beside : Option LogicalType → Literal → Option LogicalType
 type_beside (Some t) (number w) = Some (number_type t)
@@ -46,7 +46,7 @@ type_beside o l = own_type l
 abbrev pub truth_word : Bool → List ℕ
 truth_word b = if b then codes "true" else codes "false"
 
--- the value of a type that a literal says, where it says one; null makes the type nullable
+-- the value of a literal in a type, if it has one; null makes the type nullable
 abbrev pub value_at : LogicalType → Literal → Option ScalarView
 value_at t (number w) = if is_integer_type t then literal_of_cell t (Some w) else None
 value_at t (text bs) = if is_text_type t then literal_of_cell t (Some bs) else None

@@ -4,7 +4,7 @@ use Rattle.std.specs.Fmt.{decimal}
 use Rattle.vortex_expressions.specs.declared.error.ReadError.{ReadError}
 use Rattle.vortex_expressions.specs.Reading.{is_want_of_memory}
 
--- the place, and the words that the error carries; at no place that memory ran out
+-- the position, and the words that the error carries; out of memory has no position
 abbrev pub read_error_text : ReadError → List ℕ
 read_error_text e =
     if is_want_of_memory e then codes "out of memory"

@@ -1,4 +1,4 @@
--- What the readers of texts answer.
+-- Results of the readers of texts.
 use Rattle.std.specs.Prelude.{◌≡◌, ◌⊎◌, ℕ, Result, MatchResult, Bool, true, false, IsTrue, List}
 use Rattle.std.specs.Prelude.{map}
 use Rattle.vortex_errors.specs.declared.error.VortexError.{VortexError}
@@ -16,8 +16,8 @@ use Rattle.vortex_expressions.specs.declared.error.Reason.{Reason}
 use Rattle.vortex_expressions.specs.declared.error.Reason.TheVariants as reason
 use Rattle.vortex_expressions.specs.declared.refusal.Refusal.{Refusal}
 use Rattle.vortex_expressions.specs.declared.refusal.Refusal.TheVariants.{Binding}
-use Rattle.vortex_expressions.specs.declared.refusal.Stop.{Stop}
-use Rattle.vortex_expressions.specs.declared.refusal.Stop.TheVariants.{Refused, Missing}
+use Rattle.vortex_expressions.specs.declared.refusal.BindStop.{BindStop}
+use Rattle.vortex_expressions.specs.declared.refusal.BindStop.TheVariants.{Refused, Missing}
 use Rattle.vortex_expressions.specs.Outcomes.{Outcome, answers, refuses, missing}
 use Rattle.vortex_expressions.specs.Items.{Tree}
 use Rattle.vortex_expressions.specs.Stacks.{tree_left}
@@ -38,35 +38,35 @@ is_memory_reason r = false
 abbrev pub is_want_of_memory : ReadError → Bool
 is_want_of_memory e = is_memory_reason e.reason
 
--- P of what is read; or memory ran out
+-- P of the result; or memory ran out
 abbrev pub ReadUnlessMemory : {A : Type 0} → Result A ReadError → (A → Type 0) → Type 0
 ReadUnlessMemory result P = MatchResult result P (λ e. IsTrue (is_want_of_memory e))
 
--- refused for that reason; or memory ran out
+-- fails for that reason; or memory ran out
 abbrev pub RefusedFor : Refusal → ReadError → Type 0
 RefusedFor r e = (e.reason ≡ reason.Refused r) ⊎ IsTrue (is_want_of_memory e)
 
 abbrev pub RefusesAs : {A : Type 0} → Refusal → Result A ReadError → Type 0
 RefusesAs r result = MatchResult result (λ _. ⊥) (RefusedFor r)
 
--- that something could have come where a part is missing; or memory ran out
+-- what was expected where a part is missing; or memory ran out
 abbrev pub LacksPart : ReadError → Type 0
 LacksPart e = ((x : Expected) × (e.reason ≡ reason.Unexpected x)) ⊎ IsTrue (is_want_of_memory e)
 
--- what is told of an outcome that is no answer, or of want of memory
+-- the report of an outcome without a result, or out of memory
 abbrev pub ToldBy : {A : Type 0} → Outcome A → ReadError → Type 0
 ToldBy (answers a) e = IsTrue (is_want_of_memory e)
 ToldBy (refuses r) e = RefusedFor r e
 ToldBy missing e = LacksPart e
 
--- the outcome is found, by what is seen of it; or its refusal is told
+-- the outcome is found, as a view; or its error is reported
 abbrev pub Finds : {A B : Type 0} → (A → B) → Result A ReadError → Outcome B → Type 0
 Finds view result o = MatchResult result (λ a. o ≡ answers (view a)) (ToldBy o)
 
 abbrev pub Bound : Fields → List Step → Result Tree ReadError → Type 0
 Bound scope ss result = Finds (λ t. t) result (tree_left scope (map step_in ss))
 
--- the reason is told, at that byte, unless memory ran out
+-- the reason is reported, at that byte, unless memory ran out
 abbrev pub ToldAt : Reason → ℕ → ReadError → Type 0
 ToldAt r byte e = ((e.reason ≡ r) × (e.byte ≡ byte)) ⊎ IsTrue (is_want_of_memory e)
 
@@ -76,13 +76,13 @@ UnreadBy (syntax.Unexpected byte x) e = ToldAt (reason.Unexpected x) byte e
 UnreadBy (syntax.TooDeep byte) e = ToldAt reason.TooDeep byte e
 UnreadBy syntax.OutOfMemory e = IsTrue (is_want_of_memory e)
 
--- what is told of why steps stop
-abbrev pub ToldStop : Stop → ReadError → Type 0
+-- the report of why steps stop
+abbrev pub ToldStop : BindStop → ReadError → Type 0
 ToldStop (Refused r) e = RefusedFor r e
 ToldStop Missing e = LacksPart e
 
--- Why a text is refused, and at which byte: as its tokens are, which are to be what these stops are
--- of, or else for that refusal; or memory ran out.
+-- Why a text fails, and at which byte: its tokens, by where they stop, or an error of this kind; or
+-- memory ran out.
 abbrev pub ToldFor : (List Token → ℕ → Type 0) → (Refusal → Type 0) → List ℕ → Reason → ℕ → Type 0
 ToldFor Stops Refuses text reason.NoToken byte = RefusesBy Stops text (syntax.NoToken byte)
 ToldFor Stops Refuses text (reason.Unexpected x) byte =

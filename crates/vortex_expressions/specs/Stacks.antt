@@ -1,4 +1,4 @@
--- Steps in postfix order, each over what those before it left: the last item first.
+-- Steps in postfix order, each over what the steps before it left: the last item first.
 use Rattle.std.specs.Prelude.{List, [], ◌∷◌, true, false, None, Some, map, reverse}
 use Rattle.vortex_types.specs.LogicalTypes.{Fields}
 use Rattle.vortex_syntax.specs.declared.step.Call.{Call}
@@ -14,11 +14,11 @@ use Rattle.vortex_expressions.specs.Calls.{matched_item}
 abbrev pub stack_in : List held.Item → List Item
 stack_in is = reverse (map item_in is)
 
--- what is made goes on the stack
+-- the result is pushed
 abbrev pub pushed : List Item → Outcome Item → Outcome (List Item)
 pushed st o = and_then o (λ i. answers (i ∷ st))
 
--- of the last item, the last two, and the last three
+-- for the last item, the last two, and the last three
 abbrev pub with_one : (Item → Outcome Item) → List Item → Outcome (List Item)
 with_one f [] = missing
 with_one f (a ∷ st) = pushed st (f a)
@@ -52,7 +52,7 @@ module _ (scope : Fields) where
   run [] st = answers st
   run (s ∷ ss) st = and_then (stepped s st) (run ss)
 
--- the tree that steps leave, alone
+-- the only tree that steps leave
 abbrev pub left : List Item → Outcome Tree
 left [] = missing
 left (i ∷ []) = settled None i

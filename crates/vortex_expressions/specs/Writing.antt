@@ -1,4 +1,4 @@
--- The text of a tree: its syntax, with no brackets but those that are needed.
+-- The text of a tree: its syntax, with only the brackets that are needed.
 use Rattle.std.specs.Prelude.{◌≡◌, ℕ, suc, ℤ, pos, negsuc, nat_le, ◌==◌, ◌&&◌, not, Bool, true}
 use Rattle.std.specs.Prelude.{false}
 use Rattle.std.specs.Prelude.{List, [], ◌∷◌, Option, Some, None, codes, slice_get, encode_utf8}
@@ -28,8 +28,8 @@ use Rattle.vortex_interface.specs.declared.options.EmptyOptions.{EmptyOptions}
 use Rattle.vortex_functions.specs.declared.custom.NoCustom.{NoCustom}
 use Rattle.vortex_interface.specs.Trees as trees
 use Rattle.vortex_interface.specs.Trees.{Leaf, place, held, leaf, constant, call, no_trees, tree}
-use Rattle.vortex_syntax.specs.declared.step.Operator as syntax
-use Rattle.vortex_syntax.specs.declared.step.Operator.TheVariants as written
+use Rattle.vortex_syntax.specs.declared.step.WrittenOperator as syntax
+use Rattle.vortex_syntax.specs.declared.step.WrittenOperator.TheVariants as written
 use Rattle.vortex_syntax.specs.declared.step.LikeKind.{LikeKind}
 use Rattle.vortex_syntax.specs.declared.token.Sign.{Sign}
 use Rattle.vortex_syntax.specs.declared.token.Sign.TheVariants as sign
@@ -43,7 +43,7 @@ use Rattle.vortex_syntax.specs.Writing as tokens
 use Rattle.vortex_syntax.specs.Writing.{name_token, text_token, doubled}
 use Rattle.vortex_expressions.specs.Items.{Tree, Callable, meaning}
 
--- in brackets where it binds less tightly than its place asks
+-- in brackets if it binds less tightly than required there
 abbrev pub at_level : ℕ → Syntax → Syntax
 at_level l a = if nat_le l (level a) then a else grouped a
 
@@ -73,7 +73,7 @@ abbrev pub is_i64 : PType → Bool
 is_i64 I64 = true
 is_i64 p = false
 
--- the types that need not be said: those that literals have alone
+-- the types that need not be written: the default types of literals
 abbrev pub is_own_type : LogicalType → Bool
 is_own_type (bool_type n) = not n
 is_own_type (integer_type p n) = is_i64 p && not n
@@ -87,8 +87,8 @@ abbrev pub literal_syntax : ScalarView → Option Syntax
 literal_syntax s =
     option_and_then (λ a. option_map (of_type s.dtype a) (type_name s.dtype)) (value_syntax s.value)
 
--- the operators as they are written
-abbrev pub written_operator : Operator → syntax.Operator
+-- the operators as written
+abbrev pub written_operator : Operator → syntax.WrittenOperator
 written_operator operator.Or = written.Or
 written_operator operator.And = written.And
 written_operator operator.Eq = written.Equal
@@ -102,14 +102,14 @@ written_operator operator.Sub = written.Sub
 written_operator operator.Mul = written.Mul
 written_operator operator.Div = written.Div
 
-abbrev pub joined_syntax : syntax.Operator → Syntax → Syntax → Syntax
+abbrev pub joined_syntax : syntax.WrittenOperator → Syntax → Syntax → Syntax
 joined_syntax o a b = joined o (at_level (left o) a) (at_level (right o) b)
 
 abbrev pub is_non_strict : StrictComparison → Bool
 is_non_strict Strict = false
 is_non_strict NonStrict = true
 
--- both bounds lie within
+-- both bounds are inclusive
 abbrev pub is_within : BetweenOptions → Bool
 is_within o = is_non_strict o.lower_strict && is_non_strict o.upper_strict
 
@@ -120,7 +120,7 @@ between_syntax a low high =
 abbrev pub like_kind : LikeOptions → LikeKind
 like_kind o = record { negated = o.negated; case_insensitive = o.case_insensitive }
 
--- the backslash need not be said
+-- the backslash is not written
 abbrev pub is_own_escape : Option ℕ → Bool
 is_own_escape None = false
 is_own_escape (Some c) = c == backslash
@@ -136,7 +136,7 @@ abbrev pub matched_syntax : LikeOptions → Syntax → Syntax → Syntax
 matched_syntax o a p =
     matched (like_kind o) (at_level sum_level a) (at_level sum_level p) (escape_written o.escape)
 
--- what two and three parts make, where all are there
+-- the result for two and for three parts, if all are present
 abbrev pub both : {A B : Type 0} → (A → A → B) → Option A → Option A → Option B
 both f None y = None
 both f (Some a) None = None
@@ -148,7 +148,7 @@ all_three f (Some a) None z = None
 all_three f (Some a) (Some b) None = None
 all_three f (Some a) (Some b) (Some c) = Some (f a b c)
 
--- the operand at a place, where it has a syntax
+-- the operand at an index, if it has a syntax
 abbrev pub nth : {A : Type 0} → ℕ → List (Option A) → Option A
 nth k os = option_and_then (λ o. o) (slice_get os k)
 
@@ -169,7 +169,7 @@ abbrev pub leaf_syntax : Leaf → Option Syntax
 leaf_syntax (place p name t) = Some (operand (name_token name))
 leaf_syntax (held c) = None
 
--- the syntax of a tree, where it has one: lists, structs, bytes and a caller's functions have none
+-- the syntax of a tree, if it has one: lists, structs, bytes and callers' functions have none
 abbrev mutual
   pub syntax_of : Tree → Option Syntax
   syntax_of (leaf l) = leaf_syntax l
@@ -180,7 +180,7 @@ abbrev mutual
   syntaxes_of no_trees = []
   syntaxes_of (tree t ts) = syntax_of t ∷ syntaxes_of ts
 
--- its text, where its brackets nest no deeper than they may
+-- its text, if its brackets nest no deeper than allowed
 abbrev pub text_if : List token.Token → Option (List ℕ)
 text_if ts = if nests ts then Some (tokens.written ts) else None
 

@@ -1,4 +1,4 @@
--- Writing a tree from left to right: what is still to be written stands in a list.
+-- Writing a tree from left to right: what is still to be written is in a list.
 use Rattle.std.specs.Prelude.{◌≡◌, ℕ, zero, suc, ◌+◌, ◌<◌, nat_lt, ◌&&◌, Bool, true, false, List}
 use Rattle.std.specs.Prelude.{[]}
 use Rattle.std.specs.Prelude.{◌∷◌, ◌++◌, map, reverse, Option, Some, None, codes, slice_get}
@@ -15,7 +15,7 @@ use Rattle.vortex_interface.specs.Trees.{leaf, constant, call, no_trees}
 use Rattle.vortex_interface.specs.declared.options.EmptyOptions.{EmptyOptions}
 use Rattle.vortex_functions.specs.declared.custom.NoCustom.{NoCustom}
 use Rattle.vortex_syntax.specs.Nesting.{nesting_limit}
-use Rattle.vortex_syntax.specs.declared.step.Operator as syntax
+use Rattle.vortex_syntax.specs.declared.step.WrittenOperator as syntax
 use Rattle.vortex_syntax.specs.declared.token.Sign.TheVariants as sign
 use Rattle.vortex_syntax.specs.declared.writing.Writer.{Writer}
 use Rattle.vortex_syntax.specs.Tokens.{Token, nullable, sign}
@@ -26,8 +26,8 @@ use Rattle.vortex_syntax.specs.Levels.{sum_level, atom_level, literal_level}
 use Rattle.vortex_syntax.specs.Spelling.{spelling, operator_sign, null_test, like_sign}
 use Rattle.vortex_syntax.specs.Spelling.{escape_tokens}
 use Rattle.vortex_syntax.specs.Writing.{text_token, Holds}
-use Rattle.vortex_expressions.specs.declared.tasks.Task.{Task}
-use Rattle.vortex_expressions.specs.declared.tasks.Task.TheVariants as task
+use Rattle.vortex_expressions.specs.declared.tasks.WriteTask.{WriteTask}
+use Rattle.vortex_expressions.specs.declared.tasks.WriteTask.TheVariants as task
 use Rattle.vortex_expressions.specs.declared.tasks.TreeWriter.{TreeWriter}
 use Rattle.vortex_expressions.specs.Items.{Tree, Callable}
 use Rattle.vortex_expressions.specs.Writing.{at_level, is_own_type, written_operator, is_within}
@@ -56,7 +56,7 @@ abbrev pub tree_level : Tree → ℕ
 tree_level (call f ts) = function_level f
 tree_level t = leaf_level t
 
--- behind so many open brackets its own nest no deeper than they may
+-- inside that many open brackets, its own nest no deeper than allowed
 abbrev pub nests_behind : ℕ → Syntax → Bool
 nests_behind d (operand t) = true
 nests_behind d (negative ds) = true
@@ -73,12 +73,12 @@ nests_behind d (cast a w n) = nat_lt d nesting_limit && nests_behind (suc d) a
 abbrev pub tokens_behind : ℕ → Syntax → Option (List Token)
 tokens_behind d a = if nests_behind d a then Some (spelling a) else None
 
--- a part of a tree's text: a token, or a tree behind so many open brackets, at a level
+-- a part of a tree's text: a token, or a tree inside that many open brackets, at a level
 pub data Part : Type 0 where
   token : Token → Part
   tree : ℕ → ℕ → Tree → Part
 
-abbrev pub task_in : Task → Part
+abbrev pub task_in : WriteTask → Part
 task_in (task.Sign s) = token (sign s)
 task_in (task.Tree t l d) = tree d l t.now
 task_in task.TruthType = token (nullable (codes "bool"))
@@ -87,7 +87,7 @@ task_in (task.Escape e) = token (text_token (escape_text e))
 abbrev pub tasks_in : TreeWriter → List Part
 tasks_in w = map task_in (reverse w.tasks.items)
 
--- the tokens of parts, where they have a text
+-- the tokens of parts, if they have a text
 abbrev pub joined_tokens : Option (List Token) → Option (List Token) → Option (List Token)
 joined_tokens None more = None
 joined_tokens (Some ts) None = None
@@ -102,7 +102,7 @@ all_tokens [] = Some []
 all_tokens (p ∷ ps) = joined_tokens (part_tokens p) (all_tokens ps)
 
 -- the parts of a call
-abbrev pub binary_parts : ℕ → syntax.Operator → Tree → Tree → List Part
+abbrev pub binary_parts : ℕ → syntax.WrittenOperator → Tree → Tree → List Part
 binary_parts d o a b =
     tree d (left o) a ∷ token (sign (operator_sign o)) ∷ tree d (right o) b ∷ []
 
@@ -124,8 +124,8 @@ cast_parts d t =
     token (sign sign.Cast) ∷ token (sign sign.Open) ∷ tree (suc d) 0 t
     ∷ token (sign sign.As) ∷ token (nullable (codes "bool")) ∷ token (sign sign.Close) ∷ []
 
--- and of a function's call on these, where it has a text
-abbrev pub binary_plan : ℕ → syntax.Operator → List Tree → Option (List Part)
+-- and of a function's call on these, if it has a text
+abbrev pub binary_plan : ℕ → syntax.WrittenOperator → List Tree → Option (List Part)
 binary_plan d o ts = both (binary_parts d o) (slice_get ts 0) (slice_get ts 1)
 
 abbrev pub not_plan : ℕ → List Tree → Option (List Part)
@@ -160,13 +160,13 @@ call_plan d (custom f o) ts = None
 abbrev pub bracket_plan : ℕ → Tree → Option (List Part)
 bracket_plan d t = if nat_lt d nesting_limit then Some (bracket_parts d t) else None
 
--- these come next, where there are any; and nothing is written yet
+-- these come next, if there are any; and nothing is written yet
 abbrev pub Plans : Option (List Part) → TreeWriter → TreeWriter → Bool → Type 0
 Plans None old new goes = goes ≡ false
 Plans (Some ps) old new goes =
     (goes ≡ true) × (tasks_in new ≡ ps ++ tasks_in old) × (new.writer ≡ old.writer)
 
--- these are written, where there are any
+-- these are written, if there are any
 abbrev pub Pushes : List Token → Writer → Writer → Type 0
 Pushes ts old new = (us : List Token) → Holds us old → Holds (us ++ ts) new
 
@@ -205,7 +205,7 @@ abbrev pub parts_cost : List Part → ℕ
 parts_cost [] = 0
 parts_cost (p ∷ ps) = part_cost p + parts_cost ps
 
--- what a part makes of what is written and of what is still to be written
+-- the effect of a part on what is written and what is left
 pub record Goes (p : Part) (old new : TreeWriter) : Type 0 where
   pub tokens : List Token
   pub parts : List Part

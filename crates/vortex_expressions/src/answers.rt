@@ -14,34 +14,34 @@ ghost use Rattle.vortex_expressions.specs.Reading.{ReadUnlessMemory, RefusesAs, 
 ghost use Rattle.vortex_expressions.specs.Reading.{TellsWhy};
 
 use crate::error::ReadError;
+use crate::messages::{out_of_memory, unnamed, unread};
 use crate::quotes::{between_quotes, text_of};
 use crate::read::bind_steps;
-use crate::refusal::Stop;
-use crate::telling::{out_of_memory, unnamed, unread};
+use crate::refusal::BindStop;
 use std::alloc::Global;
 use vortex_columns::StructFields;
 use vortex_functions::{BoundExpression, NoCustom};
 use vortex_syntax::{SyntaxAnswer, Token, read_answer_list};
 
-/// A tree, and the name behind its `as`, where it has one.
+/// A tree, and the name after its `as`, if it has one.
 #[derive(Drop)]
 pub struct Answer {
     pub tree: BoundExpression<NoCustom>,
     pub name: Option<String>,
 }
 
-/// The name that stands behind `as`, without its quotes.
-fn name_of(alloc: Global, token: Token<'_>) -> Result<String, Stop>
+/// The name after `as`, without its quotes.
+fn name_of(alloc: Global, token: Token<'_>) -> Result<String, BindStop>
     ensures { Gives string_bytes result (name_of (token_in token.entry)) }
 {
     match token {
         Token::Name(name) => text_of(alloc, name),
         Token::Quoted(name) => between_quotes(alloc, b'"', name),
-        _ => Err(Stop::Missing),
+        _ => Err(BindStop::Missing),
     }
 }
 
-fn name_said(alloc: Global, token: Option<Token<'_>>) -> Result<Option<String>, Stop>
+fn name_said(alloc: Global, token: Option<Token<'_>>) -> Result<Option<String>, BindStop>
     ensures { Gives (option_map string_bytes) result
         (name_said (option_map token_in token.entry)) }
 {
@@ -68,9 +68,9 @@ fn bind_answer(
     }
 }
 
-/// The answers of a list that was parsed from the text, over the columns of a scope: what the steps
-/// of its trees leave, from left to right, with their names. Fails as the first that is refused, at
-/// its place in the text.
+/// The answers of a list that was parsed from the text, over the columns of a scope: the results of
+/// the steps of its trees, from left to right, with their names. Fails with the first error, at its
+/// position in the text.
 pub fn bind_answers(
     alloc: Global,
     scope: &StructFields,
@@ -90,24 +90,24 @@ pub fn bind_answers(
     Ok(answers)
 }
 
-/// Reads a list of answers over the columns of a scope, each with a name behind `as` or without
-/// one: `price * stock as worth, price > 100`. Ok exactly where the text is such a list, and then
-/// the trees that it stands for, with their names.
+/// Reads a list of answers over the columns of a scope, each with a name after `as` or without one:
+/// `price * stock as worth, price > 100`. Ok exactly if the text is such a list: its trees, with
+/// their names.
 pub fn read_answers(
     alloc: Global,
     scope: &StructFields,
     text: &str,
 ) -> Result<Vec<Answer>, ReadError>
-    // What is answered the text says.
+    // The result is the meaning of the text.
     ensures found { IfOk result
         (λ v. ExpressesAll (struct_fields scope.now) text.now (map answer_in v.items)) }
-    // What the text says is answered.
+    // The meaning of the text is returned.
     ensures only { (list : List specs.Answer) → ExpressesAll (struct_fields scope.now) text.now list
         → ReadUnlessMemory result (λ v. map answer_in v.items ≡ list) }
-    // A text that is refused is refused so.
+    // An error of the text is returned.
     ensures refused { (r : Refusal) → IsRefusedAll (struct_fields scope.now) text.now r
         → RefusesAs r result }
-    // Why none is answered, and at which byte of a text that is no list.
+    // Why there is no result, and at which byte of a text that is no list.
     ensures told { IfErr result
         (TellsWhy ListStopsAt (IsRefusedAll (struct_fields scope.now) text.now) text.now) }
 {

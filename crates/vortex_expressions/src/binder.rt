@@ -1,8 +1,8 @@
-//! Binding: the steps of a tree of syntax, one after another, over a stack of items.
+//! Binding: the steps of a syntax tree, one after another, over a stack of items.
 ghost use Rattle.std.specs.Prelude.{◌≡◌, [], ◌∷◌, map, option_map, MatchResult};
 ghost use Rattle.vortex_types.specs.TypeOf.{struct_fields};
 ghost use Rattle.vortex_syntax.specs.Postfix.{step_in};
-ghost use Rattle.vortex_expressions.specs.declared.refusal.Stop.TheVariants.{Missing};
+ghost use Rattle.vortex_expressions.specs.declared.refusal.BindStop.TheVariants.{Missing};
 ghost use Rattle.vortex_expressions.specs.Items.{item_in};
 ghost use Rattle.vortex_expressions.specs.Stacks.{stack_in, call_made, stepped, tree_left, left};
 ghost use Rattle.vortex_expressions.specs.Stacks.{with_two};
@@ -15,13 +15,13 @@ use crate::calls::{
     tested_item, typed_item,
 };
 use crate::item::Item;
-use crate::refusal::Stop;
+use crate::refusal::BindStop;
 use std::alloc::Global;
 use vortex_columns::StructFields;
 use vortex_functions::{BoundExpression, NoCustom};
 use vortex_syntax::{Call, LikeKind, Step};
 
-/// What the steps have left so far, the last item at the end.
+/// The items left so far, the last item at the end.
 #[derive(Drop)]
 struct Stack {
     items: Vec<Item>,
@@ -31,22 +31,22 @@ struct Stack {
 #[derive(Drop)]
 pub(crate) struct Stopped {
     pub(crate) step: usize,
-    pub(crate) stop: Stop,
+    pub(crate) stop: BindStop,
 }
 
 impl Stack {
-    fn pop(&mut self) -> Result<Item, Stop>
+    fn pop(&mut self) -> Result<Item, BindStop>
         ensures { MatchResult result
             (λ i. stack_in self.old.items.items ≡ item_in i ∷ stack_in self.new.items.items)
             (λ e. (e ≡ Missing) × (stack_in self.old.items.items ≡ [])) }
     {
         match self.items.pop() {
             Some(item) => Ok(item),
-            None => Err(Stop::Missing),
+            None => Err(BindStop::Missing),
         }
     }
 
-    fn push(&mut self, item: Item) -> Result<(), Stop>
+    fn push(&mut self, item: Item) -> Result<(), BindStop>
         ensures { Gives (λ _. stack_in self.new.items.items) result
             (answers (item_in item ∷ stack_in self.old.items.items)) }
     {
@@ -55,7 +55,7 @@ impl Stack {
     }
 
     /// LIKE of the last two.
-    fn like(&mut self, alloc: Global, kind: LikeKind, escape: Option<&[u8]>) -> Result<(), Stop>
+    fn like(&mut self, alloc: Global, kind: LikeKind, escape: Option<&[u8]>) -> Result<(), BindStop>
         ensures { Gives (λ _. stack_in self.new.items.items) result
             (with_two (matched_item kind (option_map (λ e. e.now) escape.entry))
             (stack_in self.old.items.items)) }
@@ -65,7 +65,7 @@ impl Stack {
         self.push(matched_item(alloc, kind, escape, item, pattern)?)
     }
 
-    fn call(&mut self, alloc: Global, call: Call) -> Result<(), Stop>
+    fn call(&mut self, alloc: Global, call: Call) -> Result<(), BindStop>
         ensures { Gives (λ _. stack_in self.new.items.items) result
             (call_made call (stack_in self.old.items.items)) }
     {
@@ -97,7 +97,7 @@ impl Stack {
         }
     }
 
-    fn step(&mut self, alloc: Global, scope: &StructFields, step: Step<'_>) -> Result<(), Stop>
+    fn step(&mut self, alloc: Global, scope: &StructFields, step: Step<'_>) -> Result<(), BindStop>
         ensures { Gives (λ _. stack_in self.new.items.items) result
             (stepped (struct_fields scope.now) (step_in step.entry)
             (stack_in self.old.items.items)) }
@@ -118,13 +118,13 @@ impl Stack {
         }
     }
 
-    /// The tree that is left alone.
-    fn finish(mut self, alloc: Global) -> Result<BoundExpression<NoCustom>, Stop>
+    /// The only tree that is left.
+    fn finish(mut self, alloc: Global) -> Result<BoundExpression<NoCustom>, BindStop>
         ensures { Gives (λ t. t) result (left (stack_in self.items.items)) }
     {
         let item = self.pop()?;
         if !self.items.is_empty() {
-            return Err(Stop::Missing);
+            return Err(BindStop::Missing);
         }
         item.settle(alloc, None)
     }
@@ -157,7 +157,7 @@ pub(crate) fn bind(
     }
 }
 
-/// What the first steps leave, so many.
+/// What the first `count` steps leave.
 pub(crate) fn operands(
     alloc: Global,
     scope: &StructFields,

@@ -1,4 +1,4 @@
-//! What each form of syntax makes of its parts.
+//! The result of each form of syntax for its parts.
 ghost use Rattle.std.specs.Prelude.{◌≡◌, map, option_map};
 ghost use Rattle.vortex_errors.specs.Answers.{AnswersUnlessMemory};
 ghost use Rattle.vortex_types.specs.TypeOf.{type_of, struct_fields};
@@ -11,30 +11,30 @@ ghost use Rattle.vortex_expressions.specs.Answering.{Gives};
 use crate::item::{Item, called, common_type, constant_at};
 use crate::literal::Literal;
 use crate::quotes::{between_quotes, text_of};
-use crate::refusal::{Refusal, Stop};
+use crate::refusal::{BindStop, Refusal};
 use std::alloc::Global;
 use vortex_cells::escapes;
 use vortex_cells::types::type_named;
 use vortex_columns::{DType, Nullability, StructFields, VortexResult};
 use vortex_functions::{BoundExpression, LikeOptions, NoCustom, ScalarFnRef};
 use vortex_operators::{BetweenOptions, Operator, StrictComparison};
-use vortex_syntax::{LikeKind, Operator as Written, Sign, Token};
+use vortex_syntax::{LikeKind, Sign, Token, WrittenOperator as Written};
 
 /// The column of that name.
-fn column_of(alloc: Global, scope: &StructFields, name: &str) -> Result<Item, Stop>
+fn column_of(alloc: Global, scope: &StructFields, name: &str) -> Result<Item, BindStop>
     ensures { Gives item_in result (specs.column_of (struct_fields scope.now) name.now) }
 {
     Ok(Item::Bound(BoundExpression::column(alloc, scope, name)?))
 }
 
-fn sign_item(sign: Sign) -> Result<Item, Stop>
+fn sign_item(sign: Sign) -> Result<Item, BindStop>
     ensures { Gives item_in result (specs.sign_item sign) }
 {
     match sign {
         Sign::True => Ok(Item::Literal(Literal::Truth(true))),
         Sign::False => Ok(Item::Literal(Literal::Truth(false))),
         Sign::Null => Ok(Item::Literal(Literal::Null)),
-        _ => Err(Stop::Missing),
+        _ => Err(BindStop::Missing),
     }
 }
 
@@ -43,7 +43,7 @@ pub(crate) fn operand_item(
     alloc: Global,
     scope: &StructFields,
     token: Token<'_>,
-) -> Result<Item, Stop>
+) -> Result<Item, BindStop>
     ensures { Gives item_in result
         (specs.operand_item (struct_fields scope.now) (token_in token.entry)) }
 {
@@ -65,12 +65,12 @@ pub(crate) fn operand_item(
             Ok(Item::Literal(Literal::Text(text)))
         }
         Token::Sign(sign) => sign_item(sign),
-        Token::Nullable(_) => Err(Stop::Missing),
+        Token::Nullable(_) => Err(BindStop::Missing),
     }
 }
 
 /// The number of these digits with a minus sign before them.
-pub(crate) fn negative_item(alloc: Global, digits: &[u8]) -> Result<Item, Stop>
+pub(crate) fn negative_item(alloc: Global, digits: &[u8]) -> Result<Item, BindStop>
     ensures { Gives item_in result (specs.negative_item digits.now) }
 {
     let mut word = vec![in alloc; b'-']?;
@@ -80,7 +80,7 @@ pub(crate) fn negative_item(alloc: Global, digits: &[u8]) -> Result<Item, Stop>
 }
 
 /// The type of that name.
-fn type_of_name(alloc: Global, name: &[u8], is_nullable: bool) -> Result<DType, Stop>
+fn type_of_name(alloc: Global, name: &[u8], is_nullable: bool) -> Result<DType, BindStop>
     ensures { Gives (λ t. type_of t) result (specs.type_of_name name.now is_nullable) }
 {
     let name = text_of(alloc, name)?;
@@ -91,7 +91,7 @@ fn type_of_name(alloc: Global, name: &[u8], is_nullable: bool) -> Result<DType, 
     };
     match type_named(name.as_str(), nullability) {
         Some(dtype) => Ok(dtype),
-        None => Err(Stop::Refused(Refusal::UnknownType)),
+        None => Err(BindStop::Refused(Refusal::UnknownType)),
     }
 }
 
@@ -101,11 +101,11 @@ pub(crate) fn typed_item(
     name: &[u8],
     is_nullable: bool,
     item: Item,
-) -> Result<Item, Stop>
+) -> Result<Item, BindStop>
     ensures { Gives item_in result (specs.typed_item name.now is_nullable (item_in item)) }
 {
     match item {
-        Item::Bound(_) => Err(Stop::Missing),
+        Item::Bound(_) => Err(BindStop::Missing),
         Item::Literal(literal) => {
             let dtype = type_of_name(alloc, name, is_nullable)?;
             Ok(Item::Bound(constant_at(alloc, &literal, dtype)?))
@@ -113,14 +113,14 @@ pub(crate) fn typed_item(
     }
 }
 
-/// The one cast there is: of a truth value, to the nullable type.
-fn cast_to(alloc: Global, item: Item, dtype: &DType) -> Result<BoundExpression<NoCustom>, Stop>
+/// The only cast: of a truth value, to the nullable type.
+fn cast_to(alloc: Global, item: Item, dtype: &DType) -> Result<BoundExpression<NoCustom>, BindStop>
     ensures { Gives (λ t. t) result (specs.cast_to (item_in item) (type_of dtype.now)) }
 {
     if dtype.is_boolean() && dtype.is_nullable() {
         called(alloc, ScalarFnRef::Cast, Some(dtype), vec![in alloc; item]?)
     } else {
-        Err(Stop::Refused(Refusal::NoCast))
+        Err(BindStop::Refused(Refusal::NoCast))
     }
 }
 
@@ -129,7 +129,7 @@ pub(crate) fn cast_item(
     name: &[u8],
     is_nullable: bool,
     item: Item,
-) -> Result<Item, Stop>
+) -> Result<Item, BindStop>
     ensures { Gives item_in result (specs.cast_item name.now is_nullable (item_in item)) }
 {
     let dtype = type_of_name(alloc, name, is_nullable)?;
@@ -155,7 +155,7 @@ fn operator_of(written: Written) -> Operator
     }
 }
 
-/// The type that literals take which the operator joins.
+/// The type that literals joined by the operator take.
 fn joined_type(alloc: Global, written: Written, items: &[Item]) -> VortexResult<Option<DType>>
     ensures { AnswersUnlessMemory result (λ t. option_map (λ t. type_of t) t
         ≡ specs.joined_type written (map item_in items.now)) }
@@ -166,12 +166,12 @@ fn joined_type(alloc: Global, written: Written, items: &[Item]) -> VortexResult<
     }
 }
 
-/// A tree, or where that is said NOT of it.
+/// A tree, or NOT of it if the flag is true.
 fn negated_if(
     alloc: Global,
     negated: bool,
     tree: BoundExpression<NoCustom>,
-) -> Result<BoundExpression<NoCustom>, Stop>
+) -> Result<BoundExpression<NoCustom>, BindStop>
     ensures { Gives (λ t. t) result (specs.negated_if negated tree) }
 {
     if negated {
@@ -186,7 +186,7 @@ fn negated_if(
     }
 }
 
-pub(crate) fn not_item(alloc: Global, item: Item) -> Result<Item, Stop>
+pub(crate) fn not_item(alloc: Global, item: Item) -> Result<Item, BindStop>
     ensures { Gives item_in result (specs.not_item (item_in item)) }
 {
     let truth = DType::Bool(Nullability::NonNullable);
@@ -199,7 +199,7 @@ pub(crate) fn joined_item(
     written: Written,
     left: Item,
     right: Item,
-) -> Result<Item, Stop>
+) -> Result<Item, BindStop>
     ensures { Gives item_in result (specs.joined_item written (item_in left) (item_in right)) }
 {
     let items = vec![in alloc; left, right]?;
@@ -208,7 +208,7 @@ pub(crate) fn joined_item(
     Ok(Item::Bound(called(alloc, function, dtype.as_ref(), items)?))
 }
 
-pub(crate) fn tested_item(alloc: Global, negated: bool, item: Item) -> Result<Item, Stop>
+pub(crate) fn tested_item(alloc: Global, negated: bool, item: Item) -> Result<Item, BindStop>
     ensures { Gives item_in result (specs.tested_item negated (item_in item)) }
 {
     let function = if negated {
@@ -220,8 +220,8 @@ pub(crate) fn tested_item(alloc: Global, negated: bool, item: Item) -> Result<It
     Ok(Item::Bound(tree))
 }
 
-/// BETWEEN, whose bounds both lie within.
-fn between(alloc: Global, items: Vec<Item>) -> Result<BoundExpression<NoCustom>, Stop>
+/// BETWEEN, with inclusive bounds.
+fn between(alloc: Global, items: Vec<Item>) -> Result<BoundExpression<NoCustom>, BindStop>
     ensures { Gives (λ t. t) result
         (specs.between_all (map item_in items.items)) }
 {
@@ -239,7 +239,7 @@ pub(crate) fn between_item(
     item: Item,
     lower: Item,
     upper: Item,
-) -> Result<Item, Stop>
+) -> Result<Item, BindStop>
     ensures { Gives item_in result
         (specs.between_item negated (item_in item) (item_in lower) (item_in upper)) }
 {
@@ -247,14 +247,14 @@ pub(crate) fn between_item(
     Ok(Item::Bound(negated_if(alloc, negated, tree)?))
 }
 
-/// The escape that a text says: its one character, or none where it has no character.
-fn escape_in(alloc: Global, written: &[u8]) -> Result<Option<char>, Stop>
+/// The escape of a text: its only character, or none if it has no character.
+fn escape_in(alloc: Global, written: &[u8]) -> Result<Option<char>, BindStop>
     ensures { Gives (λ c. c) result (specs.escape_in written.now) }
 {
     let text = between_quotes(alloc, b'\'', written)?;
     match escapes::escape_of(text.as_str()) {
         Some(escape) => Ok(escape),
-        None => Err(Stop::Refused(Refusal::NoEscape)),
+        None => Err(BindStop::Refused(Refusal::NoEscape)),
     }
 }
 
@@ -264,7 +264,7 @@ fn liked_item(
     escape: Option<char>,
     item: Item,
     pattern: Item,
-) -> Result<Item, Stop>
+) -> Result<Item, BindStop>
     ensures { Gives item_in result
         (specs.liked_item kind escape (item_in item) (item_in pattern)) }
 {
@@ -278,14 +278,14 @@ fn liked_item(
     Ok(Item::Bound(tree))
 }
 
-/// LIKE, whose escape is the backslash where no text says another.
+/// LIKE, whose escape is the backslash unless a text is given.
 pub(crate) fn matched_item(
     alloc: Global,
     kind: LikeKind,
     escape: Option<&[u8]>,
     item: Item,
     pattern: Item,
-) -> Result<Item, Stop>
+) -> Result<Item, BindStop>
     ensures { Gives item_in result (specs.matched_item kind (option_map (λ e. e.now) escape.entry)
         (item_in item) (item_in pattern)) }
 {

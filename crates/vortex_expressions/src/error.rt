@@ -1,6 +1,6 @@
-//! Why a text is no expression over a scope, and where.
+//! Errors of texts over a scope, with positions.
+use crate::messages::{out_of_memory, unread};
 use crate::refusal::Refusal;
-use crate::telling::{out_of_memory, unread};
 use std::alloc::Global;
 use std::fmt;
 use vortex_columns::VortexError;
@@ -11,17 +11,17 @@ use vortex_syntax::{Expected, SyntaxError};
 pub enum Reason {
     /// No word and no sign begins there.
     NoToken,
-    /// No expression goes on with what stands there, or none ends where the text ends; what could
-    /// have stood there.
+    /// No expression continues with what is there, or none ends where the text ends; what was
+    /// expected there.
     Unexpected(Expected),
     /// Brackets nest too deep there.
     TooDeep,
-    /// The text is well written, and refused.
+    /// The text has no syntax error, but another error.
     Refused(Refusal),
 }
 
-/// Why a text is no expression over a scope, and where: at a byte of the text, and by its line and
-/// its character in that line, both counted from 1. Want of memory is at no place.
+/// Why a text is no expression over a scope, and where: a byte of the text, and its line and
+/// character in that line, both counted from 1. Out of memory has no position.
 #[derive(Drop)]
 pub struct ReadError {
     pub reason: Reason,
@@ -35,22 +35,21 @@ impl ReadError {
     ghost use Rattle.std.specs.Prelude.{◌≡◌, IsTrue};
     ghost use Rattle.vortex_expressions.specs.Reading.{is_want_of_memory, UnreadBy};
 
-    /// Memory was refused (E9), at no place.
+    /// Out of memory (E9), without a position.
     pub fn out_of_memory(alloc: Global) -> ReadError
         ensures { IsTrue (is_want_of_memory result) }
     {
         out_of_memory(alloc)
     }
 
-    /// Why a text is parsed as none: the reason and the byte of what parsed it, with its line and
-    /// the words for it.
+    /// Why a text does not parse: the parser's reason and byte, with its line and the words for it.
     pub fn of_syntax(alloc: Global, text: &str, error: SyntaxError) -> ReadError
         ensures { UnreadBy error result }
     {
         unread(alloc, text, error)
     }
 
-    /// Whether memory was refused (E9), and nothing is wrong with the text as far as is known.
+    /// Whether memory ran out (E9); the text may be correct.
     pub fn is_out_of_memory(&self) -> bool
         ensures { result ≡ is_want_of_memory self.now }
     {

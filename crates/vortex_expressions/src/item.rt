@@ -1,4 +1,4 @@
-//! Literals that have no type yet, and trees; and what calls make of them.
+//! Literals without a type yet, and trees; and calls of them.
 ghost use Rattle.std.specs.Prelude.{◌≡◌, map, option_map, None};
 ghost use Rattle.vortex_errors.specs.Answers.{AnswersUnlessMemory};
 ghost use Rattle.vortex_types.specs.TypeOf.{type_of};
@@ -10,12 +10,12 @@ ghost use Rattle.vortex_expressions.specs.Literals.{literal_in};
 ghost use Rattle.vortex_expressions.specs.Answering.{Gives};
 
 use crate::literal::Literal;
-use crate::refusal::{Refusal, Stop};
+use crate::refusal::{BindStop, Refusal};
 use std::alloc::Global;
 use vortex_columns::{DType, VortexError, VortexResult};
 use vortex_functions::{BoundExpression, NoCustom, ScalarFnRef};
 
-/// A literal that has no type yet, or a tree.
+/// A literal without a type yet, or a tree.
 #[derive(Drop)]
 pub(crate) enum Item {
     Literal(Literal),
@@ -27,12 +27,12 @@ pub(crate) fn constant_at(
     alloc: Global,
     literal: &Literal,
     dtype: DType,
-) -> Result<BoundExpression<NoCustom>, Stop>
+) -> Result<BoundExpression<NoCustom>, BindStop>
     ensures { Gives (λ t. t) result (constant_at (literal_in literal.now) (type_of dtype)) }
 {
     match literal.value_at(alloc, dtype)? {
         Some(scalar) => Ok(BoundExpression::lit(alloc, scalar)),
-        None => Err(Stop::Refused(Refusal::NotHeld)),
+        None => Err(BindStop::Refused(Refusal::NotHeld)),
     }
 }
 
@@ -47,7 +47,7 @@ impl Item {
         }
     }
 
-    /// The type that a literal has alone.
+    /// The default type of a literal.
     fn literal_type(&self) -> Option<DType>
         ensures { option_map (λ t. type_of t) result ≡ literal_type (item_in self.now) }
     {
@@ -57,12 +57,12 @@ impl Item {
         }
     }
 
-    /// A tree as it is, and a literal with the type that it takes beside that one.
+    /// A tree unchanged, and a literal with the type that it takes.
     pub(crate) fn settle(
         self,
         alloc: Global,
         beside: Option<&DType>,
-    ) -> Result<BoundExpression<NoCustom>, Stop>
+    ) -> Result<BoundExpression<NoCustom>, BindStop>
         ensures { Gives (λ t. t) result
             (settled (option_map (λ t. type_of t.now) beside.entry) (item_in self)) }
     {
@@ -72,7 +72,7 @@ impl Item {
         };
         match literal.type_beside(alloc, beside)? {
             Some(dtype) => constant_at(alloc, &literal, dtype),
-            None => Err(Stop::Refused(Refusal::UntypedNull)),
+            None => Err(BindStop::Refused(Refusal::UntypedNull)),
         }
     }
 }
@@ -90,7 +90,7 @@ fn first_bound_type(alloc: Global, items: &[Item]) -> VortexResult<Option<DType>
     Ok(None)
 }
 
-/// The type of the first literal that has one alone.
+/// The type of the first literal with a default type.
 fn first_literal_type(items: &[Item]) -> Option<DType>
     ensures { option_map (λ t. type_of t) result
         ≡ first_some (map literal_type (map item_in items.now)) }
@@ -103,7 +103,7 @@ fn first_literal_type(items: &[Item]) -> Option<DType>
     None
 }
 
-/// The type that literals take which stand side by side with trees. E9 where memory is refused.
+/// The type that literals take next to other items. E9 where an allocation fails.
 pub(crate) fn common_type(alloc: Global, items: &[Item]) -> VortexResult<Option<DType>>
     ensures { AnswersUnlessMemory result (λ t. option_map (λ t. type_of t) t
         ≡ common_type (map item_in items.now)) }
@@ -114,12 +114,12 @@ pub(crate) fn common_type(alloc: Global, items: &[Item]) -> VortexResult<Option<
     }
 }
 
-/// All of them settled, from left to right.
+/// All of them with their types, from left to right.
 fn settle_all(
     alloc: Global,
     beside: Option<&DType>,
     items: Vec<Item>,
-) -> Result<Vec<BoundExpression<NoCustom>>, Stop>
+) -> Result<Vec<BoundExpression<NoCustom>>, BindStop>
     ensures { Gives (λ ts. ts.items) result
         (all_settled (option_map (λ t. type_of t.now) beside.entry) (map item_in items.items)) }
 {
@@ -130,19 +130,19 @@ fn settle_all(
     Ok(trees)
 }
 
-/// The call of a function on trees; that it is none of a caller's is a condition.
+/// The call of a function on trees; requires that it is no caller's function.
 fn call_of(
     alloc: Global,
     function: ScalarFnRef<NoCustom>,
     trees: Vec<BoundExpression<NoCustom>>,
-) -> Result<BoundExpression<NoCustom>, Stop>
+) -> Result<BoundExpression<NoCustom>, BindStop>
     requires { instance_in function ≡ None }
     ensures { Gives (λ t. t) result (call_of (function_of function) trees.items) }
 {
     match BoundExpression::try_new(alloc, function, trees) {
         Ok(tree) => Ok(tree),
-        Err(VortexError::ArityMismatch { .. }) => Err(Stop::Missing),
-        Err(error) => Err(Stop::Refused(Refusal::Binding(error))),
+        Err(VortexError::ArityMismatch { .. }) => Err(BindStop::Missing),
+        Err(error) => Err(BindStop::Refused(Refusal::Binding(error))),
     }
 }
 
@@ -152,7 +152,7 @@ pub(crate) fn called(
     function: ScalarFnRef<NoCustom>,
     beside: Option<&DType>,
     items: Vec<Item>,
-) -> Result<BoundExpression<NoCustom>, Stop>
+) -> Result<BoundExpression<NoCustom>, BindStop>
     requires { instance_in function ≡ None }
     ensures { Gives (λ t. t) result (called (function_of function)
         (option_map (λ t. type_of t.now) beside.entry) (map item_in items.items)) }

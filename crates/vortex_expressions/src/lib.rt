@@ -8,12 +8,12 @@ pub mod error;
 mod item;
 pub mod laws;
 mod literal;
+mod messages;
 pub mod quotes;
 pub mod read;
 pub mod refusal;
 mod spelled;
 mod tasks;
-mod telling;
 pub mod words;
 pub mod writing;
 

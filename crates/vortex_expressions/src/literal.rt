@@ -9,17 +9,17 @@ use std::alloc::Global;
 use vortex_cells::cells::literal_of_cell;
 use vortex_columns::{DType, Nullability, PType, Scalar, VortexResult};
 
-/// A literal whose type is not said.
+/// A literal without a written type.
 #[derive(Drop)]
 pub(crate) enum Literal {
-    /// Digits, with a minus sign before them or without.
+    /// Digits, optionally after a minus sign.
     Number(String),
     Text(String),
     Truth(bool),
     Null,
 }
 
-/// The type that a number takes beside a value of that type. E9 where memory is refused.
+/// The type that a number takes next to a value of that type. E9 where an allocation fails.
 fn number_type(alloc: Global, beside: &DType) -> VortexResult<DType>
     ensures { AnswersUnlessMemory result (λ t. type_of t ≡ number_type (type_of beside.now)) }
 {
@@ -37,7 +37,7 @@ fn truth_word(truth: bool) -> &'static str
 }
 
 impl Literal {
-    /// The type that it has alone; null has none.
+    /// The default type; null has none.
     pub(crate) fn own_type(&self) -> Option<DType>
         ensures { option_map (λ t. type_of t) result ≡ own_type (literal_in self.now) }
     {
@@ -49,7 +49,7 @@ impl Literal {
         }
     }
 
-    /// The type that it takes beside a value of that type. E9 where memory is refused.
+    /// The type that it takes next to a value of that type. E9 where an allocation fails.
     pub(crate) fn type_beside(
         &self,
         alloc: Global,
@@ -68,8 +68,7 @@ impl Literal {
         }
     }
 
-    /// The value of that type which it says; nothing where it says none. E9 where memory is
-    /// refused.
+    /// Its value in that type; none if it has none. E9 where an allocation fails.
     pub(crate) fn value_at(&self, alloc: Global, dtype: DType) -> VortexResult<Option<Scalar>>
         ensures { AnswersUnlessMemory result
             (λ s. s ≡ value_at (type_of dtype) (literal_in self.now)) }

@@ -3,12 +3,11 @@ ghost use Rattle.std.specs.Prelude.{◌≡◌, IfOk, string_bytes};
 ghost use Rattle.vortex_expressions.specs.Calls.{unquoted, text_of, between_quotes};
 ghost use Rattle.vortex_expressions.specs.Answering.{Gives};
 
-use crate::refusal::{Refusal, Stop};
+use crate::refusal::{BindStop, Refusal};
 use std::alloc::{AllocError, Global};
 use std::str;
 
-/// What stands between two quotes, of two quotes in it the first alone. Refused only for want of
-/// memory.
+/// The text between quotes, doubled quotes once. Fails only where memory runs out.
 pub fn unquoted(alloc: Global, quote: u8, written: &[u8]) -> Result<Vec<u8>, AllocError>
     ensures { IfOk result (λ text. text.items ≡ unquoted quote written.now) }
 {
@@ -26,17 +25,17 @@ pub fn unquoted(alloc: Global, quote: u8, written: &[u8]) -> Result<Vec<u8>, All
 }
 
 /// The bytes as a text.
-pub(crate) fn text_of(alloc: Global, bytes: &[u8]) -> Result<String, Stop>
+pub(crate) fn text_of(alloc: Global, bytes: &[u8]) -> Result<String, BindStop>
     ensures { Gives string_bytes result (text_of bytes.now) }
 {
     match str::from_utf8(bytes) {
         Ok(text) => Ok(String::from_str(alloc, text)?),
-        Err(_) => Err(Stop::Refused(Refusal::NotUtf8)),
+        Err(_) => Err(BindStop::Refused(Refusal::NotUtf8)),
     }
 }
 
-/// The text that stands between two quotes.
-pub(crate) fn between_quotes(alloc: Global, quote: u8, written: &[u8]) -> Result<String, Stop>
+/// The text in quotes.
+pub(crate) fn between_quotes(alloc: Global, quote: u8, written: &[u8]) -> Result<String, BindStop>
     ensures { Gives string_bytes result (between_quotes quote written.now) }
 {
     let text = unquoted(alloc, quote, written)?;

@@ -10,7 +10,7 @@ ghost use Rattle.vortex_expressions.specs.Reading.{TellsWhy};
 
 use crate::binder::bind;
 use crate::error::ReadError;
-use crate::telling::unread;
+use crate::messages::unread;
 use std::alloc::Global;
 use vortex_columns::StructFields;
 use vortex_functions::{BoundExpression, NoCustom};
@@ -32,21 +32,21 @@ pub(crate) fn bind_steps(
 }
 
 /// Reads an expression over the columns of a scope, as `price * stock > 100`; `docs/EXPRESSIONS.md`
-/// has the language. Ok exactly where the text is one, and then the tree that it stands for.
+/// has the language. Ok exactly if the text is one: the tree that it means.
 pub fn read_expression(
     alloc: Global,
     scope: &StructFields,
     text: &str,
 ) -> Result<BoundExpression<NoCustom>, ReadError>
-    // What is answered the text says.
+    // The result is the meaning of the text.
     ensures found { IfOk result (λ tree. Expresses (struct_fields scope.now) text.now tree) }
-    // What the text says is answered.
+    // The meaning of the text is returned.
     ensures only { (tree : Tree) → Expresses (struct_fields scope.now) text.now tree
         → ReadUnlessMemory result (λ t. t ≡ tree) }
-    // A text that is refused is refused so.
+    // An error of the text is returned.
     ensures refused { (r : Refusal) → IsRefused (struct_fields scope.now) text.now r
         → RefusesAs r result }
-    // Why none is answered, and at which byte of a text that is none.
+    // Why there is no result, and at which byte of a text that is no expression.
     ensures told { IfErr result
         (TellsWhy TreeStopsAt (IsRefused (struct_fields scope.now) text.now) text.now) }
 {

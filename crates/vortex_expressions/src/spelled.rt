@@ -17,9 +17,9 @@ use vortex_columns::{DType, PType, Scalar, ScalarValue, VortexResult};
 use vortex_functions::{BoundExpression, NoCustom, ScalarFnRef};
 use vortex_operators::{BetweenOptions, Operator, StrictComparison};
 use vortex_syntax::levels::{ATOM, IS, LITERAL, NOT, PREDICATE, own};
-use vortex_syntax::{Operator as Written, Sign, Writer};
+use vortex_syntax::{Sign, Writer, WrittenOperator as Written};
 
-/// The operator as it is written.
+/// The operator as written.
 pub(crate) fn written_operator(operator: Operator) -> Written
     ensures { result ≡ specs.written_operator operator }
 {
@@ -65,14 +65,14 @@ fn is_non_strict(comparison: StrictComparison) -> bool
     matches!(comparison, StrictComparison::NonStrict)
 }
 
-/// Whether both bounds lie within.
+/// Whether both bounds are inclusive.
 pub(crate) fn is_within(options: &BetweenOptions) -> bool
     ensures { result ≡ specs.is_within options.now }
 {
     is_non_strict(options.lower_strict) && is_non_strict(options.upper_strict)
 }
 
-/// Whether it is the escape that need not be said.
+/// Whether it is the escape that is not written.
 pub(crate) fn is_own_escape(escape: Option<char>) -> bool
     ensures { result ≡ specs.is_own_escape escape }
 {
@@ -113,7 +113,7 @@ fn is_i64(ptype: PType) -> bool
     matches!(ptype, PType::I64)
 }
 
-/// Whether literals that are not null have the type where none is said.
+/// Whether literals that are not null have the type by default.
 fn is_own_type(dtype: &DType) -> bool
     ensures { result ≡ specs.is_own_type (type_of dtype.now) }
 {
@@ -184,7 +184,7 @@ fn truth_sign(truth: bool) -> Sign
     if truth { Sign::True } else { Sign::False }
 }
 
-/// A sign alone.
+/// A sign.
 fn write_sign(writer: &mut Writer, sign: Sign) -> VortexResult<bool>
     ensures { AnswersUnlessMemory result
         (PushesIf (Some (seen.sign sign ∷ [])) writer.old writer.new) }
@@ -193,7 +193,7 @@ fn write_sign(writer: &mut Writer, sign: Sign) -> VortexResult<bool>
     Ok(true)
 }
 
-/// A text alone.
+/// A text.
 fn write_text(writer: &mut Writer, text: &str) -> VortexResult<bool>
     ensures { AnswersUnlessMemory result
         (PushesIf (Some (text_token text.now ∷ [])) writer.old writer.new) }
@@ -202,7 +202,7 @@ fn write_text(writer: &mut Writer, text: &str) -> VortexResult<bool>
     Ok(true)
 }
 
-/// A literal without its type; answers whether it is one.
+/// A literal without its type; returns whether it is one.
 fn write_value(writer: &mut Writer, alloc: Global, scalar: &Scalar) -> VortexResult<bool>
     ensures { AnswersUnlessMemory result
         (PushesIf (steps.value_tokens scalar.now.value) writer.old writer.new) }
@@ -230,7 +230,7 @@ fn write_type(writer: &mut Writer, name: &str, nullable: bool) -> VortexResult<(
     Ok(())
 }
 
-/// A literal, with its type where that is to be said; answers whether it has a text.
+/// A literal, with its type if that must be written; returns whether it has a text.
 pub(crate) fn write_literal(
     writer: &mut Writer,
     alloc: Global,
@@ -263,7 +263,7 @@ fn name_in(text: &str) -> Option<&str>
     }
 }
 
-/// A column; answers whether it is one.
+/// A column; returns whether it is one.
 pub(crate) fn write_column(
     writer: &mut Writer,
     alloc: Global,

@@ -1,4 +1,4 @@
-//! Writing a tree from left to right: what is still to be written stands in a list.
+//! Writing a tree from left to right: what is still to be written is in a list.
 ghost use Rattle.std.specs.Prelude.{◌≡◌, ◌∷◌, [], ◌++◌, map, MatchOption, slice_get};
 ghost use Rattle.std.specs.Prelude.{Some, None};
 ghost use Rattle.vortex_errors.specs.Answers.{AnswersUnlessMemory};
@@ -19,17 +19,17 @@ use vortex_columns::VortexResult;
 use vortex_functions::{BoundExpression, LikeOptions, NoCustom, ScalarFnRef};
 use vortex_operators::BetweenOptions;
 use vortex_syntax::levels::{IS, NOT, OR, SUM, left, right};
-use vortex_syntax::{DEPTH, Operator as Written, Sign, Writer};
+use vortex_syntax::{DEPTH, Sign, Writer, WrittenOperator as Written};
 
 /// What is still to be written.
 #[derive(Drop)]
-pub(crate) enum Task<'t> {
+pub(crate) enum WriteTask<'t> {
     Sign(Sign),
-    /// A tree at a level, behind so many open brackets.
+    /// A tree at a level, inside that many open brackets.
     Tree(&'t BoundExpression<NoCustom>, u8, usize),
-    /// The one type that is cast to.
+    /// The only type to cast to.
     TruthType,
-    /// The text behind `escape`.
+    /// The text after `escape`.
     Escape(Option<char>),
 }
 
@@ -38,10 +38,10 @@ pub(crate) enum Task<'t> {
 pub(crate) struct TreeWriter<'t> {
     alloc: Global,
     pub(crate) writer: Writer,
-    tasks: Vec<Task<'t>>,
+    tasks: Vec<WriteTask<'t>>,
 }
 
-/// The operand at a place.
+/// The operand at an index.
 fn operand_at<'t>(
     operands: &'t [BoundExpression<NoCustom>],
     place: usize,
@@ -64,8 +64,8 @@ impl<'t> TreeWriter<'t> {
         }
     }
 
-    /// What comes next.
-    pub(crate) fn next(&mut self) -> Option<Task<'t>>
+    /// Pushes what comes next.
+    pub(crate) fn next(&mut self) -> Option<WriteTask<'t>>
         ensures tasks { MatchOption result (tasks_in self.old ≡ [])
             (λ t. tasks_in self.old ≡ task_in t ∷ tasks_in self.new) }
         ensures writer { self.new.writer ≡ self.old.writer }
@@ -73,8 +73,8 @@ impl<'t> TreeWriter<'t> {
         self.tasks.pop()
     }
 
-    /// Puts something before what is still to be written.
-    pub(crate) fn put(&mut self, task: Task<'t>) -> VortexResult<()>
+    /// Pushes something before what is still to be written.
+    pub(crate) fn put(&mut self, task: WriteTask<'t>) -> VortexResult<()>
         ensures tasks { AnswersUnlessMemory result
             (λ _. tasks_in self.new ≡ task_in task.entry ∷ tasks_in self.old) }
         ensures writer { self.new.writer ≡ self.old.writer }
@@ -98,9 +98,9 @@ impl<'t> TreeWriter<'t> {
         let Some(second) = operand_at(operands, 1) else {
             return Ok(false);
         };
-        self.put(Task::Tree(second, right(operator), depth))?;
-        self.put(Task::Sign(operator_sign(operator)))?;
-        self.put(Task::Tree(first, left(operator), depth))?;
+        self.put(WriteTask::Tree(second, right(operator), depth))?;
+        self.put(WriteTask::Sign(operator_sign(operator)))?;
+        self.put(WriteTask::Tree(first, left(operator), depth))?;
         Ok(true)
     }
 
@@ -115,8 +115,8 @@ impl<'t> TreeWriter<'t> {
         let Some(operand) = operand_at(operands, 0) else {
             return Ok(false);
         };
-        self.put(Task::Tree(operand, NOT, depth))?;
-        self.put(Task::Sign(Sign::Not))?;
+        self.put(WriteTask::Tree(operand, NOT, depth))?;
+        self.put(WriteTask::Sign(Sign::Not))?;
         Ok(true)
     }
 
@@ -126,12 +126,12 @@ impl<'t> TreeWriter<'t> {
             (λ _. tasks_in self.new ≡ map token (null_test negated) ++ tasks_in self.old) }
         ensures writer { self.new.writer ≡ self.old.writer }
     {
-        self.put(Task::Sign(Sign::Null))?;
+        self.put(WriteTask::Sign(Sign::Null))?;
         if negated {
-            self.put(Task::Sign(Sign::Not))?;
-            return self.put(Task::Sign(Sign::Is));
+            self.put(WriteTask::Sign(Sign::Not))?;
+            return self.put(WriteTask::Sign(Sign::Is));
         }
-        self.put(Task::Sign(Sign::Is))
+        self.put(WriteTask::Sign(Sign::Is))
     }
 
     fn test(
@@ -147,7 +147,7 @@ impl<'t> TreeWriter<'t> {
             return Ok(false);
         };
         self.put_null_test(negated)?;
-        self.put(Task::Tree(operand, IS, depth))?;
+        self.put(WriteTask::Tree(operand, IS, depth))?;
         Ok(true)
     }
 
@@ -165,12 +165,12 @@ impl<'t> TreeWriter<'t> {
         let Some(operand) = operand_at(operands, 0) else {
             return Ok(false);
         };
-        self.put(Task::Sign(Sign::Close))?;
-        self.put(Task::TruthType)?;
-        self.put(Task::Sign(Sign::As))?;
-        self.put(Task::Tree(operand, OR, depth + 1))?;
-        self.put(Task::Sign(Sign::Open))?;
-        self.put(Task::Sign(Sign::Cast))?;
+        self.put(WriteTask::Sign(Sign::Close))?;
+        self.put(WriteTask::TruthType)?;
+        self.put(WriteTask::Sign(Sign::As))?;
+        self.put(WriteTask::Tree(operand, OR, depth + 1))?;
+        self.put(WriteTask::Sign(Sign::Open))?;
+        self.put(WriteTask::Sign(Sign::Cast))?;
         Ok(true)
     }
 
@@ -195,15 +195,15 @@ impl<'t> TreeWriter<'t> {
         let Some(upper) = operand_at(operands, 2) else {
             return Ok(false);
         };
-        self.put(Task::Tree(upper, SUM, depth))?;
-        self.put(Task::Sign(Sign::And))?;
-        self.put(Task::Tree(lower, SUM, depth))?;
-        self.put(Task::Sign(Sign::Between))?;
-        self.put(Task::Tree(operand, SUM, depth))?;
+        self.put(WriteTask::Tree(upper, SUM, depth))?;
+        self.put(WriteTask::Sign(Sign::And))?;
+        self.put(WriteTask::Tree(lower, SUM, depth))?;
+        self.put(WriteTask::Sign(Sign::Between))?;
+        self.put(WriteTask::Tree(operand, SUM, depth))?;
         Ok(true)
     }
 
-    /// Which escape is chosen, where another than the backslash is.
+    /// The escape, if it is not the backslash.
     fn put_escape(&mut self, escape: Option<char>) -> VortexResult<()>
         ensures tasks { AnswersUnlessMemory result (λ _. tasks_in self.new
             ≡ map token (escape_tokens (escape_written escape)) ++ tasks_in self.old) }
@@ -212,11 +212,11 @@ impl<'t> TreeWriter<'t> {
         if is_own_escape(escape) {
             return Ok(());
         }
-        self.put(Task::Escape(escape))?;
-        self.put(Task::Sign(Sign::Escape))
+        self.put(WriteTask::Escape(escape))?;
+        self.put(WriteTask::Sign(Sign::Escape))
     }
 
-    /// `like` or `ilike`, with `not` before it or without.
+    /// `like` or `ilike`, with or without `not` before it.
     fn put_like(&mut self, options: LikeOptions) -> VortexResult<()>
         ensures tasks { AnswersUnlessMemory result (λ _. tasks_in self.new
             ≡ map token (like_sign (like_kind options)) ++ tasks_in self.old) }
@@ -227,9 +227,9 @@ impl<'t> TreeWriter<'t> {
         } else {
             Sign::Like
         };
-        self.put(Task::Sign(like))?;
+        self.put(WriteTask::Sign(like))?;
         if options.negated {
-            return self.put(Task::Sign(Sign::Not));
+            return self.put(WriteTask::Sign(Sign::Not));
         }
         Ok(())
     }
@@ -250,13 +250,13 @@ impl<'t> TreeWriter<'t> {
             return Ok(false);
         };
         self.put_escape(options.escape)?;
-        self.put(Task::Tree(pattern, SUM, depth))?;
+        self.put(WriteTask::Tree(pattern, SUM, depth))?;
         self.put_like(options)?;
-        self.put(Task::Tree(text, SUM, depth))?;
+        self.put(WriteTask::Tree(text, SUM, depth))?;
         Ok(true)
     }
 
-    /// The parts of a call come next; answers whether it has a text.
+    /// Pushes the parts of a call; returns whether it has a text.
     fn call(
         &mut self,
         function: &ScalarFnRef<NoCustom>,
@@ -302,13 +302,13 @@ impl<'t> TreeWriter<'t> {
         if depth >= DEPTH {
             return Ok(false);
         }
-        self.put(Task::Sign(Sign::Close))?;
-        self.put(Task::Tree(tree, OR, depth + 1))?;
-        self.put(Task::Sign(Sign::Open))?;
+        self.put(WriteTask::Sign(Sign::Close))?;
+        self.put(WriteTask::Tree(tree, OR, depth + 1))?;
+        self.put(WriteTask::Sign(Sign::Open))?;
         Ok(true)
     }
 
-    /// A tree, in brackets where it binds less tightly than its place asks.
+    /// A tree, in brackets if it binds less tightly than required there.
     fn tree(
         &mut self,
         tree: &'t BoundExpression<NoCustom>,
@@ -334,25 +334,24 @@ impl<'t> TreeWriter<'t> {
         Ok(())
     }
 
-    /// What a task makes of what is written and of what is still to be written; answers whether
-    /// there is a text.
-    pub(crate) fn step(&mut self, task: Task<'t>) -> VortexResult<bool>
+    /// The effect of a task on what is written and what is left; returns whether there is a text.
+    pub(crate) fn step(&mut self, task: WriteTask<'t>) -> VortexResult<bool>
         ensures { AnswersUnlessMemory result (Steps (task_in task.entry) self.old self.new) }
     {
         match task {
-            Task::Sign(sign) => {
+            WriteTask::Sign(sign) => {
                 self.writer.push_sign(sign)?;
                 Ok(true)
             }
-            Task::TruthType => {
+            WriteTask::TruthType => {
                 self.writer.push_type("bool", true)?;
                 Ok(true)
             }
-            Task::Escape(escape) => {
+            WriteTask::Escape(escape) => {
                 self.write_escape(escape)?;
                 Ok(true)
             }
-            Task::Tree(tree, level, depth) => self.tree(tree, level, depth),
+            WriteTask::Tree(tree, level, depth) => self.tree(tree, level, depth),
         }
     }
 }

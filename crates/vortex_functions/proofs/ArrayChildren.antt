@@ -1,4 +1,4 @@
--- The children of an array, and what a walk makes of them.
+-- The children of an array, and the result of a walk over them.
 use Rattle.std.proofs.Common.{◌≡◌, ℕ, zero, suc, ◌+◌, refl, sym, ap, subst, ◌∙◌, List, [], ◌∷◌}
 use Rattle.std.proofs.Common.{length, map, take, Some}
 use Rattle.std.specs.Prelude.{slice_get}
@@ -67,7 +67,7 @@ module _ {V O : Type 0} where
     beneath n (t ∷ ts) [] h = absurd h
     beneath n (t ∷ ts) (o ∷ os) h = (h.0, beneath n ts os h.1)
 
-    -- what was made of the children of an array that is known to be a call
+    -- the results for the children of an array that is known to be a call
     pub made_beneath : (self : Array V O) (f : Function V O) (xs : List (Array V O)) (n : ℕ)
         (os : List (Cow ColumnView))
         → self ≡ (call f (trees_of (trees_in xs)), n)

@@ -1,4 +1,4 @@
--- What an array of a column is.
+-- The array of a column.
 use Rattle.std.proofs.Common.{◌≡◌, ℕ, ◌<◌, refl, sym, ap, subst, ◌∙◌, Option, Some, None, length}
 use Rattle.std.proofs.Common.{arith, true}
 use Rattle.std.specs.Prelude.{[], IfSome}
@@ -44,7 +44,7 @@ nulls_typed n i lt =
       told = subst (λ (v : Value). is_null v ≡ true) is refl;
     }
 
--- nulls stand among so many rows
+-- nulls are within that many rows
 pub nulls_stand : (n : ℕ) (c : ColumnView) → c ≡ null_column n
     → (length c.rows ≡ n) × TellsConstant c
 nulls_stand n c e =

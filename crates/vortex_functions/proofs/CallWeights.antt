@@ -1,4 +1,4 @@
--- Sums of weights that are cut off at the greatest number of 64 bits, and the weight of a call.
+-- Sums of weights saturated to 64 bits, and the weight of a call.
 use Rattle.std.proofs.Common.{◌≡◌, ℕ, zero, suc, ◌+◌, ◌<◌, sym, ap, ◌∙◌, List, [], ◌∷◌, length}
 use Rattle.std.proofs.Common.{take, get_or, Bool, Some, arith}
 use Rattle.std.specs.Prelude.{min}
@@ -10,11 +10,11 @@ use Rattle.vortex_interface.specs.Eval.{tree_type}
 use Rattle.vortex_interface.specs.Rules.{may_be_null}
 use Rattle.vortex_interface.specs.Weights.{added, weight, weights, weight_told}
 
--- as 64 bits tell a sum
+-- a sum, saturated to 64 bits
 abbrev pub told : ℕ → ℕ
 told n = min n 18446744073709551615
 
--- what is cut off in a part is cut off in the sum
+-- saturating a part is saturating the sum
 pub told_plus : (a b : ℕ) → told (told a + told b) ≡ told (a + b)
 told_plus a b = omega arith
 
@@ -28,7 +28,7 @@ module _ {V O : Type 0} (m : Meaning V O) where
   weights_more (x ∷ xs) (suc i) t lt e =
       omega (arith, weights_more xs i t (omega (arith, lt)) e)
 
-  -- a sum that is cut off, and one more tree
+  -- a saturated sum, and one more tree
   pub sum_more : (a : ℕ) (ts : List (Tree V O)) (i : ℕ) (t : Tree V O) (sum one : ℕ)
       → sum ≡ told (a + weights m (trees_of (take i ts))) → i < length ts → t ≡ get_or ts i t
       → one ≡ weight_told m t
@@ -39,7 +39,7 @@ module _ {V O : Type 0} (m : Meaning V O) where
       ∙ told_plus (a + w) (weight m t)
       ∙ ap told (omega (arith, weights_more ts i t lt e))
 
-  -- what the function adds and its children's weights are the call's
+  -- the weight that the function adds and its children's weights are the call's
   pub call_is_weighed : (f : Function V O) (ts : List (Tree V O)) (k : LogicalType)
       (nullable : Bool)
       (sum : ℕ)

@@ -1,4 +1,4 @@
--- What a script calls, from what it names.
+-- What a script calls, by its words.
 use Rattle.std.proofs.Common.{◌≡◌, ℕ, Option, Some, None, ap}
 use Rattle.std.specs.Option.{option_map, option_and_then}
 use Rattle.vortex_interface.specs.Shipped.{Shipped, escaped}

@@ -1,4 +1,4 @@
--- From the children's columns to a call's column or its refusal.
+-- From the children's columns to a call's column or error.
 use Rattle.std.proofs.Common.{◌≡◌, ℕ, zero, suc, ◌<◌, refl, sym, ap, subst, ◌∙◌, List, [], ◌∷◌}
 use Rattle.std.proofs.Common.{◌++◌, length, get_or, take, inr, Bool, true, false, Option, Some}
 use Rattle.std.proofs.Common.{None, arith}
@@ -26,7 +26,7 @@ use Rattle.vortex_interface.specs.Eval.{IsFirstFault, HasTreeRows}
 use Rattle.vortex_interface.specs.Execution.{LeavesFit, other_length}
 use Rattle.vortex_interface.proofs.RewrittenRows.{same_length}
 
--- each tree's rows stand in the column beside it
+-- each tree's rows are in the column at its position
 abbrev pub AllHaveRows : {V O : Type 0} → Meaning V O → List ColumnView → ℕ → List (Tree V O)
     → List ColumnView → Type 0
 AllHaveRows m cs n [] [] = ⊤
@@ -113,7 +113,7 @@ module _ {V O : Type 0} where
           λ j. then_means (function_means m f (types_or_none (types_are ts ds h j)))
           (inputs_are ts ds h i lt j)
 
-      -- what a well-typed call over such columns meets
+      -- the conditions of a well-typed call over such columns
       pub accepted : (f : Function V O) (ts : List (Tree V O)) (ds : List ColumnView)
           (k : LogicalType)
           → AllHaveRows m cs n ts ds → tree_type m (call f (trees_of ts)) ≡ Some k
@@ -158,7 +158,7 @@ module _ {V O : Type 0} where
             },
           )
 
-      -- what a function answers over its arguments' rows is the call's
+      -- the function's result over its arguments' rows is the call's
       pub call_answers : (f : Function V O) (ts : List (Tree V O)) (ds : List ColumnView)
           (k : LogicalType) (r : Result ColumnView VortexError)
           → AllHaveRows m cs n ts ds → tree_type m (call f (trees_of ts)) ≡ Some k

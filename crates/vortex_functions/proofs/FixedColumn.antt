@@ -1,4 +1,4 @@
--- A column that answers false in each row.
+-- A column that is false in each row.
 use Rattle.std.proofs.Common.{◌≡◌, ℕ, Bool, false, List, [], ◌∷◌, length, Some, refl, sym, ap, ◌∙◌}
 use Rattle.std.proofs.Common.{arith, replicate}
 use Rattle.std.specs.Prelude.{IsSome, Result, slice_index_or}

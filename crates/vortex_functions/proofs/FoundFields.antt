@@ -1,4 +1,4 @@
--- What stands at the place of the first field of a name.
+-- The index of the first field with a name.
 use Rattle.std.proofs.Common.{◌≡◌, ℕ, suc, ◌<◌, Bool, true, false, cond, List, Option, Some}
 use Rattle.std.proofs.Common.{Result, None, refl, ◌∙◌, subst, arith}
 use Rattle.std.specs.Prelude.{nat_eq}
@@ -13,7 +13,7 @@ use Rattle.vortex_errors.proofs.Answering.{Answers-weaker}
 use Rattle.vortex_interface.specs.Trees.{place, Tree, leaf}
 use Rattle.vortex_functions.specs.Binding.{IsColumnLeaf, AnswersLeaf, field_leaf}
 
--- the place is one of the fields', which has that name and that type
+-- the index is that of a field with that name and that type
 pub record IsFieldAt (name : List ℕ) (fs : Fields) (p : ℕ × LogicalType) : Type 0 where
   pub within : p.0 < field_count fs
   pub named : field_name p.0 fs ≡ name
@@ -55,7 +55,7 @@ module _ (name : List ℕ) where
   field_found (field n t fs) p e =
       by_name n t fs p (pointwise nat_eq n name) refl e (field_found fs)
 
-  -- so the leaf at its place is the leaf of the name
+  -- so the leaf at its index is the leaf of the name
   pub leaf_found : {V O : Type 0} (fs : Fields) (p : ℕ × LogicalType) → find_field name fs ≡ Some p
       → (r : Result (Tree V O) VortexError) → AnswersUnlessMemory r (λ t. t ≡ field_leaf p.0 fs)
       → AnswersLeaf fs name r

@@ -1,4 +1,4 @@
--- Identities and options tell functions.
+-- Identities and options determine functions.
 use Rattle.std.proofs.Common.{◌≡◌, Bool, true, false, refl, ap, sym}
 use Rattle.std.proofs.lemmas.Slice.Eq.{bytes_eq-Decides}
 use Rattle.vortex_interface.specs.Meaning.{Meaning}
@@ -8,7 +8,7 @@ use Rattle.vortex_interface.specs.Functions.{ours, custom}
 use Rattle.vortex_functions.specs.SameFunctions.{held_by}
 use Rattle.vortex_functions.specs.SameFunctions.{SameByIdentityAndOptions}
 
--- by the bytes of the identities, where two functions differ and hold the same
+-- by the bytes of the identities, if two functions differ and have the same contents
 told : (s t : Shipped) → shipped_id s ≡ shipped_id t → held_by s ≡ held_by t → s ≡ t
 told (shipped.Binary o) (shipped.Binary p) i h = cc
 told (shipped.Between o) (shipped.Between p) i h = cc

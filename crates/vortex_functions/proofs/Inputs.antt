@@ -1,4 +1,4 @@
--- What a walk made of a call's children.
+-- The results of a walk for a call's children.
 use Rattle.std.proofs.Common.{◌≡◌, ℕ, ap, subst, ◌∙◌, List, [], ◌∷◌, map}
 use Rattle.std.specs.declared.borrow.Cow.{Cow}
 use Rattle.std.specs.Cow.{cow_value}
@@ -12,7 +12,7 @@ use Rattle.vortex_functions.proofs.TreeLists.{list_of-trees_of}
 use Rattle.vortex_functions.specs.Executing.{HasRows}
 
 module _ {V O : Type 0} where
-  -- what was made of the children of a tree that is known to be a call
+  -- the results for the children of a tree that is known to be a call
   pub made_of_items : {P : Type 0} (means : Tree V O → P → Type 0) (self : Tree V O)
       (f : Function V O) (ts : List (Tree V O)) (os : List P)
       → self ≡ call f (trees_of ts) → AllMean means (children_of self) os → AllMean means ts os

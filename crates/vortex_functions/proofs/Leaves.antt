@@ -1,4 +1,4 @@
--- What the laws of a kind of leaf say of its trees.
+-- The laws of a kind of leaf, for its trees.
 use Rattle.std.proofs.Common.{◌≡◌, ℕ, zero, suc, List, [], ◌∷◌, map, Some, None, refl, sym, ap}
 use Rattle.std.proofs.Common.{subst, ◌∙◌, arith}
 use Rattle.std.specs.Prelude.{All, slice_get}
@@ -29,7 +29,7 @@ module _ {V O : Type 0} where
   weighs_one m (call f ts) e = cc
 
 module _ {V L O B S : Type 0} (l : Ghosts L V O B S) where
-  -- the children of a tree beside which that stands
+  -- the children of a tree with that context
   pub children_beside : (t : Tree V O) (b : B)
       → l.children (l.see t b) ≡ map (λ x. l.see x b) (children_of t)
   children_beside t b =
@@ -48,7 +48,7 @@ module _ {V L O B S : Type 0} (l : Ghosts L V O B S) where
       let same = ap (l.see (l.tree_of a)) (sym (even zero a (omega arith))) ∙ l.see_of a in
       λ j. same j ∷ seen_again b xs (λ i d lt. even (suc i) d (omega (arith, lt))) j
 
-  -- what stands below a call are its children
+  -- the trees below a call are its children
   pub call_has : (f : Function V O) (b : B) (xs : List S) → All (λ a. l.context_of a ≡ b) xs
       → xs ≡ l.children (l.see (call f (trees_of (map l.tree_of xs))) b)
   call_has f b xs even =
@@ -68,7 +68,7 @@ module _ {V L O B S : Type 0} (l : Ghosts L V O B S) where
       )
   trees_below b (t ∷ ts) (suc i) x h = trees_below b ts i x h
 
-  -- a child, and what stands beside it
+  -- a child, and its context
   pub child_at : (a : S) (i : ℕ) (x : S) → slice_get (l.children a) i ≡ Some x
       → (slice_get (children_of (l.tree_of a)) i ≡ Some (l.tree_of x))
       × (l.context_of x ≡ l.context_of a)

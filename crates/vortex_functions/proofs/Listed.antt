@@ -1,4 +1,4 @@
--- A list of trees that are still to be looked at.
+-- A list of trees that are still to be visited.
 use Rattle.std.proofs.Common.{◌≡◌, ◌+◌, ◌<◌, List, [], ◌∷◌, ◌++◌, length, take, take_all, map, ℕ}
 use Rattle.std.proofs.Common.{◌≤◌, refl, sym, ap, subst, ◌∙◌, ◌↔◌, arith}
 use Rattle.std.specs.Borrow.{Bor}
@@ -22,19 +22,19 @@ module _ {V O : Type 0} where
       → now_of all ≡ now_of rest ++ b.now ∷ []
   popped all rest b e = ap now_of e ∙ map-append (λ (x : Bor (Tree V O)). x.now) rest (b ∷ [])
 
-  -- what was listed, with a node's children behind it, gives its last
+  -- popping the list with a node's children pushed gives its last
   pub relisted : (before kids : List (Tree V O)) (list : List (Bor (Tree V O)))
       (rest : List (Bor (Tree V O))) (next : Bor (Tree V O))
       → now_of list ≡ before ++ kids → list ≡ rest ++ next ∷ []
       → before ++ kids ≡ now_of rest ++ next.now ∷ []
   relisted before kids list rest next e f = sym e ∙ popped list rest next f
 
-  -- or has no last
+  -- or there is no last
   pub nothing_listed : (before kids : List (Tree V O)) (list : List (Bor (Tree V O)))
       → now_of list ≡ before ++ kids → list ≡ [] → before ++ kids ≡ []
   nothing_listed before kids list e f = sym e ∙ ap now_of f
 
-  -- all children were listed
+  -- all children were pushed
   pub all_listed : (before ts kids now : List (Tree V O)) (k : ℕ)
       → now ≡ before ++ take k ts → length ts ≤ k → ts ≡ kids → now ≡ before ++ kids
   all_listed before ts kids now k e h f =
@@ -50,8 +50,8 @@ module _ {V O : Type 0} where
   children_fewer (constant s) = omega arith
   children_fewer (call f ts) = omega (arith, ap nodes_count (same_trees ts))
 
-  -- the nodes of a tree and of a list go down where the tree gives its children to the list, which
-  -- gives its last
+  -- the nodes of a tree and of a list decrease when the tree pushes its children to the list, which
+  -- pops its last
   pub listed_fewer : (t next : Tree V O) (list rest : List (Tree V O))
       → list ++ children_of t ≡ rest ++ next ∷ []
       → node_count next + nodes_count (trees_of rest) < node_count t + nodes_count (trees_of list)
@@ -84,8 +84,8 @@ module _ {V O : Type 0} where
       λ g. subst (λ (us : Trees V O). AllLeavesFit cs us) (sym (same_trees ts)) g,
     )
 
-    -- the tree fits where the node and the list do; and so it stays where the node, which itself
-    -- fits, gives its children to the list, which gives its last
+    -- the tree matches where the node and the list do; this is kept when the node, which itself
+    -- matches, pushes its children to the list, which pops its last
     pub listed_fit : (root t next : Tree V O) (list rest : List (Tree V O))
         → (LeavesFit cs root ↔ (LeavesFit cs t × AllFit list)) → NodeFits cs t
         → list ++ children_of t ≡ rest ++ next ∷ []

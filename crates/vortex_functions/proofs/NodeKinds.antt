@@ -38,7 +38,7 @@ module _ {V O : Type 0} where
     abbrev pub IsArrayNode : ℕ → Node V ArrayLeaf O ℕ (Array V O) → Type 0
     IsArrayNode k n = IsNode tree_in rows_in m (reduce m r) StandsAmong k n
 
--- what a leaf asks of the columns is what its tree does
+-- a leaf requires of the columns what its tree does
 module _ (V O : Type 0) (cs : List ColumnView) where
   pub leaf_node_fits : (l : ExpressionLeaf) (b : Bool) → (IsTrue b ↔ HasColumn cs l)
       → IsTrue b ↔ NodeFits {V = V} {O = O} cs (expression_leaf l)

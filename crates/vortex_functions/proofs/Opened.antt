@@ -1,4 +1,4 @@
--- What an opened tree is.
+-- An opened tree.
 use Rattle.std.proofs.Common.{◌≡◌, ℕ, zero, suc, ◌≤◌, [], ◌∷◌, length, refl, arith, sym, ap, ◌∙◌}
 use Rattle.std.proofs.Common.{Bool, false, IsTrue, ◌↔◌, true≢false, Some, None}
 use Rattle.std.specs.Prelude.{List, slice_get}
@@ -8,7 +8,7 @@ use Rattle.vortex_columns.specs.ColumnView.{ColumnView}
 use Rattle.vortex_interface.specs.Trees.{place}
 use Rattle.vortex_interface.specs.Execution.{LeafFits}
 
--- an answer no, by what a yes would need
+-- a result `false`, from what `true` would need
 pub refuted : (b : Bool) (P Q : Type 0) → b ≡ false → (IsTrue b ↔ P) → (Q → P) → IsTrue false ↔ Q
 refuted b P Q e iff needs =
     (λ h. absurd (true≢false (sym h)), λ q. absurd (true≢false (sym (iff.1 (needs q)) ∙ e)))

@@ -18,7 +18,7 @@ use Rattle.vortex_interface.specs.Shipped.{Shipped}
 use Rattle.vortex_interface.specs.Functions.{Function, ours, custom}
 use Rattle.vortex_functions.specs.SameFunctions.{AreSame}
 
--- a test, and what it tells
+-- a test, and what it decides
 abbrev pub Tells : Bool → Type 0 → Type 0
 Tells b P = (b ≡ true → P) × (P → b ≡ true)
 

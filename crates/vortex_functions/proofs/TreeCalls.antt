@@ -1,4 +1,4 @@
--- A call over trees of a kind that is made.
+-- A call over trees of some kind.
 use Rattle.std.proofs.Common.{◌≡◌, ℕ, zero, suc, ◌+◌, ◌<◌, true, List, [], ◌∷◌, ◌++◌, length, map}
 use Rattle.std.proofs.Common.{take, get_or, Some, refl, sym, ap, subst, ◌∙◌, arith}
 use Rattle.std.specs.Prelude.{All}
@@ -19,7 +19,7 @@ use Rattle.vortex_functions.proofs.Bound.{count_fits, call_is_typed, types_refus
 use Rattle.vortex_functions.proofs.CallWeights.{told, sum_more}
 use Rattle.vortex_functions.proofs.Execution.{types_more}
 
--- one more element for which P holds
+-- one more element with P
 pub all_more : {A : Type 0} (P : A → Type 0) (xs : List A) (i : ℕ) (a : A) → All P (take i xs)
     → i < length xs → a ≡ get_or xs i a → P a → All P (take (suc i) xs)
 all_more P [] i a h lt is p = absurd (omega (arith, lt))
@@ -45,7 +45,7 @@ module _ {V O S : Type 0} (tree_of : S → Tree V O) where
         types_more m (map tree_of xs) ks i (tree_of a) k h
         (subst (λ (n : ℕ). i < n) (sym (length-map xs tree_of)) lt) (ap tree_of e ∙ mapped xs i a) q
 
-    -- a sum of weights that is cut off, and one more tree
+    -- a saturated sum of weights, and one more tree
     pub sum_one_more : (b : ℕ) (xs : List S) (i : ℕ) (a : S) (sum one : ℕ)
         → sum ≡ told (b + weights m (trees_of (take i (map tree_of xs)))) → i < length xs
         → a ≡ get_or xs i a → one ≡ weight_told m (tree_of a)

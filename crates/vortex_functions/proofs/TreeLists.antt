@@ -1,4 +1,4 @@
--- A row of trees and a list of them.
+-- A sequence of trees and a list of them.
 use Rattle.std.proofs.Common.{◌≡◌, refl, ap, List, [], ◌∷◌}
 use Rattle.vortex_interface.specs.Trees.{Tree, trees_of, list_of}
 

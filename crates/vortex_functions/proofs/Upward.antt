@@ -1,4 +1,4 @@
--- What holds at a node holds at its children, and a child's fault is its parent's.
+-- A property of a node holds for its children, and a child's fault is its parent's.
 use Rattle.std.specs.Prelude.{◌≡◌, ℕ, zero, suc, List, [], ◌∷◌, length, take, slice_get, Some}
 use Rattle.std.proofs.Common.{subst, inl, inr}
 use Rattle.std.specs.declared.borrow.Cow.{Cow}

@@ -1,5 +1,5 @@
--- A tree that is written from left to right: what is written and what is left are its text, and less
--- is left with each step.
+-- A tree that is written from left to right: what is written and what is left are its text, and
+-- less is left with each step.
 use Rattle.std.proofs.Common.{◌≡◌, ℕ, zero, suc, ◌+◌, ◌-◌, ◌<◌, ◌≤◌, length, List, [], ◌∷◌, ◌++◌}
 use Rattle.std.proofs.Common.{map, Option, Some, None, refl, sym, ap, ◌∙◌, subst, arith, add-one}
 use Rattle.std.proofs.Common.{Bor, string_bytes}
@@ -28,7 +28,7 @@ parts None o js p = cc
 parts (Some a) None js p = cc
 parts (Some a) (Some rest) js p = (a, rest, refl, refl, cc)
 
--- what stands in an option that something follows from
+-- the content of an option that something follows from
 some_texts : {A B : Type 0} (o : Option A) (f : A → Option B) (b : B) → option_and_then f o ≡ Some b
     → (a : A) × (o ≡ Some a) × (f a ≡ Some b)
 some_texts None f b e = cc
@@ -58,7 +58,7 @@ leaf_left text =
     ∙ append-nil (text ++ []) ∙ append-nil text
 
 module _ {V O : Type 0} where
-  -- a call costs for each of its parts as much as all of its children
+  -- each part of a call costs as much as all of its children
   abbrev mutual
     pub cost : Tree V O → ℕ
     cost (leaf l) = suc (times 1 1)
@@ -74,7 +74,7 @@ module _ {V O : Type 0} where
   child_costs (constant s) = 0
   child_costs (call f ts) = costs ts
 
-  -- what a node costs from its k-th part on, and frames
+  -- the cost of a node from its k-th part on, and of frames
   abbrev cost_on : Tree V O → ℕ → ℕ
   cost_on t k = suc (times (suc (length (children_of t)) - k) (suc (child_costs t)))
 
@@ -105,7 +105,7 @@ module _ {V O : Type 0} where
   child_cost (constant s) k c e = cc
   child_cost (call f ts) k c e = costs_at ts k c e
 
-  -- that is its next part and what comes behind
+  -- that is its next part and what comes after
   cost_next : (t : Tree V O) (k : ℕ) → k ≤ length (children_of t)
       → cost_on t k ≡ suc (child_costs t) + cost_on t (suc k)
   cost_next t k within =
@@ -186,14 +186,14 @@ module _ {V O : Type 0} where
       ∙ ap (shipped_text s) (sym (texts_are ts w.0 w.1))
       ∙ text ∙ sym (ap (λ o. unwrap_or o []) h.1)
 
-  -- what a node says that is no call is a part of its text
+  -- the text of a node that is no call is a part of its text
   pub leaf_part : (t : Tree V O) (k : ℕ) (old new : String Global) → called t ≡ None
       → Appends old (leaf_text t) new → WritesPart t k old new None
   leaf_part (leaf l) k old new e w = (k, refl, λ h. (w, refl))
   leaf_part (constant s) k old new e w = (k, refl, λ h. (w, refl))
   leaf_part (call f ts) k old new e w = cc
 
-  -- what is written, and what is left of the frames, is the root's text, where it has one
+  -- what is written, and what is left of the frames, is the root's text, if it has one
   abbrev pub Writes : Tree V O → List ℕ → List (Writing V O) → Type 0
   Writes root out ws = HasText root → AllHaveText ws × (out ++ left ws ≡ text_in root)
 
@@ -205,7 +205,7 @@ module _ {V O : Type 0} where
       (sym (is ∙ ap (λ xs. xs ++ first) n))
       ((h, tt), ap (λ bs. bs ++ left_of t.now 0) e ∙ left_all t.now h)
 
-  -- the last frame is taken off
+  -- the last frame is popped
   module _ (all rest : List (Writing V O)) (last : Writing V O) (popped : all ≡ rest ++ last ∷ [])
     where
       abbrev t : Tree V O
@@ -228,7 +228,7 @@ module _ {V O : Type 0} where
           let same = left_push rest last ∙ ap (λ bs. bs ++ left rest) nothing in
           ((texts_pop rest last r.0).0, ap (λ bs. out ++ bs) (sym same) ∙ r.1)
 
-      -- and stands behind its next part
+      -- and follows its next part
       module _ (more : List (Writing V O)) (within : k ≤ length (children_of t))
           (pushed : more ≡ rest ++ record { node = last.node; next = last.next + 1 } ∷ []) where
         abbrev behind : Writing V O
@@ -247,7 +247,7 @@ module _ {V O : Type 0} where
             rw (goes, popped)
             (omega (arith, cost_next t k within, frames_cost_push rest last, frames_cost_push rest behind))
 
-        -- after the part is written, with the text of the child that stands there
+        -- after the part is written, with the text of that child
         part_written : (root : Tree V O) (out new : List ℕ) → Writes root out all
             → (HasText t
             → new ≡ (out ++ tree_before t k) ++ text_at (tree_printed t k) (child_texts t))
@@ -297,7 +297,7 @@ module _ {V O : Type 0} where
                   ∙ ap (λ bs. (out ++ tree_before t k) ++ bs)
                   (sym nothing ∙ ap (λ j. text_at j (child_texts t)) is.1)
 
-          -- after a child comes next
+          -- after a child comes the next part
           module _ (child : Bor (Tree V O)) (found : o ≡ Some child) (deeper : List (Writing V O))
               (begun : deeper ≡ more ++ record { node = child; next = 0 } ∷ []) where
             abbrev first : Writing V O

@@ -1,4 +1,4 @@
--- What executing an array answers, which may be borrowed. No column stands outside it.
+-- Results of executing an array, which may be borrowed. All its columns are in it.
 use Rattle.std.specs.Prelude.{◌≡◌, ◌<◌, ℕ, [], Result, IfSome, IsOkAnd}
 use Rattle.std.specs.declared.borrow.Cow.{Cow}
 use Rattle.std.specs.declared.borrow.Cow.TheVariants.{Borrowed, Owned}
@@ -27,7 +27,7 @@ abbrev pub IsLent : ColumnView → Cow ColumnView → Type 0
 IsLent c (Borrowed lent) = lent.now ≡ c
 IsLent c (Owned d) = ⊥
 
--- a lone column is borrowed, and no memory is taken
+-- the column of a lone column leaf is borrowed, and nothing is allocated
 abbrev pub LendsColumn : {V O : Type 0} → Array V O → Answer → Type 0
 LendsColumn a result = IfSome (column_in a) (λ c. IsOkAnd result (IsLent c))
 

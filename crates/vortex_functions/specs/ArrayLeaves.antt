@@ -1,4 +1,4 @@
--- The leaves of array trees as trees: columns, each of so many rows.
+-- The leaves of array trees as trees: columns, each of that many rows.
 use Rattle.std.specs.Prelude.{◌≡◌, ◌<◌, ◌∷◌, ℕ, List, [], Option, Some, None, All, IfSome, map}
 use Rattle.std.specs.Prelude.{length, refl, zero, suc}
 use Rattle.std.proofs.Common.{arith, subst, sym}
@@ -24,11 +24,11 @@ leaf_column (Nulls c) = c
 abbrev pub array_leaf : {V O : Type 0} → ArrayLeaf → Tree V O
 array_leaf l = column_tree (leaf_column l)
 
--- a column that is seen as a constant one has the scalar in each row
+-- a column whose view is constant has the scalar in each row
 abbrev pub TellsConstant : ColumnView → Type 0
 TellsConstant c = IfSome c.constant (λ s. c ≡ constant_column s (length c.rows))
 
--- a column of so many rows
+-- a column of that many rows
 abbrev pub StandsAmong : ℕ → ArrayLeaf → Type 0
 StandsAmong n l = (length (leaf_column l).rows ≡ n) × TellsConstant (leaf_column l)
 
@@ -43,7 +43,7 @@ module _ {V O : Type 0} where
             (λ j d p. even (suc j) d (omega (arith, p))) i lt,
       )
 
-  -- a call has rows of its types where what stands below it has
+  -- a call has rows of its types if everything below it has
   pub typed_call : (f : Function V O) (n : ℕ) (xs : List (Array V O)) → All IsTyped xs
       → All (λ a. rows_in a ≡ n) xs → IsTyped (call f (trees_of (map tree_in xs)), n)
   typed_call f n xs typed even i lt = rows_below n xs typed even i lt

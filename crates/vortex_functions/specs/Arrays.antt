@@ -9,7 +9,7 @@ use Rattle.vortex_interface.specs.Rewrites.{HasRow}
 abbrev pub Array : Type 0 → Type 0 → Type 0
 Array V O = Tree V O × ℕ
 
--- the tree of a column: where it is seen as a constant one, that constant
+-- the tree of a column: a constant if its view is one
 abbrev pub held_or_constant : {V O : Type 0} → ColumnView → Option ScalarView → Tree V O
 held_or_constant c None = leaf (held c)
 held_or_constant c (Some s) = constant s
@@ -39,7 +39,7 @@ module _ {V O : Type 0} where
   abbrev pub column_in : Array V O → Option ColumnView
   column_in a = column_of (tree_in a) (rows_in a)
 
-  -- what an array holds has a value of its type in each of so many rows
+  -- the contents of an array have a value of their type in each of that many rows
   abbrev pub AreRowsTyped : ℕ → Tree V O → Type 0
   AreRowsTyped n t = (i : ℕ) → i < n → HasRow [] i t
 
@@ -50,7 +50,7 @@ module _ {V O : Type 0} where
   abbrev pub children_in : Array V O → List (Array V O)
   children_in a = map (λ t. (t, rows_in a)) (children_of (tree_in a))
 
-  -- the row count of the first array that has not so many
+  -- the row count of the first array that has not that many rows
   abbrev pub other_rows : ℕ → List (Array V O) → Option ℕ
   other_rows n [] = None
   other_rows n (a ∷ xs) = if nat_eq (rows_in a) n then other_rows n xs else Some (rows_in a)

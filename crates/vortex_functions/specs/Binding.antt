@@ -1,4 +1,4 @@
--- What binding a leaf or a call answers, and when an answer is borrowed.
+-- Results of binding a leaf or a call, and when a result is borrowed.
 use Rattle.std.specs.Prelude.{◌≡◌, ℕ, List, Some, None, true, false, length, map, slice_get}
 use Rattle.std.specs.Prelude.{Result}
 use Rattle.std.specs.declared.borrow.Cow.{Cow}
@@ -21,7 +21,7 @@ pub record IsColumnLeaf {V O : Type 0} (scope : Fields) (name : List ℕ) (t : T
     pub named : find_field name scope ≡ Some found
     pub is : t ≡ leaf (place found.0 name found.1)
 
--- the leaf of the field at that place
+-- the leaf of the field at that index
 abbrev pub field_leaf : {V O : Type 0} → ℕ → Fields → Tree V O
 field_leaf k fs = leaf (place k (field_name k fs) (field_type k fs))
 
@@ -44,7 +44,7 @@ pub data RefusesCall {V O : Type 0} (m : Meaning V O) (f : Function V O) (ts : L
       → tree_types m (trees_of ts) ≡ Some ks → function_type m f ks ≡ None
       → IsMismatchOf f ks e → RefusesCall m f ts e
 
--- what binding a leaf answers, and what binding a call
+-- the results of binding a leaf, and of binding a call
 abbrev pub AnswersLeaf : {V O : Type 0} → Fields → List ℕ → Result (Tree V O) VortexError → Type 0
 AnswersLeaf scope name result =
     Answers result (IsColumnLeaf scope name)
@@ -54,7 +54,7 @@ abbrev pub AnswersBinding : {V O : Type 0} → Meaning V O → Function V O → 
     → Result (Tree V O) VortexError → Type 0
 AnswersBinding m f ts result = Answers result (IsCall m f ts) (RefusesCall m f ts)
 
--- of a tree of any kind, with what stands beside it
+-- for a tree of any kind, with its context
 abbrev pub AnswersTreeCall : {V O S B : Type 0} → (S → Tree V O) → (S → B) → Meaning V O
     → Function V O → List S → B → Result S VortexError → Type 0
 AnswersTreeCall tree_of context_of m f xs b result =
@@ -70,7 +70,7 @@ abbrev pub IsLeafAt : {V O : Type 0} → ℕ → Tree V O → Type 0
 IsLeafAt k (leaf (place p name t)) = k ≡ p
 IsLeafAt k t = ⊥
 
--- the answer is the column at the leaf's place, borrowed
+-- the result is the column at the leaf's place, borrowed
 abbrev pub IsLentLeaf : {V O : Type 0} → List ColumnView → Tree V O → Cow ColumnView → Type 0
 IsLentLeaf cs (leaf (place p name t)) (cow.Borrowed c) = slice_get cs p ≡ Some c.now
 IsLentLeaf cs t c = ⊥

@@ -1,4 +1,4 @@
--- What executing a tree answers, which may be borrowed.
+-- Results of executing a tree, which may be borrowed.
 use Rattle.std.specs.Prelude.{◌≡◌, ℕ, List, None, Result, IsOkAnd, ⊤}
 use Rattle.std.specs.Cow.{cow_value}
 use Rattle.std.specs.declared.borrow.Cow.{Cow}
@@ -20,11 +20,11 @@ module _ {V O : Type 0} (m : Meaning V O) (columns : List ColumnView) (n : ℕ) 
   abbrev pub HasRows : Cow ColumnView → Type 0
   HasRows c = HasTreeRows m columns n t (cow_value c)
 
-  -- over columns that fit: the tree's rows, or the first fault
+  -- over columns that match: the tree's rows, or the first fault
   abbrev pub AnswersTree : Answer → Type 0
   AnswersTree result = Answers result HasRows (IsFirstFault m columns n t)
 
-  -- the same of a column of one's own
+  -- the same for an owned column
   abbrev pub AnswersCallRows : Result ColumnView VortexError → Type 0
   AnswersCallRows result = Answers result (HasTreeRows m columns n t) (IsFirstFault m columns n t)
 
@@ -33,20 +33,20 @@ module _ {V O : Type 0} (m : Meaning V O) (columns : List ColumnView) (n : ℕ) 
   AnswersExecution result =
       Answers result (λ c. Executes m columns n t (cow_value c)) (RefusesExecution m columns n t)
 
--- a lone leaf is borrowed, and no memory is taken
+-- the column of a lone leaf is borrowed, and nothing is allocated
 abbrev pub LendsLeaf : {V O : Type 0} → List ColumnView → Tree V O → Answer → Type 0
 LendsLeaf columns t result = IsLeaf t → IsOkAnd result (IsLentLeaf columns t)
 
--- what a node alone asks of the columns: a leaf, that its own is there
+-- what a node alone requires of the columns: a leaf, that its own exists
 abbrev pub NodeFits : {V O : Type 0} → List ColumnView → Tree V O → Type 0
 NodeFits columns (leaf l) = LeafFits columns l
 NodeFits columns t = ⊤
 
--- the columns fit the leaves, and each has so many rows
+-- the columns match the leaves, and each has that many rows
 abbrev pub Fits : {V O : Type 0} → List ColumnView → ℕ → Tree V O → Type 0
 Fits columns n t = LeavesFit columns t × (other_length n columns ≡ None)
 
--- whether the columns do, and what those that do not are refused for
+-- whether the columns match, and the error if they do not
 abbrev pub AnswersColumns : {V O A : Type 0} → List ColumnView → ℕ → Tree V O
     → Result A VortexError → Type 0
 AnswersColumns columns n t result =

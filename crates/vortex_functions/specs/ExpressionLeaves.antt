@@ -19,7 +19,7 @@ abbrev pub expression_leaf : {V O : Type 0} → ExpressionLeaf → Tree V O
 expression_leaf (Column p name t) = leaf (place p (string_bytes name) (type_of t))
 expression_leaf (Literal s alloc) = constant s
 
--- the leaf's column is there, of the leaf's type; a literal asks for none
+-- the leaf's column exists, and has the leaf's type; a literal requires none
 abbrev pub HasColumn : List ColumnView → ExpressionLeaf → Type 0
 HasColumn cs (Column p name t) = LeafFits cs (place p (string_bytes name) (type_of t))
 HasColumn cs (Literal s alloc) = ⊤
@@ -27,7 +27,7 @@ HasColumn cs (Literal s alloc) = ⊤
 pub children_are : {V O : Type 0} (t : Tree V O) → children_of t ≡ map (λ x. x) (children_of t)
 children_are t = sym (map-id (children_of t))
 
--- a call is bound where what stands below it is
+-- a call is bound if everything below it is
 pub bound_call : {V O : Type 0} (f : Function V O) (ts : List (Tree V O)) → All IsBound ts
     → IsBound (call f (trees_of (map (λ t. t) ts)))
 bound_call f [] h = tt

@@ -1,4 +1,4 @@
--- The function without arguments that answers false.
+-- The function without arguments that returns false.
 use Rattle.std.specs.Prelude.{◌≡◌, codes, List, [], ◌∷◌, Option, Some, None, true, false, Any, refl}
 use Rattle.std.proofs.Common.{arith}
 use Rattle.vortex_errors.specs.declared.arity.Arity.TheVariants.{Exact}

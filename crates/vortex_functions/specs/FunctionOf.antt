@@ -1,4 +1,4 @@
--- The function that a `ScalarFnRef` stands for.
+-- The function of a `ScalarFnRef`.
 use Rattle.std.specs.Prelude.{ℕ, Option, Some, None, Bool, true, false}
 use Rattle.std.specs.Option.{option_map}
 use Rattle.vortex_functions.specs.declared.erased.ScalarFnRef.{ScalarFnRef}
@@ -50,7 +50,7 @@ module _ {V O : Type 0} where
   like_in (ref.Like options) = Some options
   like_in f = None
 
-  -- the same function with that escape; Like alone has one
+  -- the same function with that escape; only Like has one
   abbrev pub escaped_function : Option ℕ → Function V O → Option (Function V O)
   escaped_function escape (ours s) = option_map ours (escaped (Some escape) s)
   escaped_function escape (custom f o) = None

@@ -1,4 +1,4 @@
--- How a tree's node is seen.
+-- The view of a tree's node.
 use Rattle.std.specs.Prelude.{◌≡◌, ◌+◌, ◌≤◌, List, [], ◌∷◌, map, IsTrue, Option, Some, None, All}
 use Rattle.std.proofs.Common.{arith}
 use denote.Param.Weighed.{most}
@@ -22,7 +22,7 @@ most_le-nodes_count tree_of [] = omega arith
 most_le-nodes_count tree_of (a ∷ xs) = omega (arith, most_le-nodes_count tree_of xs)
 
 module _ {V L O B S : Type 0} (tree_of : S → Tree V O) where
-  -- the call that is made of these parts
+  -- the call with these parts
   abbrev pub call_of : Parts V L O B S → Tree V O
   call_of parts =
       call (function_of parts.function) (trees_of (map tree_of parts.children.items))
@@ -34,8 +34,8 @@ module _ {V L O B S : Type 0} (tree_of : S → Tree V O) where
   abbrev pub tree_view : (Tree V O → B → S) → (L → Tree V O) → Inside V L O B S → S
   tree_view see seen a = see (node_tree seen a.node) a.context
 
-  -- a leaf may stand there; a call is well typed, and has the type and the weight beside it, the
-  -- same stands beside its children, and where it is marked, the rule applies at no place of it
+  -- a leaf may be present; a call is well typed, with its type, weight and context, its children
+  -- have the same context, and if it is marked, the rule applies nowhere in it
   abbrev pub IsNode : (S → B) → Meaning V O → (Tree V O → Option (Tree V O)) → (B → L → Type 0)
       → B → Node V L O B S → Type 0
   IsNode context_of m rule fits b (Leaf l) = fits b l
@@ -51,6 +51,6 @@ module _ {V L O B S : Type 0} (tree_of : S → Tree V O) where
   IsTree context_of see m rule seen fits whole a =
       IsNode context_of m rule fits a.context a.node × whole (tree_view see seen a)
 
--- what stands for a tree of a kind that is never made
+-- a placeholder for a tree of a kind that is never made
 abbrev pub placeholder : {V O : Type 0} → Tree V O
 placeholder = leaf (place 0 [] null_type)

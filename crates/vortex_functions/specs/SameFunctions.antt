@@ -7,15 +7,15 @@ use Rattle.vortex_interface.specs.Meaning.{Meaning}
 use Rattle.vortex_interface.specs.Shipped.{Shipped, Binary, Cast, Between, Like, shipped_id}
 use Rattle.vortex_interface.specs.Functions.{Function, ours, custom, function_id}
 
--- one shipped function with the same options; or two of a caller's of one identity, whose options
--- are equal by the equality E of their own. No shipped function is the same as a caller's
+-- one shipped function with the same options; or two of a caller's with one identity, whose options
+-- are equal by their equality E. No shipped function is the same as a caller's
 abbrev pub AreSame : {V O : Type 0} → (V → List ℕ) → (O → O → Bool)
     → Function V O → Function V O → Type 0
 AreSame id E (ours s) (ours t) = s ≡ t
 AreSame id E (custom f o) (custom g p) = (id f ≡ id g) × IsTrue (E o p)
 AreSame id E f g = ⊥
 
--- what a shipped function holds beside its identity
+-- the content of a shipped function besides its identity
 pub data Held : Type 0 where
   operator : Operator → Held
   bounds : BetweenOptions → Held
@@ -30,14 +30,14 @@ held_by (Between o) = bounds o
 held_by (Like o) = like o
 held_by f = nothing
 
--- equal options, a caller's by the equality E of their own; those of a shipped function beside a
--- caller's count as equal, so that their identities alone tell the two
+-- equal options, for a caller's by their equality E; options of a shipped and a caller's function
+-- count as equal, so that only their identities distinguish the two
 abbrev pub HoldAlike : {V O : Type 0} → (O → O → Bool) → Function V O → Function V O → Type 0
 HoldAlike E (ours s) (ours t) = held_by s ≡ held_by t
 HoldAlike E (custom f o) (custom g p) = IsTrue (E o p)
 HoldAlike E f g = ⊤
 
--- a caller's function has no identity of a shipped one
+-- no caller's function has the identity of a shipped one
 abbrev pub IsNeverShipped : {V : Type 0} → (V → List ℕ) → Type 0
 IsNeverShipped {V} id = (f : V) (s : Shipped) → id f ≢ shipped_id s
 

@@ -1,4 +1,4 @@
--- What a walk makes of a node's children, each beside the child.
+-- The results of a walk for a node's children, each paired with the child.
 use Rattle.std.specs.Prelude.{◌≡◌, List, [], ◌∷◌, ⊤}
 
 abbrev pub AllMean : {A P : Type 0} → (A → P → Type 0) → List A → List P → Type 0

@@ -1,4 +1,4 @@
--- What the contracts of this crate name.
+-- The words that this crate's contracts use.
 pub use Rattle.vortex_errors.specs.Answers.{AnswersUnlessMemory}
 pub use Rattle.vortex_types.specs.LogicalTypes.{field_count}
 pub use Rattle.vortex_types.specs.TypeOf.{type_of, struct_fields}

@@ -1,4 +1,4 @@
-//! Trees of calls over columns that they hold.
+//! Trees of calls over the columns that they hold.
 ghost use Rattle.std.specs.Prelude.{◌≡◌, ◌↔◌, IfSome, IsTrue, length};
 ghost use Rattle.std.specs.Option.{option_copied};
 ghost use Rattle.vortex_functions.specs.Words.{AnswersUnlessMemory, literal, tree_in, rows_in};
@@ -17,9 +17,10 @@ mod execution;
 /// A leaf of an array tree.
 #[derive(Drop)]
 pub enum ArrayLeaf {
-    /// A handle of a column, which every copy of the array shares.
+    /// A shared handle of a column.
     Column(Rc<Column>),
-    /// The Null column that stands where a call was taken down: no handle, since that takes memory.
+    /// The Null column, which replaces a call that was taken apart: no handle, since that would
+    /// allocate.
     Nulls(Column),
 }
 
@@ -96,13 +97,12 @@ impl ArrayLeaf {
 }
 
 impl<C: ScalarFnVTable> ArrayRef<C> {
-    /// The array of a column, of the column's rows, which are not copied, neither here nor where
-    /// the array is copied. E9 where memory is refused.
+    /// The array of a column, with its rows, which are not copied, neither here nor when the array
+    /// is copied. E9 where an allocation fails.
     pub fn column(alloc: Global, column: Column) -> VortexResult<ArrayRef<C>>
         ensures { AnswersUnlessMemory result (λ a. a ≡ column_array column) }
     {
-        // They say that each row has the type, and that the scalar of a constant column stands in
-        // each.
+        // proves that each row has the type, and that the scalar of a constant column is in each
         let _typed = column.dtype();
         let _told = column.as_constant();
         column.tells_truly();
@@ -127,7 +127,7 @@ impl<C: ScalarFnVTable> ArrayRef<C> {
         self.context == 0
     }
 
-    /// The scalar of a constant column; none of any other array.
+    /// The scalar of a constant column; none for any other array.
     pub fn as_constant(&self) -> Option<&Scalar>
         ensures { option_copied result ≡ literal (tree_in self.now) }
     {
@@ -137,7 +137,7 @@ impl<C: ScalarFnVTable> ArrayRef<C> {
         }
     }
 
-    /// The column, borrowed; none of a call.
+    /// The column, borrowed; none for a call.
     pub fn as_column(&self) -> Option<&Column>
         ensures column { option_copied result ≡ column_in self.now }
         ensures rows { IfSome result (λ c. length c.now.rows ≡ rows_in self.now) }

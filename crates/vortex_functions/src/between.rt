@@ -8,7 +8,7 @@ use vortex_interface::ScalarFnVTable;
 use vortex_kernels::{BetweenOptions, StrictComparison};
 use vortex_shipped::Between;
 
-/// How strictly a bound is meant, by its operator.
+/// Whether a bound is strict, from its operator.
 fn bound_named(word: &str) -> Option<StrictComparison>
     ensures { result ≡ bound_named word.now }
 {

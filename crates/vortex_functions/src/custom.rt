@@ -1,4 +1,4 @@
-//! The function that stands where a caller has none.
+//! The function for a caller who has none.
 ghost use Rattle.std.specs.Prelude.{◌≡◌, IfOk, false, replicate};
 ghost use Rattle.vortex_interface.specs.ValidityRules.{default_rules};
 ghost use Rattle.vortex_functions.specs.Fixed.{fixed_meaning, fixed_lawful};
@@ -10,7 +10,7 @@ use vortex_columns::{
 };
 use vortex_interface::{ChildName, EmptyOptions, ExecutionArgs, ScalarFnId, ScalarFnVTable};
 
-/// No function of a caller's: without arguments, it answers false of non-nullable Bool.
+/// No caller's function: without arguments, it returns false of non-nullable Bool.
 #[derive(Clone, Drop)]
 pub struct NoCustom;
 

@@ -68,7 +68,7 @@ pub(crate) use with_function;
 /// A function with its options: a shipped one, or a caller's of type `C`.
 ///
 /// Two are equal where they are the same shipped function with the same options, or two of a
-/// caller's of one identity and equal options; equal ones hash equally.
+/// caller's with one identity and equal options. Equal ones hash equally.
 #[derive(Drop)]
 #[derive_where(PartialEq, Eq, Hash)]
 pub enum ScalarFnRef<C: ScalarFnVTable> {
@@ -82,7 +82,7 @@ pub enum ScalarFnRef<C: ScalarFnVTable> {
     Custom(TypedScalarFnInstance<C>),
 }
 
-/// What is asked of a function before it is called.
+/// Functions, before they are called.
 #[derive(Clone, Copy, Debug, PartialEq, Eq)]
 pub struct ScalarFnSignature {
     pub arity: Arity,
@@ -114,7 +114,7 @@ impl<C: ScalarFnVTable> ScalarFnRef<C> {
         with_function!(self, f, _options => f.id())
     }
 
-    /// The operator, of Binary.
+    /// The operator, if it is Binary.
     pub fn as_binary(&self) -> Option<Operator>
         ensures { result ≡ operator_in self.now }
     {
@@ -164,7 +164,7 @@ impl<C: ScalarFnVTable> ScalarFnRef<C> {
         }
     }
 
-    /// The options, of Between.
+    /// The options, if it is Between.
     pub fn as_between(&self) -> Option<BetweenOptions>
         ensures { result ≡ between_in self.now }
     {
@@ -177,7 +177,7 @@ impl<C: ScalarFnVTable> ScalarFnRef<C> {
         }
     }
 
-    /// The options, of Like.
+    /// The options, if it is Like.
     pub fn as_like(&self) -> Option<LikeOptions>
         ensures { result ≡ like_in self.now }
     {
@@ -197,7 +197,7 @@ impl<C: ScalarFnVTable> ScalarFnRef<C> {
         }
     }
 
-    /// The caller's function with its options, or the shipped function back.
+    /// The caller's function with its options; else the shipped function is returned.
     pub fn into_custom(self) -> Result<TypedScalarFnInstance<C>, ScalarFnRef<C>>
         ensures { MatchResult result
             (λ f. instance_in self ≡ Some f) (λ f. (f ≡ self) × (instance_in self ≡ None)) }
@@ -222,7 +222,7 @@ impl<C: ScalarFnVTable> ScalarFnRef<C> {
         })
     }
 
-    /// What a call of it adds to the weight of its children, where the call is nullable or not.
+    /// What a call of it adds to the weight of its children, if the call is nullable or not.
     pub fn added_weight(&self, nullable: bool) -> u64
         ensures { result ≡ added (function_of self.now) nullable }
     {
@@ -238,15 +238,15 @@ impl<C: ScalarFnVTable> ScalarFnRef<C> {
         }
     }
 
-    /// The name of an argument, as `lhs`; past the arguments that a call has, any name serves.
+    /// The name of an argument, as `lhs`; past the arguments of a call any name.
     pub fn child_name(&self, index: usize) -> ChildName
         ensures { result.now ≡ function_child_name C.meaning (function_of self.now) index }
     {
         with_function!(self, f, options => f.child_name(options, index))
     }
 
-    /// The type of the answer for argument types of a fitting count; E3 exactly where they are not
-    /// accepted. A shipped function takes no memory.
+    /// The return type for argument types of a fitting count; E3 exactly if they are not accepted.
+    /// A shipped function allocates nothing.
     pub fn return_dtype(&self, alloc: Global, types: &[DType]) -> VortexResult<DType>
         requires { IsTrue (fits (function_arity C.meaning (function_of self.now))
             (length types.now)) }
@@ -255,7 +255,7 @@ impl<C: ScalarFnVTable> ScalarFnRef<C> {
         with_function!(self, f, options => f.return_dtype(alloc, options, types))
     }
 
-    /// The answer over inputs of accepted types: a column of the type returned, with each row's
+    /// The result over inputs of accepted types: a column of the return type, with each row's
     /// value, or the fault of a row.
     pub fn execute<A: ExecutionArgs>(
         &self,
@@ -272,9 +272,10 @@ impl<C: ScalarFnVTable> ScalarFnRef<C> {
         with_function!(self, f, options => f.execute(options, args, ctx))
     }
 
-    /// Appends what stands in the text of a call of `count` arguments before the one that is
-    /// printed `index`-th, and answers which argument that is; `count` at the end, where `index` is
-    /// `count`. What a caller's function writes stays open. Refuses for memory alone.
+    /// Appends the text of a call of `count` arguments that comes before the one that is printed
+    /// `index`-th, and returns which argument that is; at the end, where `index` is `count`,
+    /// returns `count`. The text of a caller's function is unspecified. Fails only where memory
+    /// runs out.
     pub(crate) fn write_before(
         &self,
         alloc: Global,
@@ -317,7 +318,7 @@ impl<C: ScalarFnVTable> ScalarFnRef<C> {
         None
     }
 
-    /// The same function with that escape, which Like alone has.
+    /// The same function with that escape, which only Like has.
     fn with_escape(self, escape: Option<char>) -> Option<ScalarFnRef<C>>
         ensures { option_map function_of result ≡ escaped_function escape (function_of self) }
     {
@@ -330,8 +331,8 @@ impl<C: ScalarFnVTable> ScalarFnRef<C> {
         }
     }
 
-    /// The shipped function that a script calls: the one that the words name, with the escape that
-    /// is said of it where one is.
+    /// The shipped function that a script calls: the one that the words name, with the escape if
+    /// one is given.
     pub fn called(words: &[&str], escape: Option<Option<char>>) -> Option<ScalarFnRef<C>>
         ensures { option_map function_of result
             ≡ option_map ours (shipped_called (map (λ w. w.now) words.now) escape) }

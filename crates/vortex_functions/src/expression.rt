@@ -19,7 +19,7 @@ mod text;
 /// A leaf of an expression.
 #[derive(Drop)]
 pub enum ExpressionLeaf {
-    /// The place of a column in the scope, its name and its type.
+    /// A column's place in the scope, its name and its type.
     Column(usize, String, DType),
     /// A value, and the allocator for its text.
     Literal(Scalar, Global),
@@ -110,8 +110,8 @@ impl<C: ScalarFnVTable> BoundExpression<C> {
         }
     }
 
-    /// The leaf of the field at that place of the scope, with its name and its type. E9 where
-    /// memory is refused.
+    /// The leaf of the field at that place of the scope, with its name and its type. E9 where an
+    /// allocation fails.
     pub fn column_at(
         alloc: Global,
         scope: &StructFields,
@@ -129,12 +129,12 @@ impl<C: ScalarFnVTable> BoundExpression<C> {
         })
     }
 
-    /// The leaf that has that value in every row, of the scalar's type. Takes no memory: the
-    /// allocator is kept for the text.
+    /// The leaf with that value in every row, of the scalar's type. Allocates nothing; keeps the
+    /// allocator for the text.
     pub fn lit(alloc: Global, scalar: Scalar) -> BoundExpression<C>
         ensures { result ≡ constant scalar }
     {
-        // It says that the value has the type.
+        // proves that the value has the type
         let _typed = scalar.dtype();
         Tree {
             node: Node::Leaf(ExpressionLeaf::Literal(scalar, alloc)),
@@ -142,8 +142,8 @@ impl<C: ScalarFnVTable> BoundExpression<C> {
         }
     }
 
-    /// The call of a function. E6 exactly where the count of children does not fit its arity, and
-    /// then E3 exactly where their types are not accepted.
+    /// The call of a function. E6 exactly if the count of children does not fit its arity, then E3
+    /// exactly if their types are not accepted.
     pub fn try_new(
         alloc: Global,
         function: ScalarFnRef<C>,
@@ -154,7 +154,7 @@ impl<C: ScalarFnVTable> BoundExpression<C> {
         Tree::try_call(alloc, function, children, ())
     }
 
-    /// The place of a column leaf in its scope; none of any other tree.
+    /// The place of a column leaf in its scope; none for any other tree.
     pub fn as_column(&self) -> Option<usize>
         ensures { MatchOption result (¬ IsLeaf self.now) (λ place. IsLeafAt place self.now) }
     {
@@ -165,7 +165,7 @@ impl<C: ScalarFnVTable> BoundExpression<C> {
         }
     }
 
-    /// The scalar of a literal; none of any other tree.
+    /// The scalar of a literal; none for any other tree.
     pub fn as_literal(&self) -> Option<&Scalar>
         ensures { option_copied result ≡ literal self.now }
     {

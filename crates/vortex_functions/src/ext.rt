@@ -10,7 +10,7 @@ use std::alloc::Global;
 use vortex_columns::VortexResult;
 use vortex_interface::ScalarFnVTable;
 
-/// A shipped function, which stands in trees over every caller's functions.
+/// A shipped function, for trees over any caller's functions.
 pub trait ScalarFnVTableExt: ScalarFnVTable {
     ghost ships: { Self.Options → Shipped };
 

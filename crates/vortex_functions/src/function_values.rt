@@ -1,5 +1,4 @@
-//! Functions with their options as values: their options as bytes and texts, and when two are
-//! equal.
+//! Functions with their options as values: their options as bytes and texts, and their equality.
 ghost use Rattle.std.specs.Prelude.{◌≡◌};
 ghost use Rattle.vortex_functions.specs.Words.{function_of, AnswersUnlessMemory, WritesOptionsOf};
 
@@ -69,8 +68,8 @@ impl<C: ScalarFnVTable> ScalarFnRef<C> {
 }
 
 impl<'a, C: ScalarFnVTable> ScalarFnOptions<'a, C> {
-    /// The bytes that the function writes of its options: a shipped one always writes its own, a
-    /// caller's those that its interface says, or none. Refuses for memory alone.
+    /// The bytes of the options: a shipped function always writes them, a caller's as in its
+    /// interface, or none. Fails only where memory runs out.
     pub fn serialize(&self, alloc: Global) -> VortexResult<Option<Vec<u8>>>
         ensures { AnswersUnlessMemory result
             (WritesOptionsOf C.option_bytes (function_of self.now.function.now)) }

@@ -1,5 +1,5 @@
-//! Row functions as values, and expression trees over them. The names of the interface and of the
-//! shipped functions stand here too.
+//! Row functions as values, and expression trees over them. Re-exports the names of the interface
+//! and of the shipped functions.
 #![tactic(auto)]
 
 pub mod array;

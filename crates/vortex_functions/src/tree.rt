@@ -1,4 +1,4 @@
-//! Trees of calls over leaves of one kind: expressions and array trees are both such.
+//! Trees of calls over leaves of one kind: expressions and array trees.
 ghost use Rattle.std.specs.Prelude.{◌≡◌, ◌<◌, ◌≤◌, ◌+◌, ◌*◌, IsTrue, None, Some, MatchOption};
 ghost use Rattle.std.specs.Prelude.{All, IfOk, length, map, min, slice_get};
 ghost use Rattle.vortex_functions.specs.Words.{type_of, trees_of, called, tree_type, tree_types};
@@ -20,17 +20,17 @@ pub mod leaf;
 
 pub use leaf::Leaf;
 
-/// What a call is made of.
+/// The parts of a call.
 #[cycle(tree)]
 #[derive(Drop)]
 pub(crate) struct Parts<C: ScalarFnVTable, L: Leaf<C, C::Options>> {
     pub(crate) function: ScalarFnRef<C>,
     pub(crate) children: Vec<Tree<C, L>>,
-    /// The type of the call's answer.
+    /// The return type of the call.
     dtype: DType,
     /// The weight of the call.
     weight: u64,
-    /// Where it is set, no rule applies at any place of the call.
+    /// If set, no rule applies anywhere in the call.
     settled: bool,
 }
 
@@ -38,7 +38,7 @@ pub(crate) struct Parts<C: ScalarFnVTable, L: Leaf<C, C::Options>> {
 #[derive(Drop)]
 pub(crate) enum Node<C: ScalarFnVTable, L: Leaf<C, C::Options>> {
     Leaf(L),
-    /// A handle of a call's parts, which every copy of the call shares.
+    /// A shared handle of a call's parts.
     Call(Rc<Parts<C, L>>),
 }
 
@@ -74,15 +74,15 @@ impl<C: ScalarFnVTable, L: Leaf<C, C::Options>> Model for Tree<C, L> {
         (L.tree_of_see (node_tree L.tree_of L.seen a.node) a.context) };
 }
 
-/// The last handle of a call takes it down, by a work list, and the list is the children's own
-/// vector: the depth of a tree takes no stack, and a chain no memory. Where the list cannot grow,
-/// one child goes by a call of its own.
+/// The last handle of a call drops it with a work list, which is the children's own vector: deep
+/// nesting uses no stack, and a chain no memory. If the list cannot grow, one child is dropped
+/// recursively.
 impl<C: ScalarFnVTable, L: Leaf<C, C::Options>> Drop for Tree<C, L> {
     #[tactic(auto, using(crate::proofs::Counts::nodes_count_push))]
     fn drop(self) {
         let Tree { node, context: _ } = self;
         let mut list = match node {
-            // the leaf is named, and so dropped by itself, and not by dropping a node
+            // the leaf is named, so it is dropped itself, and not by dropping a node
             Node::Leaf(_leaf) => return,
             Node::Call(parts) => match Rc::into_inner(parts) {
                 Some(parts) => parts.children,
@@ -126,8 +126,8 @@ fn dtypes_of<C: ScalarFnVTable, L: Leaf<C, C::Options>>(
     Ok(dtypes)
 }
 
-/// The weight of a call that is nullable or not: its children's, and what the function adds. Where
-/// that is past the greatest number, it is that number.
+/// The weight of a call that is nullable or not: its children's, and what the function adds,
+/// saturated.
 fn call_weight<C: ScalarFnVTable, L: Leaf<C, C::Options>>(
     function: &ScalarFnRef<C>,
     children: &[Tree<C, L>],
@@ -144,8 +144,8 @@ fn call_weight<C: ScalarFnVTable, L: Leaf<C, C::Options>>(
 }
 
 impl<C: ScalarFnVTable, L: Leaf<C, C::Options>> Tree<C, L> {
-    /// The call of a function on trees beside which the same stands. E6 exactly where their count
-    /// does not fit its arity, and then E3 exactly where their types are not accepted.
+    /// The call of a function on trees with the same context. E6 exactly if their count does not
+    /// fit its arity, then E3 exactly if their types are not accepted.
     pub fn try_call(
         alloc: Global,
         function: ScalarFnRef<C>,
@@ -177,7 +177,7 @@ impl<C: ScalarFnVTable, L: Leaf<C, C::Options>> Tree<C, L> {
         })
     }
 
-    /// The type of the tree's values. What the tree holds has values of its types.
+    /// The type of the tree's values. The contents of the tree have values of their types.
     pub fn dtype(&self) -> &DType
         ensures dtype { tree_type C.meaning (L.tree_of self.now) ≡ Some (type_of result.now) }
         ensures typed { L.whole self.now }
@@ -188,8 +188,8 @@ impl<C: ScalarFnVTable, L: Leaf<C, C::Options>> Tree<C, L> {
         }
     }
 
-    /// The weight, which rules over shipped functions lessen: at most five for each node. Where it
-    /// is past the greatest number, that number is told.
+    /// The weight, which rules over shipped functions lower: at most five for each node. Saturated
+    /// to 64 bits.
     pub fn weight(&self) -> u64
         ensures told { result ≡ weight_told C.meaning (L.tree_of self.now) }
         ensures bounded { weight C.meaning (L.tree_of self.now)
@@ -201,8 +201,8 @@ impl<C: ScalarFnVTable, L: Leaf<C, C::Options>> Tree<C, L> {
         }
     }
 
-    /// Whether the tree is known to be settled: no rule applies at any place of it. Of a leaf that
-    /// is known; of a call where it, or what it is a copy of, was marked.
+    /// Whether the tree is known to be in normal form: no rule applies anywhere in it. Known for a
+    /// leaf, and for a call if it, or the call that it was copied from, was marked.
     pub fn is_settled(&self) -> bool
         ensures { IsTrue result → step L.rule (L.tree_of self.now) ≡ None }
     {
@@ -212,7 +212,7 @@ impl<C: ScalarFnVTable, L: Leaf<C, C::Options>> Tree<C, L> {
         }
     }
 
-    /// Marks a settled tree as one, where this is its only handle; elsewhere it does nothing.
+    /// Marks a tree in normal form, if this is its only handle; else does nothing.
     pub fn mark_settled(&mut self)
         requires { step L.rule (L.tree_of self.old) ≡ None }
         ensures { self.new ≡ self.old }
@@ -224,14 +224,14 @@ impl<C: ScalarFnVTable, L: Leaf<C, C::Options>> Tree<C, L> {
         }
     }
 
-    /// What stands beside the tree: its row count, or nothing.
+    /// The tree's context: its row count, or none.
     pub fn context(&self) -> L::Context
         ensures { result ≡ L.context_of self.now }
     {
         self.context
     }
 
-    /// What stands below the root.
+    /// The children of the root.
     fn below(&self) -> &[Tree<C, L>]
         ensures { result.now ≡ L.children self.now }
     {
@@ -241,7 +241,7 @@ impl<C: ScalarFnVTable, L: Leaf<C, C::Options>> Tree<C, L> {
         }
     }
 
-    /// The one of that place.
+    /// The child of that index.
     fn below_at(&self, index: usize) -> &Tree<C, L>
         requires { index < length (L.children self.now) }
         ensures { slice_get (L.children self.now) index ≡ Some result.now }
@@ -280,8 +280,8 @@ impl<C: ScalarFnVTable, L: Leaf<C, C::Options>> Tree<C, L> {
         }
     }
 
-    /// A copy that equals its source. That of a call is a handle: it shares the call's parts, takes
-    /// no memory, and is refused only where no more handles can be counted.
+    /// A copy that equals its source. For a call it is a handle: it shares the call's parts,
+    /// allocates nothing, and fails only where no more handles can be counted.
     pub fn try_clone(&self, _alloc: Global) -> VortexResult<Tree<C, L>>
         ensures { AnswersUnlessMemory result (λ t. t ≡ self.now) }
     {

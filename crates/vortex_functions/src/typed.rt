@@ -11,7 +11,7 @@ pub struct TypedScalarFnInstance<V: ScalarFnVTable> {
 }
 
 impl<V: ScalarFnVTable> TypedScalarFnInstance<V> {
-    /// The function with its options. Takes no memory.
+    /// The function with its options. Allocates nothing.
     pub fn new(vtable: V, options: V::Options) -> TypedScalarFnInstance<V>
         ensures { result ≡ record { vtable = vtable; options = options } }
     {

@@ -1,5 +1,5 @@
-//! When functions with their options are equal, and what follows. These functions do nothing: their
-//! contracts are proved.
+//! Equality of functions with their options, and its laws. The functions are empty: their contracts
+//! are the laws, proved.
 ghost use Rattle.std.specs.Prelude.{◌≡◌, ◌↔◌, ℕ, List, IsTrue, fold};
 ghost use Rattle.vortex_types.specs.LogicalTypes.{LogicalType};
 ghost use Rattle.vortex_types.specs.Values.{Value};
@@ -11,20 +11,20 @@ use crate::erased::ScalarFnRef;
 use std::hash::{Hash, Hasher};
 use vortex_interface::ScalarFnVTable;
 
-/// Two functions are equal exactly where they are the same: one shipped function with the same
-/// options, or two of a caller's of one identity and equal options.
+/// Two functions are equal exactly if they are the same: one shipped function with the same
+/// options, or two of a caller's with one identity and equal options.
 pub fn equal_functions_are_the_same<C: ScalarFnVTable>()
     ensures { (f g : ScalarFnRef C C.Options) → IsTrue (⟦<ScalarFnRef<C> as PartialEq>⟧.eq f g)
         ↔ AreSame C.meaning.id C.Options.eq (function_of f) (function_of g) }
 {}
 
-/// Where no function of a caller's has the identity of a shipped one, two functions are the same
-/// exactly where their identities and their options are equal.
+/// If no caller's function has the identity of a shipped one, two functions are the same exactly if
+/// their identities and their options are equal.
 pub fn identities_and_options_tell_functions<C: ScalarFnVTable>()
     ensures { SameByIdentityAndOptions C.meaning C.Options.eq }
 {}
 
-/// A function that equals a shipped one has its meaning, whatever a caller's functions mean.
+/// A function that equals a shipped one has its meaning, whatever callers' functions mean.
 pub fn equal_shipped_functions_mean_the_same<C: ScalarFnVTable>()
     ensures { (f g : ScalarFnRef C C.Options) (s : Shipped) → function_of f ≡ ours s
         → IsTrue (⟦<ScalarFnRef<C> as PartialEq>⟧.eq f g)
@@ -35,13 +35,13 @@ pub fn equal_shipped_functions_mean_the_same<C: ScalarFnVTable>()
     equal_functions_are_the_same::<C>();
 }
 
-/// Equal values of any type leave any hasher in one state.
+/// Equal values of any type leave any hasher in the same state.
 fn equal_values_hash_equally<T: Hash, H: Hasher>()
     ensures { (a b : T) (state : H) → IsTrue (T.eq a b)
         → fold H.write state (T.hash_input a) ≡ fold H.write state (T.hash_input b) }
 {}
 
-/// Equal functions leave any hasher in one state: what `hash` writes of them is the same.
+/// Equal functions leave any hasher in the same state: `hash` writes the same for them.
 pub fn equal_functions_hash_equally<C: ScalarFnVTable, H: Hasher>()
     ensures { (f g : ScalarFnRef C C.Options) (state : H)
         → IsTrue (⟦<ScalarFnRef<C> as PartialEq>⟧.eq f g)

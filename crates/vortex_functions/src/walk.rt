@@ -1,18 +1,18 @@
-//! Walks over a tree, children before their parent and from left to right, whose depth takes memory
+//! Walks over a tree, children before their parent and from left to right, whose depth uses memory
 //! and no stack.
 
-/// A node above, and what was made of its children so far.
+/// A node above, and the results for its children so far.
 #[derive(Drop)]
-pub struct Frame<'t, T, O: Drop> {
+pub struct WalkFrame<'t, T, O: Drop> {
     pub node: &'t T,
     pub outputs: Vec<O>,
 }
 
-/// What is made of the tree `$root`, where `$visit` makes of `$node` its output, or a refusal, from
+/// The result for the tree `$root`, where `$visit` makes the output of `$node`, or an error, from
 /// `$outputs`, those of its children.
 ///
-/// The work stands in a list of frames, one for each node from the root to the node's parent. A
-/// lone leaf has none, so that the walk itself takes no memory for it. A node lends its
+/// The work is in a list of frames, one for each node from the root to the node's parent. A
+/// lone leaf has none, so that the walk itself allocates nothing for it. A node has
 /// `children()`, and each as `child(index)`.
 #[macro_export]
 macro_rules! walk {
@@ -23,7 +23,7 @@ macro_rules! walk {
         loop {
             if $outputs.len() < $node.children().len() {
                 let child = $node.child($outputs.len());
-                above.push($crate::walk::Frame { node: $node, outputs: $outputs })?;
+                above.push($crate::walk::WalkFrame { node: $node, outputs: $outputs })?;
                 $node = child;
                 $outputs = Vec::new($alloc);
             } else {

@@ -1,4 +1,4 @@
--- What a column or a refusal of the tree that a run leads to is to the old tree.
+-- The result or error of the tree that a run leads to, compared with the old tree.
 use Rattle.std.proofs.Common.{◌≡◌, ℕ, ◌<◌, List, Option, Some, None, refl, sym, ◌∙◌}
 use Rattle.std.specs.Prelude.{All}
 use Rattle.vortex_errors.specs.declared.error.VortexError.{VortexError}
@@ -80,7 +80,7 @@ module _ {V O : Type 0} (m : Meaning V O) (rule : Tree V O → Option (Tree V O)
       old = old_faults m cs n t u run_rewrites typed (fault_row m cs n u e h);
     }
 
-  -- over typed columns that serve the old tree, which is an expression
+  -- over typed columns that match the old tree, which is an expression
   module _ (typed : All (λ c. AreTyped c.dtype c.rows) cs) (bound : IsBound t)
       (fit : LeavesFit cs t) (lengths : other_length n cs ≡ None) where
     with_rows : HasRows m cs n t

@@ -1,5 +1,4 @@
--- A tree of shipped functions is refused exactly where arithmetic in it overflows or divides by
--- zero.
+-- A tree of shipped functions fails exactly where arithmetic in it overflows or divides by zero.
 use Rattle.std.proofs.Common.{◌≡◌, ℕ, ◌<◌, ℤ, List, [], ◌∷◌, Option, Some, None, refl, sym, ap, ◌∙◌}
 use Rattle.std.proofs.Common.{subst, inl, inr}
 use Rattle.vortex_types.specs.declared.dtype.PType.{PType}
@@ -56,7 +55,7 @@ module _ {V O : Type 0} (m : Meaning V O) (cs : List ColumnView) (n : ℕ) (o : 
     input_faults (tree t ts) (inl h) = first_faults m cs n t ts (row_faults t h)
     input_faults (tree t ts) (inr h) = later_faults m cs n t ts (input_faults ts h)
 
--- Where arithmetic of a row faults, both operands are numbers, of which the type does not hold the
+-- Where arithmetic of a row faults, both operands are numbers, and the type does not hold the
 -- result.
 pub record IsUnheld (o : NumericOperator) (ts : List LogicalType) (vs : List Value) : Type 0 where
   pub ptype : PType
@@ -89,7 +88,7 @@ module _ (o : NumericOperator) (x : Fault) where
   unheld_of ts vs e = cc
 
 module _ {V O : Type 0} (m : Meaning V O) (cs : List ColumnView) (n : ℕ) where
-  -- the refusal tells of arithmetic, and some call overflows
+  -- the error is one of arithmetic, and some call overflows
   abbrev Tells : VortexError → (NumericOperator → Type 0) → Type 0
   Tells e P = (o : NumericOperator) × (e ≡ Arithmetic o) × P o
 
@@ -122,7 +121,7 @@ module _ {V O : Type 0} (m : Meaning V O) (cs : List ColumnView) (n : ℕ) where
         ),
       )
 
-  -- a function that always gives a value has no fault in a row
+  -- a function that always gives a value faults in no row
   no_fault : (s : Shipped)
       → ((us : List LogicalType) (vs : List Value) → GivesValue (shipped_means s us vs))
       → (ts : Trees V O) → AllSettled m cs n ts → (e : VortexError)
@@ -167,7 +166,7 @@ module _ {V O : Type 0} (m : Meaning V O) (cs : List ColumnView) (n : ℕ) (t : 
   serves (unfit h is) = h fit
   serves (uneven l h other is) = cc
 
-  -- over columns that serve a refusal tells the first fault
+  -- over columns that match, the error reports the first fault
   pub refuses_first : RefusesExecution m cs n t e → IsFirstFault m cs n t e
   refuses_first (misfit h) = absurd (serves h)
   refuses_first (faulty h other first) = first

@@ -1,4 +1,4 @@
--- Calls of And and Or: their types and values, and what they are beside a constant.
+-- Calls of And and Or: their types and values, and calls with a constant.
 use Rattle.std.proofs.Common.{◌≡◌, ℕ, Bool, true, false, List, [], ◌∷◌, Some, refl, sym, ap, ◌∙◌}
 use Rattle.std.proofs.Common.{inl, inr}
 use Rattle.std.specs.Prelude.{◌||◌, if◌then◌else◌}
@@ -54,7 +54,7 @@ boolean_means op ts v w h =
     let Means = λ (o : Operator). operator_means o ts (v ∷ w ∷ []) ≡ gives (boolean_value o v w) in
     of_boolean Means refl refl op h
 
--- the order of the operands is free
+-- the order of the operands does not matter
 boolean_turned : (op : Operator) (v w : Value) → is_boolean op ≡ true
     → boolean_value op v w ≡ boolean_value op w v
 boolean_turned And v w h = (turned And And refl).values v w
@@ -121,7 +121,7 @@ module _ {V O : Type 0} (m : Meaning V O) where
   constant_given cs i (constant s) b h = ap gives (truth_is s.value b h)
   constant_given cs i (call f ts) b h = cc
 
-  -- an operand widened: its type, its value, and that it asks no more
+  -- an operand widened: its type, its value, and that it requires no more
   widened_type : (n p : Bool) (x : Tree V O) → tree_type m x ≡ Some (bool_type p)
       → (p ≡ true → n ≡ true) → tree_type m (widened m n x) ≡ Some (bool_type n)
   widened_type false false x h k = h
@@ -161,8 +161,8 @@ module _ {V O : Type 0} (m : Meaning V O) where
   asks_right op x y =
       record { leaves = λ p name k h. inr (inl h); rows = λ cs i h. h.1.0; places = λ h. h.1.0 }
 
-  -- one operand, x, of And or Or and the other, y, whichever stands first: the node is a Bool,
-  -- nullable by n wherever the other is
+  -- one operand of And or Or, x, and the other, y, in either order: the node is a Bool, nullable by
+  -- n wherever the other is
   pub record AreOperands (op : Operator) (node : Tree V O) (n : Bool) (x y : Tree V O)
       : Type 0 where
     pub node_type : tree_type m node ≡ Some (bool_type n)
@@ -203,7 +203,7 @@ module _ {V O : Type 0} (m : Meaning V O) where
 
     module _ (node x y : Tree V O) (n a : Bool) (c : AreOperands op node n x y)
         (h : constant_truth x ≡ Some a) where
-      -- the value of the node beside that of the constant
+      -- the value of the node from that of the constant
       value_beside : (cs : List ColumnView) (i : ℕ) (w : Value) → eval m cs node i ≡ gives w
           → (z : Value) × (eval m cs y i ≡ gives z) × (boolean_value op (truth a) z ≡ w)
       value_beside cs i w e =
@@ -221,7 +221,7 @@ module _ {V O : Type 0} (m : Meaning V O) where
             ap gives (ap truth_or_null (sym (left_decides op a (truth_of q.0) d)) ∙ q.2);
       }
 
-      -- a constant that does not, beside the other operand
+      -- a constant that does not, and the other operand
       pub undecided_sound : Lawful m → decides op a ≡ false → Rewrites m node (widened m n y)
       undecided_sound lawful d = record {
         dtype = widened_type n c.other_null y c.other_type c.wide ∙ sym c.node_type;

@@ -1,4 +1,4 @@
--- A tree over batches of a table answers as over the whole.
+-- A tree over batches of a table gives the same rows as over the whole.
 use Rattle.std.proofs.Common.{◌≡◌, ℕ, zero, suc, ◌<◌, ◌≤◌, ◌+◌, ◌-◌, ◌++◌, List, [], ◌∷◌}
 use Rattle.std.proofs.Common.{Some, None, refl, sym, ap, ◌∙◌, subst, inl, inr, length, take, drop}
 use Rattle.std.proofs.Common.{arith}
@@ -45,7 +45,7 @@ dropped_twice (suc from) count (v ∷ vs) =
     let same : suc (from + count) ≡ suc from + count = omega arith in
     dropped_twice from count vs ∙ ap (λ k. drop k (v ∷ vs)) same
 
--- the part of the column at a place
+-- the range of a column at an offset
 part_at : (from count : ℕ) (cs ds : List ColumnView) → AreParts from count cs ds → (p : ℕ)
     (c : ColumnView) → slice_get cs p ≡ Some c
     → (d : ColumnView) × (slice_get ds p ≡ Some d) × IsPart from count c d
@@ -101,7 +101,7 @@ module _ (from count : ℕ) (cs ds : List ColumnView) (parts : AreParts from cou
       part_inputs (tree t ts) own fit =
           λ j. with_first (part_outcome t own.0 fit.0 j) (part_inputs ts own.1 fit.1 j)
 
--- parts of equally long columns are equally long
+-- ranges of equally long columns are equally long
 parts_even : (n from count : ℕ) → from + count ≤ n → (cs ds : List ColumnView)
     → AreParts from count cs ds
     → ((p : ℕ) (c : ColumnView) → slice_get cs p ≡ Some c → length c.rows ≡ n)
@@ -157,7 +157,7 @@ module _ {V O : Type 0} (m : Meaning V O) (t : Tree V O) (cs : List ColumnView) 
       sym (batch_outcome k.0 k.1) ∙ k.3,
     )
 
-    -- a row of the table that lies in the batch
+    -- a row of the table that is in the batch
     batch_row_faults : (k : FaultsSomewhere m cs n t) → from ≤ k.0 → k.0 < from + b.count
         → FaultsSomewhere m b.columns b.count t
     batch_row_faults k le lt =

@@ -1,4 +1,4 @@
--- Rules at places and steps at work: what they make of a tree, each by computing.
+-- Rules at places and steps, computed for example trees.
 use Rattle.std.proofs.Common.{◌≡◌, Bool, false, true, [], ◌∷◌, Option, Some, None, refl}
 use Rattle.vortex_types.specs.LogicalTypes.{bool_type}
 use Rattle.vortex_operators.specs.declared.operators.Operator.TheVariants.{And}

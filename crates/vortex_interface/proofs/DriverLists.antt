@@ -1,4 +1,4 @@
--- By which code goes through a list of rules at places: rule after rule.
+-- How code walks a list of rules at places: rule after rule.
 use Rattle.std.proofs.Common.{◌≡◌, ℕ, zero, suc, ◌+◌, ◌≤◌, List, [], ◌∷◌, ◌++◌, length, take, drop}
 use Rattle.std.proofs.Common.{Option, Some, None, refl, sym, ap, ◌∙◌, arith, add-one}
 use Rattle.std.specs.Prelude.{slice_get}
@@ -31,7 +31,7 @@ module _ {V O A : Type 0} (apply : A → Tree V O → Option (Tree V O)) where
       let e : suc (n + a.1) ≡ suc n + a.1 = omega arith in
       λ j. Some (a.0, e j)
 
-  -- a list after another, of which the tree and the count are known
+  -- a list after another whose tree and count are known
   list_after : (before others : List (A × List ℕ)) (t x : Tree V O) (n : ℕ)
       → rewritten_list apply before t ≡ Some (x, n)
       → rewritten_list apply (before ++ others) t
@@ -67,7 +67,7 @@ module _ {V O A : Type 0} (apply : A → Tree V O → Option (Tree V O)) where
         sym (ap (λ z. rewritten_list apply z t) (take_all k steps h)) ∙ before
 
     module _ (s : A × List ℕ) (there : slice_get steps k ≡ Some s) where
-      -- the path of the next one leaves the tree
+      -- the next path leaves the tree
       pub list_leaves : rewritten (apply s.0) s.1 x ≡ None → rewritten_list apply steps t ≡ None
       list_leaves h =
           let rest = drop (suc k) steps in

@@ -53,7 +53,7 @@ module _ {V O : Type 0} (m : Meaning V O) (cs : List ColumnView) (n : ℕ) where
       let z = first_fault (eval m cs t k.0) (eval_all m cs ts k.0) k.2 k.3 in
       (k.0, k.1, z.0, z.1)
 
-  -- a refusal that tells a tree's first fault has a row of the tree that faults
+  -- an error that reports a tree's first fault has a faulting row of the tree
   mutual
     pub fault_row : (t : Tree V O) (e : VortexError) → IsFirstFault m cs n t e
         → FaultsSomewhere m cs n t

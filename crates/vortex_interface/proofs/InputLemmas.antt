@@ -1,4 +1,4 @@
--- What stands at an index of a call's inputs.
+-- The item at an index of a call's inputs.
 use Rattle.std.proofs.Common.{◌≡◌, ℕ, ◌<◌, List, length, map, All, get_or, subst, sym, ◌∙◌, ap}
 use Rattle.std.proofs.Common.{arith}
 use Rattle.std.proofs.lemmas.List.{get_or-map, length-map}

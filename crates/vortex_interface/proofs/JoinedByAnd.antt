@@ -1,5 +1,5 @@
--- Trees joined by And in rounds: what goes over from two trees to their And goes over from all of
--- them to the one that is left.
+-- Trees joined by And in rounds: a property that two trees pass to their And passes from all of
+-- them to the last one.
 use Rattle.std.proofs.Common.{◌≡◌, ℕ, zero, suc, ◌+◌, ◌≤◌, Bool, true, false, List, [], ◌∷◌, length}
 use Rattle.std.proofs.Common.{refl, sym, ap, ◌∙◌, subst, arith}
 use Rattle.std.specs.Prelude.{◌&&◌}
@@ -37,7 +37,7 @@ module _ {V O : Type 0} where
       let k = round_halves (a ∷ b ∷ ts) (omega arith) in
       omega (arith, h)
 
-  -- as many rounds as there are trees leave one at most
+  -- as many rounds as there are trees leave at most one
   rounds_end : (n : ℕ) (ts : List (Tree V O)) → length ts ≤ suc n → length (rounds n ts) ≤ 1
   rounds_end zero ts h = h
   rounds_end (suc n) ts h = rounds_end n (one_round ts) (round_shorter n ts h)
@@ -56,7 +56,7 @@ module _ {V O : Type 0} where
   enough_rounds (suc n) (suc k) ts h l =
       enough_rounds n k (one_round ts) (round_shorter n ts h) (round_shorter k ts l)
 
-  -- a round changes nothing of what is left in the end
+  -- a round does not change what is left in the end
   pub all_of-one_round : (ts : List (Tree V O)) → all_of (one_round ts) ≡ all_of ts
   all_of-one_round [] = refl
   all_of-one_round (t ∷ []) = refl
@@ -66,9 +66,9 @@ module _ {V O : Type 0} where
       (enough_rounds (length (one_round (t ∷ u ∷ ts))) (suc (length ts)) (one_round (t ∷ u ∷ ts))
       (omega arith) (omega (arith, shorter)))
 
-  -- P says a truth value of a tree, and of an And the And of both
+  -- P relates a tree to a truth value, and an And to the And of both
   module _ (P : Tree V O → Bool → Type 0) where
-    -- it says one of each tree, and this is their And
+    -- it relates each tree to one, and this is their And
     abbrev pub AllSay : List (Tree V O) → Bool → Type 0
     AllSay [] b = true ≡ b
     AllSay (t ∷ ts) b = (p : Bool) × (q : Bool) × P t p × AllSay ts q × ((p && q) ≡ b)

@@ -9,14 +9,14 @@ use Rattle.vortex_operators.specs.declared.operators.Operator.TheVariants.{And, 
 use Rattle.vortex_operators.specs.Operators.{is_boolean}
 use Rattle.vortex_operators.specs.Kleene.{kleene, decides}
 
--- what holds of And and of Or holds of an operator of truth values
+-- a property of And and of Or holds for any operator of truth values
 pub of_boolean : (P : Operator → Type 0) → P And → P Or → (op : Operator) → is_boolean op ≡ true
     → P op
 of_boolean P a o And h = a
 of_boolean P a o Or h = o
 of_boolean P a o op h = cc
 
--- the order of the operands is free
+-- the order of the operands does not matter
 kleene_turned : (op : Operator) (c : Bool) (a : Option Bool) → is_boolean op ≡ true
     → kleene op a (Some c) ≡ kleene op (Some c) a
 kleene_turned And c a h = grind arith
@@ -44,7 +44,7 @@ left_leaves And true a o h = grind arith
 left_leaves Or false a o h = grind arith
 left_leaves op b a o h = cc
 
--- a value of Bool is what its truth value or nothing stands for
+-- a value of Bool is its truth value, or null
 pub truth_back : (n : Bool) (v : Value) → HasType (bool_type n) v → truth_or_null (truth_of v) ≡ v
 truth_back n null h = refl
 truth_back n (truth b) h = refl

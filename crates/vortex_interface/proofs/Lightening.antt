@@ -1,5 +1,5 @@
 -- Rewrites at places, steps and runs of a rule that makes trees lighter make them lighter, so there
--- are fewer of them than the weight of the tree.
+-- are fewer than the weight of the tree.
 use Rattle.std.proofs.Common.{◌≡◌, ℕ, zero, suc, ◌+◌, ◌<◌, List, [], ◌∷◌, Option, Some, None}
 use Rattle.std.proofs.Common.{refl, ap, ◌∙◌, subst, inl, inr, arith}
 use Rattle.std.specs.Prelude.{◌⊎◌, slice_get, slice_set}
@@ -22,7 +22,7 @@ use Rattle.vortex_interface.proofs.Stepwise.{runs_keep}
 use Rattle.vortex_interface.proofs.Driving.{IsWellTyped, child_typed}
 
 module _ {V O : Type 0} (m : Meaning V O) where
-  -- the tree has a type, and calls shipped functions alone
+  -- the tree has a type, and calls only shipped functions
   abbrev IsTypedShipped : Tree V O → Type 0
   IsTypedShipped t = IsWellTyped m t × OnlyShipped t
 
@@ -38,7 +38,7 @@ module _ {V O : Type 0} (m : Meaning V O) where
   all_shipped (x ∷ xs) zero u s z = (z, s.1)
   all_shipped (x ∷ xs) (suc k) u s z = (s.0, all_shipped xs k u s.1 z)
 
-  -- what trees weigh with another one in place of one of them
+  -- the weight of trees after replacing one of them
   weights_with : (ts : List (Tree V O)) (k : ℕ) (t u : Tree V O) → slice_get ts k ≡ Some t
       → weights m (trees_of (slice_set ts k u)) + weight m t ≡ weights m (trees_of ts) + weight m u
   weights_with [] k t u h = cc
@@ -159,7 +159,7 @@ module _ {V O : Type 0} (m : Meaning V O) where
             let more = runs_bound rule lightens (weight m t) t u k h s run in
             absurd (omega (arith, more))
 
-  -- of two rules that do so the first that applies
+  -- for two such rules, the first that applies
   pub first_lightens : (a b : Tree V O → Option (Tree V O)) → Lightens m a → Lightens m b
       → Lightens m (first_of a b)
   first_lightens a b lightens others t u k h s e =

@@ -1,5 +1,5 @@
--- What rules for shipped functions make of a call weighs less than it: a constant, or an operand,
--- cast where need be.
+-- What rules for shipped functions make of a call weighs less: a constant, or an operand, cast if
+-- needed.
 use Rattle.std.proofs.Common.{◌≡◌, ◌+◌, ◌<◌, ◌≤◌, Bool, true, false, refl, arith}
 use Rattle.std.specs.Prelude.{if◌then◌else◌}
 use Rattle.vortex_operators.specs.declared.operators.Operator.{Operator}
@@ -13,7 +13,7 @@ use Rattle.vortex_interface.specs.Weights.{weight, OnlyShipped}
 use Rattle.vortex_interface.proofs.Weighed.{added_positive, weight_positive}
 
 module _ {V O : Type 0} (m : Meaning V O) where
-  -- of shipped functions alone, and lighter than the node
+  -- of shipped functions only, and lighter than the node
   abbrev pub IsLess : Tree V O → Tree V O → Type 0
   IsLess node u = OnlyShipped u × (weight m u < weight m node)
 
@@ -32,7 +32,7 @@ module _ {V O : Type 0} (m : Meaning V O) where
       let some = weight_positive m x in
       omega (arith, more, some)
 
-  -- a cast adds one at most
+  -- a cast adds at most one
   widened_weight : (n : Bool) (x : Tree V O) → weight m (widened m n x) ≤ 1 + weight m x
   widened_weight false x = omega arith
   widened_weight true x = by (is_nullable_tree m x)
@@ -49,7 +49,7 @@ module _ {V O : Type 0} (m : Meaning V O) where
       by true = s
       by false = (tt, (s, tt))
 
-  -- a call of two weighs more than both
+  -- a call with two arguments weighs more than both
   operated_weight : (op : Operator) (x y : Tree V O)
       → weight m x + weight m y < weight m (operated op x y)
   operated_weight op x y =
@@ -57,7 +57,7 @@ module _ {V O : Type 0} (m : Meaning V O) where
       let more = added_positive f (is_nullable_tree m (operated op x y)) in
       omega (arith, more)
 
-  -- and so more than one, though that be cast
+  -- and so more than one of them, even when cast
   operand_less : (op : Operator) (n : Bool) (x y z other : Tree V O) → OnlyShipped z
       → weight m z + weight m other ≡ weight m x + weight m y
       → IsLess (operated op x y) (widened m n z)

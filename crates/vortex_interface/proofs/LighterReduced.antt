@@ -80,7 +80,7 @@ module _ {V O : Type 0} (m : Meaning V O) where
   operator_less Or ts u s e = boolean_less Or ts u s e
   operator_less op ts u s e = cc
 
-  -- two trees in either order, of which one was nullable
+  -- two trees in either order, one of which was nullable
   record IsTurned (n k : Bool) (x y : Tree V O) (p : Tree V O × Tree V O) : Type 0 where
     pub one : (n ≡ true) ⊎ (k ≡ true)
     pub weighs : weight m p.0 + weight m p.1 ≡ weight m x + weight m y
@@ -115,7 +115,7 @@ module _ {V O : Type 0} (m : Meaning V O) where
       by f g (inl q) = inl (sym (ap may_be_null f) ∙ q)
       by f g (inr q) = inr (sym (ap may_be_null g) ∙ q)
 
-  -- and where it is never null it adds one, and its right operand is never null
+  -- if it is never null it adds one, and its right operand is never null
   never_adds : (op : Operator) (x y : Tree V O) → is_boolean op ≡ true
       → tree_type m (operated op x y) ≡ Some (bool_type false)
       → (operator_added op (is_nullable_tree m (operated op x y)) ≡ 1)
@@ -127,14 +127,14 @@ module _ {V O : Type 0} (m : Meaning V O) where
         ap may_be_null c.right ∙ right_false c.left_null c.right_null (c.either ∙ never),
       )
 
-  -- a null test of And or Or by the test of the nullable operand and the other one
+  -- a null test of And or Or, from the test of the nullable operand and the other operand
   module _ (test : Bool) (op join : Operator) (b : is_boolean op ≡ true)
       (j : is_boolean join ≡ true) (x y : Tree V O) (t : LogicalType)
       (h : tree_type m (operated op x y) ≡ Some t) (s : OnlyShipped x) (z : OnlyShipped y) where
     abbrev tested : Tree V O → Tree V O
     tested a = call (ours (NullTest test)) (tree a no_trees)
 
-    -- the other one as it is, or negated
+    -- the other one, unchanged or negated
     test_less : (right : Tree V O → Tree V O) (u : Tree V O)
         → ((a : Tree V O) → OnlyShipped a → OnlyShipped (right a))
         → ((a : Tree V O) → is_nullable_tree m (right a) ≡ false
@@ -238,7 +238,7 @@ module _ {V O : Type 0} (m : Meaning V O) where
     reduced_less (call (custom f o) ts) u k h s d e = absurd s.0
     reduced_less t u k h s d e = cc
 
-    -- no rule of another function is asked
+    -- no rule of another function is used
     validity_alone : (x : Tree V O) → OnlyShipped x → validity m no_rules x ≡ validity m r x
     validity_alone (call (custom f o) ts) s = absurd s.0
     validity_alone x s = refl

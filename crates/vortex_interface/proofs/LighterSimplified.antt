@@ -86,7 +86,7 @@ module _ {V O : Type 0} (m : Meaning V O) where
     simplified_less (call (custom f o) ts) u s e = absurd s.0
     simplified_less t u s e = cc
 
-    -- no rule of another function is asked
+    -- no rule of another function is used
     by_ours_alone : (t : Tree V O) → OnlyShipped t → simplify m no_rules t ≡ simplify m r t
     by_ours_alone (call (custom f o) ts) s = absurd s.0
     by_ours_alone t s = refl

@@ -33,8 +33,7 @@ use Rattle.vortex_interface.proofs.BooleanCalls.{bool_call, AreOperands, left_fi
 use Rattle.vortex_interface.proofs.BooleanCalls.{eval_bool}
 use Rattle.vortex_interface.proofs.RuleAnswers.{mapped, not_not}
 
--- what a null test says of And or Or is what `join` says of the test of the nullable operand and of
--- the other one, turned
+-- a null test of And or Or is `join` of the test of the nullable operand and the other one, negated
 abbrev SaidBy : Operator → Bool → Operator → (Bool → Bool) → Type 0
 SaidBy op test join turn =
     (a : Option Bool) (c : Bool)
@@ -54,7 +53,7 @@ or_is_not_null : SaidBy Or true Or (λ c. c)
 or_is_not_null a c = grind arith
 
 module _ {V O : Type 0} (m : Meaning V O) where
-  -- And or Or of a nullable operand x and another, y, that is not, whichever stands first
+  -- And or Or of a nullable operand x and another, y, that is not, in either order
   record IsSplit (op : Operator) (node x y : Tree V O) : Type 0 where
     pub nullable : tree_type m x ≡ Some (bool_type true)
     pub other : tree_type m y ≡ Some (bool_type false)
@@ -89,7 +88,7 @@ module _ {V O : Type 0} (m : Meaning V O) where
           );
     }
 
-    -- the operands that the rules take apart
+    -- the operands that the rules read
     split_of : (op : Operator) (x y : Tree V O) (t : LogicalType) (p : Tree V O × Tree V O)
         → is_boolean op ≡ true → tree_type m (operated op x y) ≡ Some t
         → by_nullability m x y ≡ Some p → IsSplit op (operated op x y) p.0 p.1
@@ -133,7 +132,7 @@ module _ {V O : Type 0} (m : Meaning V O) where
         → (v : Value) × (eval m cs x i ≡ gives v) × (gives (truth (says v)) ≡ gives w)
     test_value cs i x w e = one_value m cs i (ours (NullTest test)) x w e
 
-    -- a child of whose values the test says one thing
+    -- a child for whose values the test is constant
     constant_test : (x : Tree V O) (t : LogicalType) (b : Bool) → tree_type m x ≡ Some t
         → ((cs : List ColumnView) (i : ℕ) (v : Value) → HasRow cs i x → eval m cs x i ≡ gives v
         → says v ≡ b)
@@ -152,7 +151,7 @@ module _ {V O : Type 0} (m : Meaning V O) where
         call_type m (ours (Binary op)) (bool_type false ∷ bool_type false ∷ [])
         ≡ Some (bool_type false)
 
-    -- And or Or, by its operands
+    -- And or Or, from its operands
     split_test : (op join : Operator) (turn : Bool → Bool) (node x y other : Tree V O)
         (t : LogicalType) → is_boolean join ≡ true → tree_type m node ≡ Some t
         → IsSplit op node x y → tree_type m other ≡ Some (bool_type false) → AsksNoMore y other
@@ -187,7 +186,7 @@ module _ {V O : Type 0} (m : Meaning V O) where
           ∙ ap gives (said q.0 q.1) ∙ ap (λ v. gives (truth (says v))) q.4 ∙ a.2;
     }
 
-    -- the other operand as it is, and negated
+    -- the other operand, unchanged and negated
     module _ (lawful : Lawful m) (op join : Operator) (b : is_boolean op ≡ true)
         (j : is_boolean join ≡ true) (x y : Tree V O) (t : LogicalType)
         (h : tree_type m (operated op x y) ≡ Some t) (u : Tree V O) where

@@ -1,4 +1,4 @@
--- The text of an argument, and the parts of a call that are left behind those that are written.
+-- The text of an argument, and the remaining parts of a call's text.
 use Rattle.std.proofs.Common.{◌≡◌, ℕ, zero, suc, ◌-◌, ◌<◌, ◌≤◌, List, [], ◌∷◌, ◌++◌, Some}
 use Rattle.std.proofs.Common.{None, refl, sym, ap, ◌∙◌, arith, subst}
 use Rattle.std.proofs.lemmas.List.{append_assoc, append-nil}
@@ -6,7 +6,7 @@ use Rattle.std.specs.Prelude.{slice_get}
 use Rattle.vortex_interface.specs.CallTexts.{text_at, told}
 use Rattle.vortex_interface.specs.Texts.{AreTold}
 
--- the text of an argument that is there, and of one that is not
+-- the text of an argument that exists, and of one that does not
 pub text_got : (texts : List (List ℕ)) (k : ℕ) (text : List ℕ) → slice_get texts k ≡ Some text
     → text_at k texts ≡ text
 text_got [] k text e = cc
@@ -18,7 +18,7 @@ text_past [] k e = refl
 text_past (t ∷ ts) zero e = cc
 text_past (t ∷ ts) (suc k) e = text_past ts k e
 
--- what is left from the k-th part of so many on begins with it
+-- the remaining text from the k-th of the parts on begins with the k-th
 pub told_next : (before : ℕ → List ℕ) (printed : ℕ → ℕ) (k n : ℕ) (texts : List (List ℕ)) → k < n
     → told before printed k (n - k) texts
     ≡ before k ++ text_at (printed k) texts ++ told before printed (suc k) (n - suc k) texts
@@ -34,8 +34,8 @@ told_past before printed k n texts le =
     ap (λ left. told before printed k left texts) none
 
 module _ (part : ℕ → List ℕ → ℕ → Type 0) (n : ℕ) (texts : List (List ℕ)) where
-  -- the parts before the k-th are written behind what was there: with those that are left it is the
-  -- whole text
+  -- the parts before the k-th are appended to the text; with the remaining ones it is the whole
+  -- text
   abbrev pub Telling : List ℕ → ℕ → List ℕ → Type 0
   Telling old k out =
       (told : List ℕ) × (out ≡ old ++ told)

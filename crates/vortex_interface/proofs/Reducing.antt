@@ -1,4 +1,4 @@
--- What Reduce answers is a rewrite.
+-- The result of Reduce is a rewrite.
 use Rattle.std.proofs.Common.{◌≡◌, Bool, true, false, Option, Some, None, refl, sym, ap, ◌∙◌, subst}
 use Rattle.std.specs.Prelude.{if◌then◌else◌}
 use Rattle.vortex_types.specs.LogicalTypes.{LogicalType, bool_type}
@@ -136,7 +136,7 @@ module _ {V O : Type 0} (m : Meaning V O) where
       shipped_sound (NullTest true) ts u t h e = is_not_null_sound ts u t h e
       shipped_sound s ts u t h e = cc
 
-    -- what Reduce answers for a well-typed tree keeps its type and its values
+    -- for a well-typed tree the result of Reduce keeps its type and its values
     pub reduce_sound : (r : Rules V O) → LawfulRules m r → (x u : Tree V O) (t : LogicalType)
         → tree_type m x ≡ Some t → reduce m r x ≡ Some u → Rewrites m x u
     reduce_sound r rules (call (ours s) ts) u t h e = shipped_sound r rules s ts u t h e

@@ -1,4 +1,4 @@
--- Rewrites follow one another, and a rewrite of a child is one of its call.
+-- Rewrites compose, and a rewrite of a child is one of its call.
 use Rattle.std.proofs.Common.{◌≡◌, ℕ, zero, suc, List, [], ◌∷◌, Some, refl, ap, ◌∙◌, subst}
 use Rattle.std.proofs.Math.Logic.{⊎_map}
 use Rattle.std.specs.Prelude.{slice_get, slice_set}
@@ -28,7 +28,7 @@ module _ {V O : Type 0} where
     places = λ h. b.places (a.places h);
   }
 
-  -- a truth value asks nothing
+  -- a truth value requires nothing
   pub asks_nothing : (t : Tree V O) (n b : _) → AsksNoMore t (truth_constant n b)
   asks_nothing t n b =
       record { leaves = λ p name k h. absurd h; rows = λ cs i h. tt; places = λ h. tt }
@@ -44,7 +44,7 @@ module _ {V O : Type 0} where
       value = λ cs i w p e. b.value cs i w (a.asks.rows cs i p) (a.value cs i w p e);
     }
 
-    -- the same of trees side by side
+    -- the same for lists of trees
     pub record AllRewrite (ts us : Trees V O) : Type 0 where
       pub dtypes : tree_types m us ≡ tree_types m ts
       pub leaves : (p : ℕ) (name : List ℕ) (k : LogicalType) → IsLeafIn (place p name k) us

@@ -1,4 +1,4 @@
--- What executing a rewritten tree answers: the old tree's column, where that has one.
+-- Executing a rewritten tree gives the old tree's column, if that has one.
 use Rattle.std.proofs.Common.{◌≡◌, ℕ, zero, suc, ◌<◌, Bool, true, false, List, [], ◌∷◌, length}
 use Rattle.std.proofs.Common.{Option, Some, None, refl, sym, ◌∙◌, subst, arith, nat_eq}
 use Rattle.std.specs.Prelude.{All, slice_get, if◌then◌else◌}
@@ -19,7 +19,7 @@ use Rattle.vortex_interface.specs.Driver.{Runs}
 use Rattle.vortex_interface.proofs.Leaves.{leaves_still_fit}
 use Rattle.vortex_interface.proofs.Driving.{rewritten_list_sound, runs_sound}
 
--- columns of one length have it each
+-- columns of one length each have it
 pub same_length : (n : ℕ) (cs : List ColumnView) (p : ℕ) (c : ColumnView) → other_length n cs ≡ None
     → slice_get cs p ≡ Some c → length c.rows ≡ n
 same_length n [] p c h e = cc
@@ -51,7 +51,7 @@ module _ (cs : List ColumnView) (n : ℕ) (lengths : other_length n cs ≡ None)
       subst (λ (o : Option ColumnView). HasType t (row (rows_or_none o) i)) (sym there)
       (subst (λ (u : LogicalType). HasType u (row c.rows i)) is value)
 
-  -- columns that fit a tree have its rows
+  -- columns that match a tree have its rows
   module _ {V O : Type 0} where
     mutual
       pub fitting_row : (t : Tree V O) (i : ℕ) → i < n → LeavesFit cs t → IsMade n t → HasRow cs i t
@@ -90,7 +90,7 @@ module _ {V O : Type 0} (m : Meaning V O) (cs : List ColumnView) (n : ℕ) where
         rows = rewritten_rows t u c a rows k.rows;
       }
 
-  -- so does what a list of rules makes of it, each sound, and what a run of a sound rule leads to
+  -- so does the result of a list of sound rules, and of a run of a sound rule
   pub rewritten_list_executes : {A : Type 0} (apply : A → Tree V O → Option (Tree V O))
       → ((a : A) → IsSound m (apply a)) → (steps : List (A × List ℕ)) (t u : Tree V O) (k : ℕ)
       (c : ColumnView) → All (λ c. AreTyped c.dtype c.rows) cs → IsMade n t

@@ -1,5 +1,4 @@
--- The rule table at work: what it answers for some trees, each by computing; and what is no
--- rewrite.
+-- The rule table at work: results for some trees, each computed; and counterexamples to rewriting.
 use Rattle.std.proofs.Common.{◌≡◌, ℕ, List, true, false, [], ◌∷◌, Some, None, refl}
 use Rattle.vortex_types.specs.declared.dtype.PType.TheVariants.{I32}
 use Rattle.vortex_types.specs.LogicalTypes.{LogicalType, null_type, bool_type, integer_type}
@@ -90,7 +89,7 @@ module _ {V O : Type 0} (m : Meaning V O) (r : Rules V O) where
       → validity m r (call (ours (Between options)) (tree i (tree j (tree j no_trees)))) ≡ None
   of_between options = refl
 
-  -- a held column of two rows, and the bits that say which are not null
+  -- a held column of two rows, and the bits of the rows that are not null
   abbrev held_in : ValidityForm → ColumnView
   held_in form =
       record {
@@ -199,7 +198,7 @@ module _ {V O : Type 0} (m : Meaning V O) (r : Rules V O) where
   two_nulls : simplify m r (operated Or no_truth no_truth) ≡ Some no_truth
   two_nulls = refl
 
-  -- a place of another name is no rewrite
+  -- a place with another name is no rewrite
   of_other_name : (p : ℕ) (a b : List ℕ) (k : LogicalType) → ¬ (a ≡ b)
       → ¬ Rewrites m (leaf (place p a k)) (leaf (place p b k))
   of_other_name p a b k other h =

@@ -1,4 +1,4 @@
--- What Simplify answers is a rewrite.
+-- The result of Simplify is a rewrite.
 use Rattle.std.proofs.Common.{◌≡◌, ℕ, Bool, true, List, [], ◌∷◌, Option, Some, None, refl}
 use Rattle.std.proofs.Common.{sym, ap, ◌∙◌, subst, inl, inr}
 use Rattle.std.specs.Prelude.{◌||◌, ◌&&◌, ◌⊎◌}
@@ -203,7 +203,7 @@ module _ {V O : Type 0} (m : Meaning V O) where
     shipped_sound (Binary op) (tree x (tree y no_trees)) u t h e = operator_sound op x y u t h e
     shipped_sound s ts u t h e = cc
 
-    -- what Simplify answers for a well-typed tree keeps its type and its values
+    -- for a well-typed tree the result of Simplify keeps its type and its values
     pub simplify_sound : (r : Rules V O) → LawfulRules m r → (x u : Tree V O) (t : LogicalType)
         → tree_type m x ≡ Some t → simplify m r x ≡ Some u → Rewrites m x u
     simplify_sound r rules (call (ours s) ts) u t h e = shipped_sound s ts u t h e

@@ -16,7 +16,7 @@ module _ {V O : Type 0} where
   same_trees (tree t ts) = ap (tree t) (same_trees ts)
 
   module _ (rule : Tree V O → Option (Tree V O)) where
-    -- one of several trees has a rewrite, and the others are as they were
+    -- one of several trees has a rewrite, and the others are unchanged
     record IsStepIn (ts us : Trees V O) : Type 0 where
       pub number : ℕ
       pub path : List ℕ

@@ -1,5 +1,5 @@
--- What each rewrite by a rule keeps is kept by rewrites at places, by lists of them, by steps and
--- by runs.
+-- A property kept by each rewrite of a rule is kept by rewrites at places, by lists of them, by
+-- steps and by runs.
 use Rattle.std.proofs.Common.{◌≡◌, ℕ, zero, suc, ◌+◌, List, [], ◌∷◌, Option, Some, None, refl, sym}
 use Rattle.std.proofs.Common.{ap, ◌∙◌, subst, arith}
 use Rattle.std.specs.Prelude.{slice_get, slice_set}
@@ -14,10 +14,10 @@ use Rattle.vortex_interface.proofs.TypedCalls.{and_then_some}
 use Rattle.vortex_interface.proofs.StepPlaces.{same_trees, step_place}
 
 module _ {V O : Type 0} where
-  -- R says what n rewrites make of a tree of which P holds:
+  -- R relates a tree with P to the result of n rewrites:
   -- same, after: none, and some after others
-  -- kept: P holds of what they make
-  -- child, below: P holds of a child, and one rewrite of a child is one of its call
+  -- kept: P holds of the result
+  -- child, below: P holds for a child, and one rewrite of a child is one of its call
   module _ (P : Tree V O → Type 0) (R : ℕ → Tree V O → Tree V O → Type 0) where
     pub record GoesOver : Type 0 where
       pub same : (t : Tree V O) → P t → R 0 t t
@@ -29,7 +29,7 @@ module _ {V O : Type 0} where
           → P (call f (trees_of ts)) → slice_get ts k ≡ Some t → R 1 t u
           → R 1 (call f (trees_of ts)) (call f (trees_of (slice_set ts k u)))
 
-    -- what the rule makes of such a tree is one rewrite
+    -- the rule's result for such a tree is one rewrite
     abbrev pub Keeps : (Tree V O → Option (Tree V O)) → Type 0
     Keeps rule = (t u : Tree V O) → P t → rule t ≡ Some u → R 1 t u
 

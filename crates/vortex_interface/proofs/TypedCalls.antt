@@ -1,4 +1,4 @@
--- The types and the outcomes of calls, taken apart and put together.
+-- Types and outcomes of calls, taken apart and put together.
 use Rattle.std.proofs.Common.{◌≡◌, ℕ, zero, suc, true, List, [], ◌∷◌, length, Option, Some, None}
 use Rattle.std.proofs.Common.{refl, ap, ◌∙◌, subst}
 use Rattle.std.specs.Prelude.{slice_get, slice_set}
@@ -82,7 +82,7 @@ module _ {V O : Type 0} (m : Meaning V O) where
       let a = one_type (tree_type m x) c.types c.children in
       (a.0, a.1)
 
-  -- trees with another one of the same type have their types
+  -- trees with one replaced by another of the same type have the same types
   pub types_with : (ts : List (Tree V O)) (k : ℕ) (t u : Tree V O) → slice_get ts k ≡ Some t
       → tree_type m u ≡ tree_type m t
       → tree_types m (trees_of (slice_set ts k u)) ≡ tree_types m (trees_of ts)
@@ -92,7 +92,7 @@ module _ {V O : Type 0} (m : Meaning V O) where
       ap (λ a. with_type a (tree_types m (trees_of xs))) (e ∙ ap (tree_type m) is)
   types_with (x ∷ xs) (suc k) t u h e = ap (with_type (tree_type m x)) (types_with xs k t u h e)
 
-  -- the type of a call, by those of one child and of two
+  -- the type of a call, from one child and from two
   pub type_of_one : (f : Function V O) (x : Tree V O) (t : LogicalType) → tree_type m x ≡ Some t
       → tree_type m (call f (tree x no_trees)) ≡ call_type m f (t ∷ [])
   type_of_one f x t h = ap (λ a. option_and_then (call_type m f) (with_type a (Some []))) h
@@ -104,7 +104,7 @@ module _ {V O : Type 0} (m : Meaning V O) where
       λ j. option_and_then (call_type m f) (with_type (h j) (with_type (k j) (Some [])))
 
   module _ (cs : List ColumnView) (i : ℕ) where
-    -- the children's values, of which the function gives the call's
+    -- the children's values, from which the function gives the call's
     pub record IsCallValue (f : Function V O) (ts : Trees V O) (types : List LogicalType)
         (w : Value) : Type 0 where
       pub values : List Value
@@ -155,7 +155,7 @@ module _ {V O : Type 0} (m : Meaning V O) where
         by (gives v) (faults f) p q k = cc
         by (gives v) (gives z) p q k = (v, z, p, q, k)
 
-    -- and back: a call's outcome, by its children's values
+    -- and back: a call's outcome, from its children's values
     pub eval_one : (f : Function V O) (x : Tree V O) (v : Value) → eval m cs x i ≡ gives v
         → eval m cs (call f (tree x no_trees)) i
         ≡ function_means m f (types_or_none (tree_types m (tree x no_trees))) (v ∷ [])

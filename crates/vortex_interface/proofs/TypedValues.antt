@@ -1,5 +1,5 @@
 -- The value of a well-typed tree has the tree's type, in each row in which the leaves have values
--- of theirs.
+-- of their types.
 use Rattle.std.proofs.Common.{◌≡◌, ℕ, List, [], ◌∷◌, Some, subst, true, false}
 use Rattle.std.specs.Prelude.{Any}
 use Rattle.vortex_types.specs.LogicalTypes.{LogicalType, is_nullable}

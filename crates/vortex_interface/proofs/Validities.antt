@@ -1,4 +1,4 @@
--- The validity of a node says in which rows it is null.
+-- The validity of a node is true in exactly the rows where it is not null.
 use Rattle.std.proofs.Common.{◌≡◌, ℕ, suc, ◌<◌, Bool, true, false, not, List, [], ◌∷◌, length}
 use Rattle.std.proofs.Common.{Option, Some, None, refl, sym, ap, ◌∙◌, subst, arith, inl, inr}
 use Rattle.std.proofs.Common.{⊎_elim}
@@ -133,15 +133,15 @@ validity_row c i h = record {
 }
 
 module _ {V O : Type 0} (m : Meaning V O) where
-  -- what holds of the null test of each nullable child holds of each test
+  -- a property of the null test of each nullable child holds for each test
   each_test : (P : Tree V O → Type 0) (t : Tree V O) (rest : List (Tree V O)) (b : Bool)
       → P (is_not_null_of t) → AllSay (λ u p. P u) rest true
       → AllSay (λ u p. P u) (if b then is_not_null_of t ∷ rest else rest) true
   each_test P t rest true h k = (true, true, h, k, refl)
   each_test P t rest false h k = k
 
-  -- what goes over from the children to their null tests, and from two trees to their And, holds of
-  -- the union of the children's validities
+  -- a property that children pass to their null tests, and two trees to their And, holds for the
+  -- union of the children's validities
   union_each : (P : Tree V O → Type 0) (Q : Trees V O → Type 0) → P (truth_constant false true)
       → ((t u : Tree V O) → P t → P u → P (operated And t u))
       → ((t : Tree V O) (ts : Trees V O) → Q (tree t ts) → P (is_not_null_of t) × Q ts)
@@ -156,7 +156,7 @@ module _ {V O : Type 0} (m : Meaning V O) where
           let a = first t us k in
           each_test P t (null_tests m us) (is_nullable_tree m t) a.0 (each us a.1)
 
-  -- in a row the tests say together that no child is null
+  -- in a row the tests together mean that no child is null
   abbrev Says : List ColumnView → ℕ → Tree V O → Bool → Type 0
   Says cs i u p = eval m cs u i ≡ gives (truth p)
 
@@ -190,7 +190,7 @@ module _ {V O : Type 0} (m : Meaning V O) where
   and_says cs i t u p q h k =
       eval_bool m cs i And t u (truth p) (truth q) refl h k ∙ ap gives (and_truths p q)
 
-  -- its type, what it asks, and what it says
+  -- its type, what it requires, and its value
   union_type : (ts : Trees V O) (types : List LogicalType) → tree_types m ts ≡ Some types
       → tree_type m (union_child_validities m ts) ≡ Some (bool_type false)
   union_type ts types h =
@@ -226,7 +226,7 @@ module _ {V O : Type 0} (m : Meaning V O) where
       (tests_say cs i ts types vs h k e)
 
   module _ (lawful : Lawful m) where
-    -- a strict function that cannot be null unless a child is: null exactly where a child is
+    -- a strict function that is null only where a child is: null exactly where a child is
     null_where_child : (f : Function V O) (types : List LogicalType) (t u : LogicalType)
         (vs : List Value) (w : Value) → function_strict m f ≡ true
         → function_type m f types ≡ Some t
@@ -292,7 +292,7 @@ module _ {V O : Type 0} (m : Meaning V O) where
           ap (λ v. gives (truth (not (is_null v)))) (gives_is s.value w e);
     }
 
-    -- a form that tells the same of all rows
+    -- a form that is the same for all rows
     form_sound : (c : ColumnView) (b : Bool)
         → ((i : ℕ) → HasTypedRow c i → is_null (row c.rows i) ≡ not b)
         → IsValidityOf m (leaf (held c)) (truth_constant false b)
@@ -330,7 +330,8 @@ module _ {V O : Type 0} (m : Meaning V O) where
         form_sound c false (λ i p. subst (λ f. FormTells f (row c.rows i)) e p.told)
     column_sound c array e = array_sound c
 
-    -- where the validity of a well-typed node is a tree, that says in which rows the node is null
+    -- if the validity of a well-typed node is a tree, that is true exactly in the rows where the
+    -- node is not null
     pub validity_sound : (r : Rules V O) → LawfulRules m r → (x v : Tree V O) (t : LogicalType)
         → tree_type m x ≡ Some t → validity m r x ≡ Some v → IsValidityOf m x v
     validity_sound r rules (leaf (place p name k)) v t h e = cc
@@ -343,7 +344,7 @@ module _ {V O : Type 0} (m : Meaning V O) where
     validity_sound r rules (call (ours s) ts) v t h e = default_validity_sound (ours s) ts t v h e
     validity_sound r rules (call (custom f o) ts) v t h e = rules.validity f o ts t v h e
 
-    -- functions without rules, and with the default validity alone, have lawful ones
+    -- functions without rules, and with only the default validity, have lawful rules
     pub no_rules_lawful : LawfulRules m no_rules
     no_rules_lawful = record {
       validity = λ f o ts t v h e. cc;

@@ -1,4 +1,4 @@
--- The validity of a tree of shipped functions alone weighs no more than the tree.
+-- The validity of a tree of only shipped functions weighs no more than the tree.
 use Rattle.std.proofs.Common.{◌≡◌, suc, ◌+◌, ◌≤◌, Bool, true, false, not, List, [], ◌∷◌, length}
 use Rattle.std.proofs.Common.{Some, refl, sym, ap, ◌∙◌, subst, arith, nat_eq}
 use Rattle.std.specs.Prelude.{if◌then◌else◌}
@@ -31,13 +31,13 @@ use Rattle.vortex_interface.proofs.TypedCalls.{types_parts, one_type, two_types,
 use Rattle.vortex_interface.proofs.TypedCalls.{typed_call, type_of_one, type_of_two}
 use Rattle.vortex_interface.proofs.Weighed.{weight_positive}
 
--- an operator of no truth values adds five
+-- an operator that is not And or Or adds five
 strict_added : (op : Operator) (n : Bool) → not (is_boolean op) ≡ true → operator_added op n ≡ 5
 strict_added And n h = cc
 strict_added Or n h = cc
 strict_added op n h = refl
 
--- a cast is never without null
+-- a cast is always nullable
 no_cast : (types : List LogicalType) (t : LogicalType) → cast_type types ≡ Some t
     → may_be_null (cast_type (without_null types)) ≡ true
 no_cast (bool_type n ∷ []) t h = refl
@@ -50,7 +50,7 @@ not_is (bool_type n ∷ []) t k h e = (n, cc)
 not_is types t k h e = cc
 
 module _ {V O : Type 0} (m : Meaning V O) where
-  -- of shipped functions alone, and no heavier
+  -- of shipped functions only, and no heavier
   abbrev pub NoHeavier : Tree V O → Tree V O → Type 0
   NoHeavier t v = OnlyShipped v × (weight m v ≤ weight m t)
 
@@ -119,7 +119,7 @@ module _ {V O : Type 0} (m : Meaning V O) where
       let one : length c.types ≡ 1 = grind (arith, c.fitting) in
       absurd (omega (arith, count, one))
 
-  -- that of a call of two that adds five
+  -- that of a call with two arguments that adds five
   two_union : (f : Shipped) (ts : Trees V O) (v : Tree V O) (types : List LogicalType)
       → shipped_added f (is_nullable_tree m (call (ours f) ts)) ≡ 5
       → tree_types m ts ≡ Some types → nat_eq (length types) 2 ≡ true → AllShipped ts

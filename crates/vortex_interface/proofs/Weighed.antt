@@ -1,4 +1,4 @@
--- A tree weighs something, and no more than five for each of its nodes.
+-- A tree's weight is positive, and at most five for each of its nodes.
 use Rattle.std.proofs.Common.{ℕ, ◌*◌, ◌<◌, ◌≤◌, Bool, true, arith}
 use Rattle.vortex_operators.specs.declared.operators.Operator.{Operator}
 use Rattle.vortex_operators.specs.declared.operators.Operator.TheVariants.{And, Or}

@@ -1,4 +1,4 @@
--- What the calls of a function answer; the result stands last.
+-- Results of the calls of a function; the call's result is the last argument.
 use Rattle.std.specs.Prelude.{◌≡◌, ℕ, List, Some, map, Result, MatchResult}
 use Rattle.vortex_types.specs.declared.dtype.DType.{DType}
 use Rattle.vortex_errors.specs.declared.error.VortexError.{VortexError}
@@ -11,8 +11,8 @@ use Rattle.vortex_interface.specs.Shipped.{Shipped, shipped_type, shipped_means}
 use Rattle.vortex_interface.specs.Functions.{Function, function_type, function_means}
 use Rattle.vortex_interface.specs.Functions.{RefusesShipped, RefusesCustom, RefusesTypes}
 
--- A shipped function: the type of the answer, or E3, for which it takes no memory; and a column of
--- that type with each row's value, over inputs of so many rows, or the fault of a row.
+-- A shipped function: the return type, or E3, without allocating; and a column of that type with
+-- each row's value, over inputs of that many rows, or the fault of a row.
 module _ (s : Shipped) where
   abbrev pub AnswersShippedType : List DType → Result DType VortexError → Type 0
   AnswersShippedType types result =
@@ -25,7 +25,7 @@ module _ (s : Shipped) where
       Answers result (HasCallRows (shipped_type s) (shipped_means s) inputs n) Faults
 
 module _ {V O : Type 0} (m : Meaning V O) where
-  -- the same of a caller's, which may want memory for its type
+  -- the same for a caller's function, which may run out of memory for its type
   abbrev pub AnswersType : V → O → List DType → Result DType VortexError → Type 0
   AnswersType f o types result =
       let ts = map type_of types in
@@ -36,7 +36,7 @@ module _ {V O : Type 0} (m : Meaning V O) where
       let Faults = IsCallFault (m.means f o) inputs n in
       Answers result (HasCallRows (m.return_type f o) (m.means f o) inputs n) Faults
 
-  -- the same of either
+  -- the same for either
   abbrev pub AnswersFunctionType : Function V O → List DType → Result DType VortexError → Type 0
   AnswersFunctionType f types result =
       let ts = map type_of types in

@@ -20,7 +20,7 @@ abbrev pub of_three : (Value → Value → Value → Value) → List Value → V
 of_three f (v ∷ w ∷ x ∷ []) = f v w x
 of_three f vs = null
 
--- of the types of one argument, and of two, there are as many values
+-- the types of one argument, and of two, have as many values
 pub one_there : (t : LogicalType) (P : List Value → Type 0)
     → ((v : Value) → HasType t v → P (v ∷ [])) → (vs : List Value) → HaveTypes (t ∷ []) vs → P vs
 one_there t P p (v ∷ []) h = p v h.0
@@ -35,7 +35,7 @@ two_there t u P p [] h = absurd h
 two_there t u P p (v ∷ []) h = absurd h.1
 two_there t u P p (v ∷ w ∷ x ∷ vs) h = absurd h.1.1
 
--- what holds of an argument holds of the only one, and of one of the two
+-- a property of an argument holds for the only one, and for one of the two
 pub only : {A : Type 0} (P : A → Type 0) (x : A) → Any P (x ∷ []) → P x
 only {A} P x a = by a.0 a.1 a.2 a.3 a.4
   where
@@ -56,7 +56,7 @@ or_either true m h = refl
 or_either false m (inl h) = cc
 or_either false m (inr h) = h
 
--- so what is null of null is null of arguments of which one is
+-- so a value that is null for null is null for arguments with a null
 pub null_of_one : (f : Value → Value) → f null ≡ null → (vs : List Value) → Any (λ v. v ≡ null) vs
     → of_one f vs ≡ null
 null_of_one f e (v ∷ []) a = ap f (only (λ w. w ≡ null) v a) ∙ e

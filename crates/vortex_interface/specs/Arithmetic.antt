@@ -19,7 +19,7 @@ use Rattle.vortex_interface.specs.Outcomes.{GivesNull}
 use Rattle.vortex_interface.specs.Meaning.{HaveTypes, AreAlike}
 use Rattle.vortex_interface.specs.Arguments.{two_there, either_of, or_either}
 
--- the integer type of two arguments, which agree apart from nullability
+-- the integer type of two arguments that agree apart from nullability
 abbrev pub integer_of : List LogicalType → Option PType
 integer_of (t ∷ u ∷ []) = integer_of_both t u
 integer_of ts = None
@@ -89,7 +89,7 @@ module _ (o : NumericOperator) where
       let kept = subst (λ (r : PType). HasType (integer_type r m) w) (sym (ptype_yes p q same)) k in
       typed_by p a n m v w is h kept
 
-  -- an answer has the type that is returned
+  -- a result has the return type
   pub arithmetic_typed : (ts : List LogicalType) (t : LogicalType) (vs : List Value)
       → arithmetic_type ts ≡ Some t → HaveTypes ts vs → GivesType t (arithmetic_means o ts vs)
   arithmetic_typed (integer_type p n ∷ integer_type q m ∷ []) a vs e h =
@@ -113,7 +113,7 @@ means_alike : (o : NumericOperator) (ts us : List LogicalType) (vs : List Value)
 means_alike o ts us (v ∷ w ∷ []) e = ap (λ (p : Option PType). arithmetic_of o p v w) e
 means_alike o ts us vs e = refl
 
--- it is the same for argument types that differ in nullability alone
+-- it is the same for argument types that differ only in nullability
 pub arithmetic_alike : (o : NumericOperator) (ts us : List LogicalType) (vs : List Value)
     → AreAlike ts us → arithmetic_means o ts vs ≡ arithmetic_means o us vs
 arithmetic_alike o ts us vs same =
@@ -164,7 +164,7 @@ fault_of : (o : NumericOperator) (p : Option PType) (v w : Value) (x : Fault)
 fault_of o None v w x e = cc
 fault_of o (Some p) v w x e = own_fault o (arithmetic_value o p v w) x e
 
--- a fault is the operator's own
+-- a fault is that of the operator
 pub arithmetic_fault : (o : NumericOperator) (ts : List LogicalType) (vs : List Value) (x : Fault)
     → arithmetic_means o ts vs ≡ faults x → x ≡ arithmetic o
 arithmetic_fault o ts (v ∷ w ∷ []) x e = fault_of o (integer_of ts) v w x e

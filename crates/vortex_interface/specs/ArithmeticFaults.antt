@@ -1,5 +1,5 @@
--- Where executing a tree of shipped functions errs: exactly where in some row a call of arithmetic
--- has two operands, neither null, of which its type does not hold the exact result.
+-- When executing a tree of shipped functions fails: exactly where in some row a call of arithmetic
+-- has two operands, neither null, whose exact result its type does not hold.
 use Rattle.std.specs.Prelude.{◌≡◌, ◌⊎◌, ℕ, ◌<◌, ℤ, List, [], ◌∷◌, None, Some}
 use Rattle.vortex_types.specs.declared.dtype.PType.{PType}
 use Rattle.vortex_errors.specs.declared.error.NumericOperator.{NumericOperator}
@@ -19,8 +19,8 @@ use Rattle.vortex_interface.specs.Eval.{HasTreeRows}
 use Rattle.vortex_interface.specs.Execution.{LeavesFit, other_length, Executes, RefusesExecution}
 use Rattle.vortex_interface.specs.Weights.{OnlyShipped}
 
--- In a row a call of arithmetic has two operands, numbers of one integer type, that does not hold
--- the exact result: an overflow, or a divisor zero.
+-- In a row a call of arithmetic has two operands, numbers of one integer type, whose exact result
+-- the type does not hold: an overflow, or a division by zero.
 pub record Overflows {V O : Type 0} (m : Meaning V O) (cs : List ColumnView) (o : NumericOperator)
     (f : Function V O) (ts : Trees V O) (i : ℕ) : Type 0 where
   pub operator : Operator
@@ -45,9 +45,9 @@ module _ {V O : Type 0} (m : Meaning V O) (cs : List ColumnView) (n : ℕ) (o : 
     AnyHasOverflow no_trees = ⊥
     AnyHasOverflow (tree t ts) = HasOverflow t ⊎ AnyHasOverflow ts
 
--- In n rows of a tree of shipped functions: where there is a first fault, some call of arithmetic
--- overflows in some row, and the fault is E7 of such a call; where a column has the tree's rows,
--- none does.
+-- In n rows of a tree of shipped functions: if there is a first fault, some call of arithmetic
+-- overflows in some row, and the fault is E7 of such a call; if a column has the tree's rows, none
+-- does.
 pub record FaultsExactly {V O : Type 0} (m : Meaning V O) (cs : List ColumnView) (n : ℕ)
     (t : Tree V O) : Type 0 where
   pub refused : (e : VortexError) → IsFirstFault m cs n t e
@@ -55,10 +55,9 @@ pub record FaultsExactly {V O : Type 0} (m : Meaning V O) (cs : List ColumnView)
   pub answered : (c : ColumnView) → HasTreeRows m cs n t c
       → (o : NumericOperator) → HasOverflow m cs n o t → ⊥
 
--- Executing a tree of shipped functions over columns that fit it, and that are equally long: where
--- it is refused, some call of arithmetic overflows in some row, and the refusal is E7 of such a
--- call, the first; where it answers, none does. Want of memory aside, `execute` does one or the
--- other.
+-- Executing a tree of shipped functions over matching columns of one length: if it fails, some call
+-- of arithmetic overflows in some row, and the error is E7 of the first such call; if it succeeds,
+-- none does. Unless memory runs out, `execute` does one or the other.
 pub record ErrsExactly {V O : Type 0} (m : Meaning V O) (cs : List ColumnView) (n : ℕ)
     (t : Tree V O) : Type 0 where
   pub refused : (e : VortexError) → RefusesExecution m cs n t e

@@ -1,4 +1,4 @@
--- A table cut into batches of rows, and what a tree answers over these beside the whole.
+-- A table cut into batches of rows, and the results of a tree over the batches and over the whole.
 use Rattle.std.specs.Prelude.{◌≡◌, ◌↔◌, ◌⊎◌, ◌++◌, ◌+◌, ℕ, List, [], ◌∷◌, take, drop, None, ⊤}
 use Rattle.vortex_errors.specs.declared.error.VortexError.{VortexError}
 use Rattle.vortex_types.specs.Values.{Value}
@@ -8,12 +8,12 @@ use Rattle.vortex_interface.specs.Trees.{Tree}
 use Rattle.vortex_interface.specs.Bound.{IsBound}
 use Rattle.vortex_interface.specs.Execution.{LeavesFit, other_length, Executes, RefusesExecution}
 
--- columns of so many rows
+-- columns of that many rows
 pub record Batch : Type 0 where
   pub count : ℕ
   pub columns : List ColumnView
 
--- so many rows of a column, from this one on
+-- that many rows of a column, from a given one on
 pub record IsPart (from count : ℕ) (c d : ColumnView) : Type 0 where
   pub dtype : d.dtype ≡ c.dtype
   pub rows : d.rows ≡ take count (drop from c.rows)
@@ -37,7 +37,7 @@ joined_rows [] = []
 joined_rows (c ∷ cs) = c.rows ++ joined_rows cs
 
 module _ {V O : Type 0} (m : Meaning V O) (t : Tree V O) where
-  -- each batch is answered by the column beside it
+  -- each batch's result is the column at its position
   abbrev pub AllExecute : List Batch → List ColumnView → Type 0
   AllExecute [] [] = ⊤
   AllExecute (b ∷ bs) (c ∷ cs) = Executes m b.columns b.count t c × AllExecute bs cs
@@ -51,14 +51,14 @@ module _ {V O : Type 0} (m : Meaning V O) (t : Tree V O) where
   SomeRefused [] = ⊥
   SomeRefused (b ∷ bs) = IsRefused b ⊎ SomeRefused bs
 
-  -- what the batches answer, one after another, is what the table answers; and some batch is
-  -- refused exactly where the table is
+  -- the results for the batches, one after another, are the result for the table; and some batch
+  -- fails exactly where the table does
   pub record AnswerAsOne (table : Batch) (bs : List Batch) : Type 0 where
     pub rows : (c : ColumnView) (ds : List ColumnView)
         → Executes m table.columns table.count t c → AllExecute bs ds → joined_rows ds ≡ c.rows
     pub refused : IsRefused table ↔ SomeRefused bs
 
--- of expressions over columns that serve them, which are cut anywhere
+-- for expressions over columns that match them, cut anywhere
 abbrev pub BatchesAnswerAsOne : {V O : Type 0} → Meaning V O → Type 0
 BatchesAnswerAsOne {V} {O} m = (t : Tree V O) (cs : List ColumnView) (n : ℕ) (bs : List Batch)
     → IsBound t → LeavesFit cs t → other_length n cs ≡ None → AreBatches cs n 0 bs

@@ -28,7 +28,7 @@ abbrev mutual
   IsBound (constant s) = HasType s.dtype s.value
   IsBound (call f ts) = AllBound ts
 
-  -- so it is with several trees
+  -- the same for several trees
   pub AllBound : {V O : Type 0} → Trees V O → Type 0
   AllBound no_trees = ⊤
   AllBound (tree t ts) = IsBound t × AllBound ts

@@ -35,7 +35,8 @@ compared op a b = call (ours (Binary (operator_of op))) (tree a (tree b no_trees
 abbrev pub negated : {V O : Type 0} → Tree V O → Tree V O
 negated a = call (ours Not) (tree a no_trees)
 
--- not (a op b) and a inverse b have one outcome in every row: the same value, or the same fault
+-- not (a op b) and a inverse b have the same outcome in every row: the same value, or the same
+-- fault
 abbrev pub InverseNegates : {V O : Type 0} → Meaning V O → Type 0
 InverseNegates {V} {O} m =
     (op : CompareOperator) (a b : Tree V O) (cs : List ColumnView) (i : ℕ)
@@ -58,7 +59,7 @@ SwapTurns {V} {O} m =
     → swap_of op ≡ Some swapped
     → SameOrFault (eval m cs (operated op a b) i) (eval m cs (operated swapped b a) i)
 
--- a comparison asks no types
+-- a comparison has no type requirements
 pub compared_means : (op : CompareOperator) (ts : List LogicalType) (v w : Value)
     → operator_means (operator_of op) ts (v ∷ w ∷ []) ≡ gives (comparison_value op v w)
 compared_means Eq ts v w = refl
@@ -73,7 +74,7 @@ of_negated x =
     let means = λ (vs : List Value). gives (of_one not_value vs) in
     then_means means (with_first x (all_give []))
 
--- the types of two trees, as a call is handed them
+-- the types of two trees, as passed to a call
 abbrev types_of : {V O : Type 0} → Meaning V O → Tree V O → Tree V O → List LogicalType
 types_of m a b = types_or_none (tree_types m (tree a (tree b no_trees)))
 
@@ -121,7 +122,7 @@ either_way (Some t) (Some u) = either_order t u
 either_way None (Some u) = refl
 either_way a b = refl
 
--- an operator and the one of its operands the other way round, over types of one integer type
+-- an operator and its swap, over types of one integer type
 module _ (ts us : List LogicalType) (same : integer_of ts ≡ integer_of us) (v w : Value) where
   turned_arithmetic : (o q : NumericOperator)
       → ((p : PType) → arithmetic_value o p v w ≡ arithmetic_value q p w v)

@@ -1,4 +1,4 @@
--- What a tree means: its type, its outcome in each row, and the first fault over all rows.
+-- The meaning of a tree: its type, its outcome in each row, and the first fault over all rows.
 use Rattle.std.specs.Prelude.{◌≡◌, ℕ, ◌<◌, List, [], ◌∷◌, Option, Some, None, ⊤, ◌⊎◌, length}
 use Rattle.std.specs.Prelude.{slice_get}
 use Rattle.std.specs.Option.{option_and_then}
@@ -49,7 +49,7 @@ with_type (Some t) None = None
 with_type (Some t) (Some ts) = Some (t ∷ ts)
 
 module _ {V O : Type 0} (m : Meaning V O) where
-  -- the type of a tree, or none where it is not well typed
+  -- the type of a tree, or none if it is not well typed
   abbrev mutual
     pub tree_type : Tree V O → Option LogicalType
     tree_type (leaf l) = Some (leaf_type l)
@@ -82,9 +82,9 @@ module _ {V O : Type 0} (m : Meaning V O) where
       AllSettled no_trees = ⊤
       AllSettled (tree t ts) = Settled t × AllSettled ts
 
-      -- The refusal tells a row's fault of the first call, children before their parent and from
-      -- left to right, that faults in some row in which its children have values. Where that is a
-      -- caller's function, which of its rows is told stays open.
+      -- The error reports a row's fault of the first call, children before their parent and from
+      -- left to right, that faults in some row in which its children have values. If that is a
+      -- caller's function, the row is unspecified.
       abbrev mutual
         pub IsFirstFault : Tree V O → VortexError → Type 0
         IsFirstFault (leaf l) e = ⊥

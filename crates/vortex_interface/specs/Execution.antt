@@ -1,4 +1,4 @@
--- What executing an expression over columns answers.
+-- Results of executing an expression over columns.
 use Rattle.std.specs.Prelude.{◌≡◌, ℕ, List, [], ◌∷◌, Option, Some, None, ⊤, length, slice_get}
 use Rattle.std.specs.Prelude.{nat_eq, if◌then◌else◌}
 use Rattle.vortex_errors.specs.declared.error.VortexError.{VortexError}
@@ -10,7 +10,7 @@ use Rattle.vortex_interface.specs.Eval.{HasTreeRows, IsFirstFault}
 use Rattle.vortex_interface.specs.Trees.{Leaf, place, held, Tree, leaf, constant, call, Trees}
 use Rattle.vortex_interface.specs.Trees.{no_trees, tree}
 
--- the leaf's column is there, of the leaf's type
+-- the leaf's column exists, and has the leaf's type
 abbrev pub LeafFits : List ColumnView → Leaf → Type 0
 LeafFits cs (place p name t) = (c : ColumnView) × (slice_get cs p ≡ Some c) × (c.dtype ≡ t)
 LeafFits cs (held c) = ⊤
@@ -25,27 +25,28 @@ abbrev mutual
   AllLeavesFit cs no_trees = ⊤
   AllLeavesFit cs (tree t ts) = LeavesFit cs t × AllLeavesFit cs ts
 
--- the length of the first column that has not so many rows
+-- the length of the first column that has not that many rows
 abbrev pub other_length : ℕ → List ColumnView → Option ℕ
 other_length n [] = None
 other_length n (c ∷ cs) =
     if nat_eq (length c.rows) n then other_length n cs else Some (length c.rows)
 
--- the leaves fit, each column has the row count, and the answer is the tree's meaning row by row
+-- the leaves match, each column has the row count, and the result is the tree's meaning row by row
 pub record Executes {V O : Type 0} (m : Meaning V O) (cs : List ColumnView) (n : ℕ) (t : Tree V O)
     (c : ColumnView) : Type 0 where
   pub fit : LeavesFit cs t
   pub lengths : other_length n cs ≡ None
   pub rows : HasTreeRows m cs n t c
 
--- columns that do not serve a tree: first a leaf that does not fit, then a column of another length
+-- columns that do not match a tree: first a leaf that does not match, then a column of another
+-- length
 pub data RefusesColumns {V O : Type 0} (cs : List ColumnView) (n : ℕ) (t : Tree V O)
     (e : VortexError) : Type 0 where
   unfit : ¬ LeavesFit cs t → e ≡ ScopeMismatch → RefusesColumns cs n t e
   uneven : (l : ℕ) → LeavesFit cs t → other_length n cs ≡ Some l → e ≡ LengthMismatch n l
       → RefusesColumns cs n t e
 
--- first columns that do not serve, then the first fault
+-- first columns that do not match, then the first fault
 pub data RefusesExecution {V O : Type 0} (m : Meaning V O) (cs : List ColumnView) (n : ℕ)
     (t : Tree V O) (e : VortexError) : Type 0 where
   misfit : RefusesColumns cs n t e → RefusesExecution m cs n t e

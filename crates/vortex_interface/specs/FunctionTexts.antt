@@ -9,8 +9,7 @@ use Rattle.vortex_interface.specs.Shipped.CastFunction.{cast_options_text}
 use Rattle.vortex_interface.specs.Meaning.{Meaning}
 use Rattle.vortex_interface.specs.Functions.{Function, ours, custom, function_id}
 
--- the text of the options: an operator's, the bounds, how a LIKE is meant, the type that Cast
--- answers
+-- the text of the options: an operator's, the bounds, a LIKE's, the type that Cast returns
 abbrev pub shipped_options_text : Shipped → List ℕ
 shipped_options_text (Binary operator) = text_of operator
 shipped_options_text Cast = cast_options_text
@@ -18,7 +17,7 @@ shipped_options_text (Between options) = between_options_text options
 shipped_options_text (Like options) = like.options_text options
 shipped_options_text f = []
 
--- the same of any function, where the options of a caller's have a text that is known
+-- the same for any function, if the text of a caller's options is known
 abbrev pub held_text : {V O : Type 0} → (O → Option (List ℕ)) → Function V O → Option (List ℕ)
 held_text output (ours s) = Some (shipped_options_text s)
 held_text output (custom f o) = output o

@@ -1,4 +1,4 @@
--- A function with its options: a shipped one, or a caller's, whose meaning is given.
+-- A function with its options: a shipped one, or a caller's, given by its meaning.
 use Rattle.std.specs.Prelude.{◌≡◌, ℕ, List, Option, Some, None, Bool, length, if◌then◌else◌}
 use Rattle.vortex_errors.specs.declared.arity.Arity.{Arity}
 use Rattle.vortex_errors.specs.declared.error.MismatchPlace.{MismatchPlace}
@@ -30,7 +30,7 @@ module _ {V O : Type 0} (m : Meaning V O) where
   function_child_name (ours s) i = shipped_child_name s i
   function_child_name (custom f o) i = m.child_name f o i
 
-  -- the type of the answer, where the argument types are accepted
+  -- the return type, if the argument types are accepted
   abbrev pub function_type : Function V O → List LogicalType → Option LogicalType
   function_type (ours s) ts = shipped_type s ts
   function_type (custom f o) ts = m.return_type f o ts
@@ -48,7 +48,7 @@ module _ {V O : Type 0} (m : Meaning V O) where
   function_infallible (ours s) = is_infallible s
   function_infallible (custom f o) = m.infallible f o
 
-  -- the type of a call, where its arity fits and the argument types are accepted
+  -- the return type of a call, if its arity fits and the argument types are accepted
   abbrev pub call_type : Function V O → List LogicalType → Option LogicalType
   call_type f ts = if fits (function_arity f) (length ts) then function_type f ts else None
 
@@ -57,21 +57,21 @@ abbrev pub IsTypeMismatch : VortexError → Type 0
 IsTypeMismatch (error.TypeMismatch p) = Unit {0}
 IsTypeMismatch e = ⊥
 
--- E3 at that place; a function without a place refuses nothing
+-- E3 at that place; a function without a place never fails with E3
 abbrev pub IsMismatchAt : Option MismatchPlace → VortexError → Type 0
 IsMismatchAt None e = ⊥
 IsMismatchAt (Some p) e = e ≡ error.TypeMismatch p
 
--- the refusal of argument types: E3 at the place of a shipped function, at any place by a caller's
+-- the error for argument types: E3 at the place of a shipped function, at any place for a caller's
 abbrev pub IsMismatchOf : {V O : Type 0} → Function V O → List LogicalType → VortexError → Type 0
 IsMismatchOf (ours s) ts e = IsMismatchAt (shipped_place s ts) e
 IsMismatchOf (custom f o) ts e = IsTypeMismatch e
 
--- a shipped function refuses argument types that are not accepted, and takes no memory
+-- a shipped function fails for argument types that are not accepted, and allocates nothing
 abbrev pub RefusesShipped : Shipped → List LogicalType → VortexError → Type 0
 RefusesShipped s ts e = (shipped_type s ts ≡ None) × IsMismatchAt (shipped_place s ts) e
 
--- a caller's as well, and may want memory
+-- so does a caller's, which may run out of memory
 abbrev pub RefusesCustom : {V O : Type 0} → Meaning V O → V → O
     → List LogicalType → VortexError → Type 0
 RefusesCustom m f o ts e = (m.return_type f o ts ≡ None) × IsTypeMismatch e

@@ -6,12 +6,12 @@ use Rattle.vortex_interface.specs.Trees.{no_trees, tree}
 use Rattle.vortex_interface.specs.Rewrites.{HasTypedRow}
 pub use Rattle.vortex_interface.specs.Bound.{IsPlace, IsBound, AllBound}
 
--- a held column has n rows of its type, of which its form tells truly
+-- a held column has n rows of its type, and its form is right about them
 abbrev pub IsMadeLeaf : ℕ → Leaf → Type 0
 IsMadeLeaf n (place p name t) = ⊤
 IsMadeLeaf n (held c) = (i : ℕ) → i < n → HasTypedRow c i
 
--- and each constant has its type, as all that constructors make has
+-- and each constant has its type, as in everything that constructors make
 abbrev mutual
   pub IsMade : {V O : Type 0} → ℕ → Tree V O → Type 0
   IsMade n (leaf l) = IsMadeLeaf n l

@@ -1,4 +1,4 @@
--- What a function means, for contracts alone, and the laws of a lawful one.
+-- The meaning of a function, for contracts only, and the laws of a lawful one.
 use Rattle.std.specs.Prelude.{◌≡◌, ℕ, List, [], ◌∷◌, Option, Some, Bool, true, ⊤, map, Any}
 use Rattle.vortex_errors.specs.declared.arity.Arity.{Arity}
 pub use Rattle.vortex_errors.specs.Arities.{fits}
@@ -7,9 +7,8 @@ use Rattle.vortex_types.specs.Values.{Value, null}
 use Rattle.vortex_types.specs.Typing.{HasType}
 use Rattle.vortex_interface.specs.Outcomes.{Outcome, GivesValue, GivesType, GivesNull}
 
--- of functions V with options O: the identity, how many arguments, their names, the row meaning of
--- argument types and values, the type of the answer where the argument types are accepted, and the
--- two marks
+-- for functions V with options O: the identity, the arity, the argument names, the row meaning of
+-- argument types and values, the return type if the argument types are accepted, and the two marks
 pub record Meaning (V O : Type 0) : Type 0 where
   pub id : V → List ℕ
   pub arity : V → O → Arity
@@ -19,19 +18,19 @@ pub record Meaning (V O : Type 0) : Type 0 where
   pub strict : V → O → Bool
   pub infallible : V → O → Bool
 
--- each value has the type beside it
+-- each value has the type at its index
 abbrev pub HaveTypes : List LogicalType → List Value → Type 0
 HaveTypes [] [] = ⊤
 HaveTypes (t ∷ ts) (v ∷ vs) = HasType t v × HaveTypes ts vs
 HaveTypes [] (v ∷ vs) = ⊥
 HaveTypes (t ∷ ts) [] = ⊥
 
--- types that differ in nullability alone
+-- types that differ only in nullability
 abbrev pub AreAlike : List LogicalType → List LogicalType → Type 0
 AreAlike ts us = map without_nullability ts ≡ map without_nullability us
 
--- typed: an answer is a value of the type returned, or a fault
--- alike: it is the same for argument types that differ in nullability alone, on values that both
+-- typed: an outcome is a value of the return type, or a fault
+-- alike: it is the same for argument types that differ only in nullability, on values that both
 -- have
 -- strict_type, strict_value: a strict function returns a nullable type wherever an argument's is,
 -- and null wherever a value is null

@@ -1,4 +1,4 @@
--- The bytes that the options of a function are written as, and what byte strings are read as.
+-- The bytes of the options of a function, and what byte strings are read as.
 use Rattle.std.specs.Prelude.{◌≡◌, ◌⊎◌, ℕ, List, [], Option, Some, None, Vec, Result}
 use Rattle.std.specs.Prelude.{MatchResult, ⊤}
 use Rattle.std.specs.Option.{option_map}
@@ -12,14 +12,14 @@ use Rattle.vortex_like.specs.OptionBytes.{like_bytes, like_read, HasCharacter}
 use Rattle.vortex_interface.specs.Shipped.{Shipped, Binary, Between, Like}
 use Rattle.vortex_interface.specs.Functions.{Function, ours, custom}
 
--- one byte of Binary and Between, one or five of Like; none of the others
+-- one byte for Binary and Between, one or five for Like; none for the others
 abbrev pub shipped_bytes : Shipped → List ℕ
 shipped_bytes (Binary operator) = operator_bytes operator
 shipped_bytes (Between options) = between_bytes options
 shipped_bytes (Like options) = like_bytes options
 shipped_bytes f = []
 
--- the same function with the options that the bytes are read as; those without options read any
+-- the same function with the options read from the bytes; for functions without options from any
 -- bytes
 abbrev pub with_options : Shipped → List ℕ → Option Shipped
 with_options (Binary operator) bytes = option_map Binary (operator_read bytes)
@@ -43,17 +43,18 @@ WritesBytes bytes written = option_map (λ v. v.items) written ≡ bytes
 abbrev pub MayWriteBytes : Option (List ℕ) → Written → Type 0
 MayWriteBytes bytes written = (written ≡ None) ⊎ WritesBytes bytes written
 
--- the options of any function: of a shipped one its bytes, of a caller's none, or those that it says
+-- the bytes of the options of any function: of a shipped one as above; of a caller's none, or its
+-- own
 abbrev pub WritesOptionsOf : {V O : Type 0} → (V → O → Option (List ℕ)) → Function V O → Written
     → Type 0
 WritesOptionsOf bytes (ours s) written = WritesBytes (Some (shipped_bytes s)) written
 WritesOptionsOf bytes (custom f o) written = MayWriteBytes (bytes f o) written
 
--- the options that the bytes are read as, or E8; or memory ran out
+-- the options read from the bytes, or E8; or memory ran out
 abbrev pub MayReadOptions : {O : Type 0} → Option O → Result O VortexError → Type 0
 MayReadOptions found result = Answers result (λ o. found ≡ Some o) (λ e. e ≡ BadOptions)
 
--- the options that the bytes are read as, and E8 exactly where there are none. No memory is taken
+-- the options read from the bytes, and E8 exactly if there are none; allocates nothing
 abbrev pub ReadsOptions : {O : Type 0} → Option O → Result O VortexError → Type 0
 ReadsOptions found result =
     MatchResult result (λ o. found ≡ Some o) (λ e. (found ≡ None) × (e ≡ BadOptions))

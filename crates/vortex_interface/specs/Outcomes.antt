@@ -1,5 +1,4 @@
--- What a function answers in one row: a value or a fault; and when a column or a refusal answers
--- for all rows.
+-- The outcome of a function in one row: a value or a fault; and the column or error for all rows.
 use Rattle.std.specs.Prelude.{◌≡◌, ℕ, ◌<◌, List, Option, Some, ⊤, length, map}
 use Rattle.vortex_errors.specs.declared.error.VortexError.{VortexError}
 use Rattle.vortex_errors.specs.declared.error.VortexError.TheVariants as error
@@ -18,7 +17,7 @@ pub data Outcome : Type 0 where
   gives : Value → Outcome
   faults : Fault → Outcome
 
--- the refusal that tells a fault: E7 or E10
+-- the error for a fault: E7 or E10
 abbrev pub error_of : Fault → VortexError
 error_of (arithmetic o) = error.Arithmetic o
 error_of (custom n) = error.Custom n
@@ -35,7 +34,7 @@ abbrev pub GivesNull : Outcome → Type 0
 GivesNull (gives v) = v ≡ null
 GivesNull (faults f) = ⊤
 
--- the refusal is the fault of one of the rows
+-- the error is the fault of one of the rows
 pub record IsRowFault (n : ℕ) (outcome : ℕ → Outcome) (e : VortexError) : Type 0 where
   pub at : ℕ
   pub below : at < n
@@ -43,7 +42,7 @@ pub record IsRowFault (n : ℕ) (outcome : ℕ → Outcome) (e : VortexError) : 
   pub here : outcome at ≡ faults fault
   pub told : e ≡ error_of fault
 
--- a call over columns: its types, and the values that stand in one row
+-- a call over columns: its types, and the values in one row
 abbrev pub types_in : List ColumnView → List LogicalType
 types_in = map (λ c. c.dtype)
 
@@ -53,8 +52,8 @@ values_at cs i = map (λ c. row c.rows i) cs
 abbrev pub call_row : (List LogicalType → List Value → Outcome) → List ColumnView → ℕ → Outcome
 call_row means cs i = means (types_in cs) (values_at cs i)
 
--- the column has the type that the call returns, the number of rows, and in each row the value that
--- the call gives
+-- the column has the return type of the call, the number of rows, and in each row the value of the
+-- call
 pub record HasCallRows (return_type : List LogicalType → Option LogicalType)
     (means : List LogicalType → List Value → Outcome) (cs : List ColumnView) (n : ℕ)
     (c : ColumnView) : Type 0 where

@@ -14,12 +14,12 @@ with_text (Some first) None = None
 with_text (Some first) (Some more) = Some (first ∷ more)
 
 module _ {V O : Type 0} where
-  -- the text of a call, by the texts of its arguments; for a caller's function none is promised
+  -- the text of a call, from the texts of its arguments; unspecified for a caller's function
   abbrev pub function_text : Function V O → List (List ℕ) → Option (List ℕ)
   function_text (ours s) texts = Some (shipped_text s texts)
   function_text (custom f o) texts = None
 
-  -- the text of an expression, where no caller's function stands in it
+  -- the text of an expression without callers' functions
   abbrev mutual
     pub tree_text : Tree V O → Option (List ℕ)
     tree_text (leaf (place p name t)) = Some (codes "$." ++ name)

@@ -1,6 +1,6 @@
--- What Reduce makes of a node, in expressions and in trees over arrays: null tests that need not
--- compute their child, and And and Or with a constant. A constant column of a tree over arrays
--- stands in it as that constant, and a rule makes the same constant in either kind of tree.
+-- The results of Reduce for a node, in expressions and in trees over arrays: null tests that need
+-- not compute their child, and And and Or with a constant. In a tree over arrays a constant column
+-- is that constant, and rules make the same constant in either kind of tree.
 use Rattle.std.specs.Prelude.{Option, Some, None, Bool, true, false, if◌then◌else◌}
 use Rattle.std.specs.Option.{option_map, option_or}
 use Rattle.vortex_types.specs.LogicalTypes.{bool_type}
@@ -17,14 +17,14 @@ use Rattle.vortex_interface.specs.Rules.{Rules, truth_constant, is_null_of, is_n
 use Rattle.vortex_interface.specs.Rules.{constant_truth, is_nullable_tree, widened}
 use Rattle.vortex_interface.specs.ValidityRules.{validity}
 
--- of two operands the nullable one and then the other, where one of them is nullable and one is not
+-- two operands, the nullable one first, if one of them is nullable and one is not
 abbrev pub nullable_first : {V O : Type 0} → Bool → Bool → Tree V O → Tree V O
     → Option (Tree V O × Tree V O)
 nullable_first true false x y = Some (x, y)
 nullable_first false true x y = Some (y, x)
 nullable_first n p x y = None
 
--- what the operator's table says of two truth values, as a constant of Bool, nullable or not
+-- the operator's table for two truth values, as a constant of Bool, nullable or not
 abbrev pub table_constant : {V O : Type 0} → Operator → Bool → Option Bool → Option Bool → Tree V O
 table_constant op n a b =
     constant (record { dtype = bool_type n; value = truth_or_null (kleene op a b) })
@@ -66,7 +66,7 @@ module _ {V O : Type 0} (m : Meaning V O) where
       else Some (truth_constant false true)
   reduce_is_not_null r ts = None
 
-  -- a constant beside another operand, of a node that is nullable or not: it decides, or the
+  -- a constant and another operand, of a node that is nullable or not: it decides, or the
   -- other one stays
   abbrev pub beside_constant : Operator → Bool → Bool → Tree V O → Tree V O
   beside_constant op n b other =
@@ -87,20 +87,20 @@ module _ {V O : Type 0} (m : Meaning V O) where
       of_constants op n x y (constant_truth x) (constant_truth y)
   reduce_boolean op ts = None
 
-  -- the rules for an operator: And and Or alone have some
+  -- the rules for an operator: only And and Or have some
   abbrev pub reduce_operator : Operator → Trees V O → Option (Tree V O)
   reduce_operator And ts = reduce_boolean And ts
   reduce_operator Or ts = reduce_boolean Or ts
   reduce_operator op ts = None
 
-  -- the rules for a shipped function: operators and null tests alone have some
+  -- the rules for a shipped function: only operators and null tests have some
   abbrev pub reduce_shipped : Rules V O → Shipped → Trees V O → Option (Tree V O)
   reduce_shipped r (Binary op) ts = reduce_operator op ts
   reduce_shipped r (NullTest false) ts = reduce_is_null r ts
   reduce_shipped r (NullTest true) ts = reduce_is_not_null r ts
   reduce_shipped r s ts = None
 
-  -- what a node is reduced to, where a rule applies
+  -- the reduced node, if a rule applies
   abbrev pub reduce : Rules V O → Tree V O → Option (Tree V O)
   reduce r (leaf l) = None
   reduce r (constant s) = None

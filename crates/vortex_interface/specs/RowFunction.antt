@@ -1,5 +1,5 @@
--- What a shipped function is: its names, the types that it takes, what it answers in a row, its
--- marks and its text.
+-- The definition of a shipped function: its names, the types that it takes, its outcome in a row,
+-- its marks and its text.
 use Rattle.std.specs.Prelude.{◌≡◌, ℕ, List, Option, Some, Bool, true, Any}
 use Rattle.vortex_errors.specs.declared.error.MismatchPlace.{MismatchPlace}
 use Rattle.vortex_types.specs.LogicalTypes.{LogicalType, is_nullable}
@@ -11,14 +11,14 @@ use Rattle.vortex_interface.specs.Meaning.{HaveTypes, AreAlike}
 -- id: the identity
 -- count: how many arguments
 -- child_name: the name of each
--- return_type: the type of the answer, where the argument types are accepted
--- place: where other argument types are refused; none of a function that accepts all
+-- return_type: the return type, if the argument types are accepted
+-- place: the place in E3 for other argument types; none for a function that accepts all
 -- means: the row meaning of argument types and values
 -- strict: null where an argument is
 -- infallible: no row faults
--- before: what stands in the text of a call before the argument that is printed k-th, and at the end
+-- before: the text of a call before the argument that is printed k-th, and at the end
 -- printed: which argument that is; none at the end
--- added: what a call adds to the weight of its arguments, where it is nullable and where it is not
+-- added: what a call adds to the weight of its arguments, if it is nullable and if it is not
 pub record RowFunction : Type 0 where
   pub id : List ℕ
   pub count : ℕ
@@ -32,8 +32,8 @@ pub record RowFunction : Type 0 where
   pub printed : ℕ → ℕ
   pub added : Bool → ℕ
 
--- the laws of a lawful function, as `Meaning` says them of any, and one more
--- one_fault: whatever it is called on, it has one fault at most, so its refusal tells the same of
+-- the laws of a lawful function, as in `Meaning`, and one more
+-- one_fault: it has at most one fault, so its error is the same for
 -- any row
 pub record LawfulRow (f : RowFunction) : Type 0 where
   pub typed : (ts : List LogicalType) (t : LogicalType) (vs : List Value)

@@ -1,4 +1,4 @@
--- A caller's rules, and the words in which the shipped ones are said.
+-- A caller's rules, and the words used in the shipped ones.
 use Rattle.std.specs.Prelude.{Option, Some, None, Bool, true, false, if◌then◌else◌}
 use Rattle.std.specs.Option.{option_and_then}
 use Rattle.vortex_types.specs.LogicalTypes.{LogicalType, bool_type, is_nullable}
@@ -9,8 +9,8 @@ use Rattle.vortex_interface.specs.Functions.{ours}
 use Rattle.vortex_interface.specs.Trees.{Tree, constant, call, Trees, no_trees, tree, literal}
 use Rattle.vortex_interface.specs.Eval.{tree_type}
 
--- of functions V with options O, by a call's children: the tree that says where the call is not
--- null, and those that the call is reduced and simplified to; nothing where no rule applies
+-- for functions V with options O, from a call's children: the tree that is true where the call is
+-- not null, and the reduced and simplified trees; none where no rule applies
 pub record Rules (V O : Type 0) : Type 0 where
   pub validity_of : V → O → Trees V O → Option (Tree V O)
   pub reduce_of : V → O → Trees V O → Option (Tree V O)
@@ -45,7 +45,7 @@ cast_of t = call (ours Cast) (tree t no_trees)
 abbrev pub constant_truth : {V O : Type 0} → Tree V O → Option Bool
 constant_truth t = option_and_then (λ s. truth_of s.value) (literal t)
 
--- whether null may be a value of that type; where there is no type it may
+-- whether null may be a value of that type; true if there is no type
 abbrev pub may_be_null : Option LogicalType → Bool
 may_be_null None = true
 may_be_null (Some t) = is_nullable t
@@ -55,7 +55,7 @@ module _ {V O : Type 0} (m : Meaning V O) where
   abbrev pub is_nullable_tree : Tree V O → Bool
   is_nullable_tree t = may_be_null (tree_type m t)
 
-  -- an operand in place of its node, which is nullable or not: cast where only the node is nullable
+  -- an operand in place of its node, which is nullable or not: cast if only the node is nullable
   abbrev pub widened : Bool → Tree V O → Tree V O
   widened true t = if is_nullable_tree t then t else cast_of t
   widened false t = t

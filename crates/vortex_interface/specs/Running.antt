@@ -1,4 +1,4 @@
--- What executing the tree that a run of steps leads to answers.
+-- Results of executing the tree that a run of steps leads to.
 use Rattle.std.specs.Prelude.{◌≡◌, ℕ, ◌<◌, List, Option, None}
 use Rattle.vortex_errors.specs.declared.error.VortexError.{VortexError}
 use Rattle.vortex_types.specs.Values.{Value}
@@ -28,20 +28,21 @@ module _ {V O : Type 0} (m : Meaning V O) (cs : List ColumnView) (n : ℕ) where
       pub rows : HasTreeRows m cs n last c
       pub kept : KeepsRows t c
 
-    -- the first fault of the tree that a run leads to, where some row of the old one faults too
+    -- the first fault of the tree that a run leads to, if some row of the old one faults too
     pub record IsFaultAfter (e : VortexError) : Type 0 where
       pub last : Tree V O
       pub run : RunsTo rule limit t last
       pub first : IsFirstFault m cs n last e
       pub old : FaultsSomewhere t
 
-    -- the leaves of the old tree fit, each column has the row count, and the answer is that column
+    -- the leaves of the old tree match, each column has the row count, and the result is that
+    -- column
     pub record ExecutesAfter (c : ColumnView) : Type 0 where
       pub fit : LeavesFit cs t
       pub lengths : other_length n cs ≡ None
       pub rows : HasRowsAfter c
 
-    -- first columns that do not serve the old tree, then such a fault
+    -- first columns that do not match the old tree, then such a fault
     pub data RefusesAfter (e : VortexError) : Type 0 where
       misfit : RefusesColumns cs n t e → RefusesAfter e
       faulty : LeavesFit cs t → other_length n cs ≡ None → IsFaultAfter e → RefusesAfter e

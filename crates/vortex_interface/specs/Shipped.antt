@@ -1,5 +1,5 @@
--- The list of the shipped functions: each stands in a file of its own, and nothing else goes by
--- cases over them.
+-- The list of the shipped functions: each has its own file, and nothing else distinguishes them by
+-- cases.
 pub mod BinaryFunction
 pub mod NotFunction
 pub mod NullTestFunctions
@@ -80,17 +80,17 @@ shipped_named ws =
     (option_or (option_map Like (like_named ws))
     None))))))
 
--- the same function with the escape that is said, where one is; Like alone has one
+-- the same function with the given escape, if there is one; only Like has one
 abbrev pub escaped : Option (Option ℕ) → Shipped → Option Shipped
 escaped None s = Some s
 escaped (Some escape) (Like options) = Some (Like (with_escape options escape))
 escaped (Some escape) s = None
 
--- the function that a script calls by words and what it says of the escape
+-- the function that a script calls by words, with its escape
 abbrev pub shipped_called : List (List ℕ) → Option (Option ℕ) → Option Shipped
 shipped_called ws said = option_and_then (escaped said) (shipped_named ws)
 
--- the number of a function and that of its options, in the code of trees
+-- the numbers of a function and of its options, in the code of trees
 abbrev pub shipped_number : Shipped → ℕ × ℕ
 shipped_number (Binary op) = (0, operator_number op)
 shipped_number Not = (1, 0)
@@ -116,7 +116,7 @@ shipped_back (Between options) = ap Between (between_back options)
 shipped_back (Like options) = ap Like (like_back options)
 shipped_back s = refl
 
--- What follows is read off the list.
+-- The rest follows from the list.
 
 abbrev pub shipped_id : Shipped → List ℕ
 shipped_id s = (row_function s).id
@@ -154,7 +154,7 @@ shipped_text s texts = text_told (shipped_before s) (shipped_printed s) texts
 abbrev pub shipped_added : Shipped → Bool → ℕ
 shipped_added s nullable = (row_function s).added nullable
 
--- the functions of one identity whose options name a shipped function each
+-- the functions of one identity whose options each name a shipped function
 abbrev pub shipped_meaning : {V O : Type 0} → List ℕ → (O → Shipped) → Meaning V O
 shipped_meaning name shipped = record {
   id = λ f. name;

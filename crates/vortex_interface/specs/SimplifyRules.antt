@@ -1,5 +1,5 @@
--- What Simplify makes of a node of an expression: operators with a literal. Trees over arrays are
--- not simplified.
+-- The results of Simplify for a node of an expression: operators with a literal. Trees over arrays
+-- are not simplified.
 use Rattle.std.specs.Prelude.{Option, Some, None, Bool, true, false, ◌&&◌, ◌||◌, if◌then◌else◌}
 use Rattle.std.specs.Option.{option_or}
 use Rattle.vortex_types.specs.LogicalTypes.{bool_type, is_nullable}
@@ -17,7 +17,7 @@ use Rattle.vortex_interface.specs.ComparisonTrees.{operated}
 use Rattle.vortex_interface.specs.Rules.{Rules, truth_constant, constant_truth}
 use Rattle.vortex_interface.specs.Rules.{is_nullable_tree, widened}
 
--- null, of a type that has null, as the type of each null scalar does
+-- null, of a type that has null, like each null scalar
 abbrev pub is_null_scalar : Option ScalarView → Bool
 is_null_scalar None = false
 is_null_scalar (Some s) = is_null s.value && is_nullable s.dtype
@@ -43,7 +43,7 @@ abbrev pub left_of_nulls : {V O : Type 0} → Tree V O → Tree V O → Option (
 left_of_nulls x y = if is_null_literal x && is_null_literal y then Some x else None
 
 module _ {V O : Type 0} (m : Meaning V O) where
-  -- beside a literal that does not decide, the other operand
+  -- with a literal that does not decide, the other operand
   abbrev pub undecided : Operator → Bool → Option Bool → Tree V O → Option (Tree V O)
   undecided op n None other = None
   undecided op n (Some b) other = if decides op b then None else Some (widened m n other)
@@ -72,12 +72,12 @@ module _ {V O : Type 0} (m : Meaning V O) where
   simplify_operator Div x y = None
   simplify_operator comparison x y = simplify_comparison x y
 
-  -- the rules for a shipped function: operators alone have some
+  -- the rules for a shipped function: only operators have some
   abbrev pub simplify_shipped : Shipped → Trees V O → Option (Tree V O)
   simplify_shipped (Binary op) (tree x (tree y no_trees)) = simplify_operator op x y
   simplify_shipped s ts = None
 
-  -- what a node of an expression is simplified to, where a rule applies
+  -- the simplified node of an expression, if a rule applies
   abbrev pub simplify : Rules V O → Tree V O → Option (Tree V O)
   simplify r (leaf l) = None
   simplify r (constant s) = None

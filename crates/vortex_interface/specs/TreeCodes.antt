@@ -1,6 +1,5 @@
 -- The code of a tree, from those of a caller's functions and options: the tree is written as a list
--- of marks in post-order, which a stack machine turns back into it. No contract cites what stands
--- here.
+-- of marks in post-order, which a stack machine turns back into it. No contract cites this module.
 use Rattle.std.specs.Prelude.{◌≡◌, ◌⊎◌, refl, ℕ, zero, List, [], ◌∷◌}
 use Rattle.std.proofs.Common.{◌∙◌, ap, inl, inr}
 use Rattle.std.specs.Coded.{Coded, code_by, coded×, coded⊎, coded_ℕ, coded_list}
@@ -90,7 +89,7 @@ module _ {V O : Type 0} where
       let kinds = coded⊎ coded_leaf inner in
       code_by (Leaf ⊎ (ScalarView ⊎ (Function V O ⊎ ℕ))) kinds mark_to mark_from mark_back
 
-  -- the marks of a tree, before those of the rest
+  -- the marks of a tree, followed by those of the rest
   abbrev mutual
     pub marks : Tree V O → List (Mark V O) → List (Mark V O)
     marks (leaf l) rest = leaf_mark l ∷ rest
@@ -101,7 +100,7 @@ module _ {V O : Type 0} where
     all_marks no_trees rest = end_mark ∷ rest
     all_marks (tree t ts) rest = marks t (all_marks ts (more_mark ∷ rest))
 
-  -- a stack of trees after one mark; a row of trees stands there as a call of Not
+  -- a stack of trees after one mark; a row of trees is represented by a call of Not
   abbrev pub as_call : Function V O → List (Tree V O) → List (Tree V O)
   as_call f (call g ts ∷ stack) = call f ts ∷ stack
   as_call f stack = stack

@@ -5,7 +5,7 @@ use Rattle.vortex_columns.specs.ColumnView.{ColumnView}
 use Rattle.vortex_types.specs.ScalarView.{ScalarView}
 use Rattle.vortex_interface.specs.Functions.{Function}
 
--- a leaf of an expression is a place in a scope, with a name and a type; one of an array tree is
+-- a leaf of an expression is a place in a scope, with a name and a type; a leaf of an array tree is
 -- the column that it holds
 pub data Leaf : Type 0 where
   place : ℕ → List ℕ → LogicalType → Leaf

@@ -1,4 +1,5 @@
--- The validity of a node: a tree that says in each row whether the node's value is not null.
+-- The validity of a node: a tree that is true in each row where the node's value is not null, and
+-- false elsewhere.
 use Rattle.std.specs.Prelude.{ℕ, zero, suc, List, [], ◌∷◌, Option, Some, None, Bool, true, false}
 use Rattle.std.specs.Prelude.{not, map, length, if◌then◌else◌}
 use Rattle.std.specs.List.{list_any}
@@ -17,7 +18,7 @@ use Rattle.vortex_interface.specs.ComparisonTrees.{operated}
 use Rattle.vortex_interface.specs.Rules.{Rules, truth_constant, is_not_null_of, may_be_null}
 use Rattle.vortex_interface.specs.Rules.{is_nullable_tree}
 
--- the column of Bool without null that says of each row whether it is not null
+-- the column of Bool without null that is true in each row that is not null
 abbrev pub validity_column : ColumnView → ColumnView
 validity_column c =
     record {
@@ -34,7 +35,7 @@ column_validity all_valid c = truth_constant false true
 column_validity all_invalid c = truth_constant false false
 column_validity array c = leaf (held (validity_column c))
 
--- the column of an expression has no validity that a tree could say
+-- the column of an expression has no validity that is a tree
 abbrev pub leaf_validity : {V O : Type 0} → Leaf → Option (Tree V O)
 leaf_validity (place p name t) = None
 leaf_validity (held c) = Some (column_validity c.form c)
@@ -53,12 +54,12 @@ abbrev pub rounds : {V O : Type 0} → ℕ → List (Tree V O) → List (Tree V 
 rounds zero ts = ts
 rounds (suc n) ts = rounds n (one_round ts)
 
--- the first tree, and true if there is none
+-- the first tree, or true if there is none
 abbrev pub first_or_true : {V O : Type 0} → List (Tree V O) → Tree V O
 first_or_true [] = truth_constant false true
 first_or_true (t ∷ ts) = t
 
--- the trees joined by And in rounds until one is left, as is after no more rounds than there are
+-- the trees joined by And in rounds until one is left, which takes no more rounds than there are
 -- trees; true if there is none
 abbrev pub all_of : {V O : Type 0} → List (Tree V O) → Tree V O
 all_of ts = first_or_true (rounds (length ts) ts)
@@ -83,8 +84,8 @@ module _ {V O : Type 0} (m : Meaning V O) where
   abbrev pub union_child_validities : Trees V O → Tree V O
   union_child_validities ts = all_of (null_tests ts)
 
-  -- over children of these types: none where one is of type Null, nor where the call could be null
-  -- though no child is
+  -- over children of these types: none if one is of type Null, or if the call could be null though
+  -- no child is
   abbrev pub validity_over : Function V O → Trees V O → List LogicalType → Option (Tree V O)
   validity_over f ts types =
       if list_any is_null_type types then None
@@ -97,12 +98,13 @@ module _ {V O : Type 0} (m : Meaning V O) where
   validity_of_typed f ts None = None
   validity_of_typed f ts (Some types) = validity_over f ts types
 
-  -- the validity of a call of a strict function: all shipped functions have it, and a caller's may
+  -- the validity of a call of a strict function: of every shipped function, and perhaps of a
+  -- caller's
   abbrev pub default_validity : Function V O → Trees V O → Option (Tree V O)
   default_validity f ts =
       if function_strict m f then validity_of_typed f ts (tree_types m ts) else None
 
-  -- the rules of functions that have the default validity and no others
+  -- the rules of functions that have only the default validity
   abbrev pub default_rules : Rules V O
   default_rules =
       record {
@@ -111,7 +113,7 @@ module _ {V O : Type 0} (m : Meaning V O) where
         simplify_of = λ f o ts. None;
       }
 
-  -- the validity of a node, or none: a constant's is whether it is not null
+  -- the validity of a node, or none; for a constant, whether it is not null
   abbrev pub validity : Rules V O → Tree V O → Option (Tree V O)
   validity r (leaf l) = leaf_validity l
   validity r (constant s) = Some (truth_constant false (not (is_null s.value)))

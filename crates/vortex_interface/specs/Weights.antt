@@ -1,5 +1,5 @@
--- The weight of a tree, of which a rule over shipped functions takes some, and trees of shipped
--- functions alone.
+-- The weight of a tree, which every rule over shipped functions lowers, and trees of only shipped
+-- functions.
 use Rattle.std.specs.Prelude.{◌≡◌, ℕ, ◌+◌, ◌≤◌, min, Bool, Option, Some, ⊤}
 use Rattle.vortex_types.specs.LogicalTypes.{LogicalType}
 use Rattle.vortex_interface.specs.Meaning.{Meaning}
@@ -10,8 +10,8 @@ use Rattle.vortex_interface.specs.Trees.{Tree, leaf, constant, call, Trees, no_t
 use Rattle.vortex_interface.specs.Eval.{tree_type}
 use Rattle.vortex_interface.specs.Rules.{is_nullable_tree}
 
--- what a call of any function adds to the weight of its children, where the call is nullable and
--- where it is not
+-- what a call of any function adds to the weight of its children, if the call is nullable and if it
+-- is not
 abbrev pub added : {V O : Type 0} → Function V O → Bool → ℕ
 added (ours s) n = shipped_added s n
 added (custom f o) n = 1
@@ -27,11 +27,11 @@ module _ {V O : Type 0} (m : Meaning V O) where
     weights no_trees = 0
     weights (tree t ts) = weight t + weights ts
 
-  -- as 64 bits tell it: the greatest number of those where it is larger
+  -- saturated to 64 bits
   abbrev pub weight_told : Tree V O → ℕ
   weight_told t = min (weight t) 18446744073709551615
 
--- no function of a caller's is called
+-- no caller's function is called
 abbrev pub IsOurs : {V O : Type 0} → Function V O → Type 0
 IsOurs (ours s) = ⊤
 IsOurs (custom f o) = ⊥
@@ -42,20 +42,20 @@ abbrev mutual
   OnlyShipped (constant s) = ⊤
   OnlyShipped (call f ts) = IsOurs f × AllShipped ts
 
-  -- so in several trees
+  -- the same for several trees
   pub AllShipped : {V O : Type 0} → Trees V O → Type 0
   AllShipped no_trees = ⊤
   AllShipped (tree t ts) = OnlyShipped t × AllShipped ts
 
 module _ {V O : Type 0} (m : Meaning V O) where
-  -- the new tree has the old one's type, calls shipped functions alone, and weighs less by that
-  -- much or more
+  -- the new tree has the old one's type, calls only shipped functions, and weighs less by at least
+  -- that much
   pub record IsLighter (n : ℕ) (t u : Tree V O) : Type 0 where
     pub dtype : tree_type m u ≡ tree_type m t
     pub shipped : OnlyShipped u
     pub lighter : n + weight m u ≤ weight m t
 
-  -- a rule makes well-typed trees of shipped functions alone lighter
+  -- a rule makes well-typed trees of only shipped functions lighter
   abbrev pub Lightens : (Tree V O → Option (Tree V O)) → Type 0
   Lightens rule =
       (t u : Tree V O) (k : LogicalType) → tree_type m t ≡ Some k → OnlyShipped t

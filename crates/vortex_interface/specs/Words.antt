@@ -1,4 +1,4 @@
--- What the contracts of this crate name.
+-- The words that this crate's contracts use.
 pub use Rattle.vortex_errors.specs.Answers.{AnswersUnlessMemory}
 pub use Rattle.vortex_columns.specs.ColumnView.{ColumnView}
 pub use Rattle.vortex_columns.specs.Cells.{cell_value, sequence_value, sequence_values, IsCell}

@@ -34,7 +34,7 @@ impl<'a> Model for VecExecutionArgs<'a> {
 }
 
 impl<'a> VecExecutionArgs<'a> {
-    /// That each column has the row count is a condition.
+    /// Requires that each column has the row count.
     pub fn new(inputs: Vec<Cow<'a, Column>>, row_count: usize) -> VecExecutionArgs<'a>
         requires { AreOfLength row_count (map cow_value inputs.items) }
         ensures columns { result.columns ≡ map cow_value inputs.entry.items }

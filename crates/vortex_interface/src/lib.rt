@@ -1,5 +1,4 @@
-//! The interface of row functions, the inputs of their calls, and what follows from what functions
-//! mean.
+//! The interface of row functions, the inputs of their calls, and laws of what functions mean.
 #![tactic(auto)]
 
 pub mod args;

@@ -1,5 +1,5 @@
-//! The parts of a call's text, in the bytes of UTF-8, written behind what a text holds already. Each
-//! refuses for memory alone (E9).
+//! The parts of a call's text, in the bytes of UTF-8, appended to a string. Each fails only where
+//! memory runs out (E9).
 ghost use Rattle.std.specs.Prelude.{◌≡◌, map, string_bytes};
 ghost use Rattle.vortex_interface.specs.Words.{AnswersUnlessMemory, Appends, options_text, opening};
 ghost use Rattle.vortex_interface.specs.Words.{text_at};
@@ -17,7 +17,7 @@ pub(crate) fn write_opening(out: &mut String, id: &str, index: usize) -> VortexR
     Ok(())
 }
 
-/// The text of a function's options, where it is not empty.
+/// The text of a function's options, unless it is empty.
 pub(crate) fn write_options(out: &mut String, options: &str) -> VortexResult<()>
     ensures { AnswersUnlessMemory result (λ _. Appends out.old (options_text options.now) out.new) }
 {
@@ -28,7 +28,7 @@ pub(crate) fn write_options(out: &mut String, options: &str) -> VortexResult<()>
     Ok(())
 }
 
-/// The text of the argument of that place, where there is one.
+/// The text of the argument of that index, if there is one.
 pub fn argument_text(place: usize, children: &[String]) -> &str
     ensures { result.now ≡ text_at place (map string_bytes children.now) }
 {

@@ -26,7 +26,8 @@ pub trait ExecutionArgs {
 
     ghost rows: { Self → ℕ };
 
-    /// The input of that index, borrowed. E1 exactly from `num_inputs` on; takes no memory.
+    /// The input of that index, borrowed. E1 exactly for indices from `num_inputs` on; allocates
+    /// nothing.
     fn get(&self, index: usize) -> VortexResult<&Column>
         ensures input { MatchResult result
             (λ c. slice_get (inputs self.now) index ≡ Some c.now)
@@ -42,36 +43,36 @@ pub trait ExecutionArgs {
         ensures { result ≡ rows self.now };
 }
 
-/// A function of rows, with options of its own type.
+/// A function of rows, with its own type of options.
 ///
-/// What it means is a ghost member: the row meaning of argument types and values, the type of its
-/// answer, its arity, names and marks. The calls answer what the member says, and the member is
-/// lawful. Further members say the bytes of its options and the text of its calls; where an
-/// implementation leaves these out, there are no bytes, and the text is the default.
+/// Its meaning is a ghost member: the row meaning of argument types and values, its return type,
+/// arity, names and marks. The calls return what the member says, and the member is lawful.
+/// Further members are the bytes of its options and the text of its calls. Without these there
+/// are no bytes, and the text is the default.
 pub trait ScalarFnVTable: Sized + Clone + Drop {
     type Options: Clone + Debug + Display + Eq + Hash + Drop;
 
     ghost meaning: { Meaning Self Self.Options };
 
-    /// What calls of the function are rewritten to. `ScalarFnRules` above has the calls that answer
-    /// it; it stands here since a tree's mark, that no rule applies in it, speaks of it.
+    /// The rules for calls of the function. `ScalarFnRules` above has the calls that return them;
+    /// they are here since the mark of a tree to which no rule applies needs them.
     ghost rules: { Rules Self Self.Options };
 
-    /// The bytes that options are written as, where the function writes them.
+    /// The bytes of options, if the function writes them.
     ghost option_bytes: { Self → Self.Options → Option (List ℕ) } = { λ _ _. None };
 
-    /// The options that bytes are read as, where there are such.
+    /// The options that bytes are read as, if there are any.
     ghost options_read: { Self → List ℕ → Option Self.Options } = { λ _ _. None };
 
-    /// What may stand in the text of a call before an argument beside the default, and at the end.
+    /// The text that a call may have before an argument, other than the default, and at the end.
     ghost own_parts: { Self → Self.Options → Parts } = { λ _ _ _ _ _ _. ⊥ };
 
     /// The function's identity, as `vortex.binary`.
     fn id(&self) -> ScalarFnId
         ensures { result.now ≡ meaning.id self.now };
 
-    /// The options as bytes, where the function writes them; the default writes none. Refuses for
-    /// memory alone.
+    /// The options as bytes, if the function writes them; the default writes none. Fails only where
+    /// memory runs out.
     fn serialize(&self, alloc: Global, options: &Self::Options) -> VortexResult<Option<Vec<u8>>>
         ensures { AnswersUnlessMemory result
             (MayWriteBytes (option_bytes self.now options.now)) }
@@ -79,7 +80,7 @@ pub trait ScalarFnVTable: Sized + Clone + Drop {
         Ok(None)
     }
 
-    /// The options that the bytes are read as, or E8. The default reads none.
+    /// The options read from the bytes, or E8. The default reads none.
     fn deserialize(&self, alloc: Global, bytes: &[u8]) -> VortexResult<Self::Options>
         ensures { MayReadOptions (options_read self.now bytes.now) result }
     {
@@ -90,13 +91,11 @@ pub trait ScalarFnVTable: Sized + Clone + Drop {
     fn arity(&self, options: &Self::Options) -> Arity
         ensures { result ≡ meaning.arity self.now options.now };
 
-    /// The name of an argument, for every index; past the arguments that a call has, any name
-    /// serves.
+    /// The name of an argument, for every index; past the arguments of a call, any name is allowed.
     fn child_name(&self, options: &Self::Options, index: usize) -> ChildName
         ensures { result.now ≡ meaning.child_name self.now options.now index };
 
-    /// The type of the answer for argument types of a fitting count; E3 exactly where they are not
-    /// accepted.
+    /// The return type for argument types of a fitting count; E3 exactly if they are not accepted.
     fn return_dtype(
         &self,
         alloc: Global,
@@ -106,7 +105,7 @@ pub trait ScalarFnVTable: Sized + Clone + Drop {
         requires { IsTrue (fits (meaning.arity self.now options.now) (length types.now)) }
         ensures { AnswersType meaning self.now options.now types.now result };
 
-    /// The answer over inputs of accepted types: a column of the type returned, with each row's
+    /// The result over inputs of accepted types: a column of the return type, with each row's
     /// value, or the fault of a row.
     fn execute<A: ExecutionArgs>(
         &self,
@@ -121,12 +120,12 @@ pub trait ScalarFnVTable: Sized + Clone + Drop {
         ensures { AnswersCall meaning self.now options.now
             (A.inputs args.now) (A.rows args.now) result };
 
-    /// Appends what stands in the text of a call of `count` arguments before the one that is
-    /// printed `index`-th, and answers which argument that is. At the end, where `index` is
-    /// `count`, it appends what ends the call, and answers `count`. Refuses for memory alone.
+    /// Appends the text of a call of `count` arguments that comes before the one that is printed
+    /// `index`-th, and returns which argument that is. If `index` is `count`, it appends the end of
+    /// the call, and returns `count`. Fails only where memory runs out.
     ///
-    /// The default is the text `id(a, b)`; where the text of the options is not empty, `, opts=`
-    /// and that text stand before the `)`.
+    /// The default is the text `id(a, b)`; if the text of the options is not empty, `, opts=` and
+    /// that text come before the `)`.
     fn write_before(
         &self,
         alloc: Global,
@@ -150,9 +149,9 @@ pub trait ScalarFnVTable: Sized + Clone + Drop {
         Ok(index)
     }
 
-    /// Appends the text of a call, by the texts of its arguments, whose count fits: for each what
-    /// stands before it, the default or the function's own, and then its own. Refuses for memory
-    /// alone. The default goes by `write_before`; the shipped functions have an exact clause.
+    /// Appends the text of a call, from the texts of its arguments, whose count fits: for each the
+    /// text before it, default or the function's own, then its own. Fails only where memory runs
+    /// out. The default uses `write_before`; the shipped functions have an exact clause.
     fn fmt_sql(
         &self,
         alloc: Global,
@@ -172,7 +171,7 @@ pub trait ScalarFnVTable: Sized + Clone + Drop {
         Ok(())
     }
 
-    /// Whether a null argument makes the answer null.
+    /// Whether a null argument makes the result null.
     fn is_strict(&self, options: &Self::Options) -> bool
         ensures { result ≡ meaning.strict self.now options.now };
 

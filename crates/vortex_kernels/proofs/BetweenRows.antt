@@ -25,7 +25,7 @@ use Rattle.vortex_kernels.specs.Kleene.{AnswersKleene, RefusesOperator}
 use Rattle.vortex_kernels.specs.Truths.{present, truth_at}
 use Rattle.vortex_columns.specs.ValidRows.{IsJointValidity}
 
--- the comparison of two values, as a bit beside whether both are there
+-- the comparison of two values, as a bit and whether both are present
 compared_at : (op : CompareOperator) (v w : Value) (b : Bool)
     → (is_null v ≡ false → is_null w ≡ false → b ≡ holds op (compare_values v w))
     → present (not (is_null v || is_null w)) b ≡ truth_of (comparison_value op v w)
@@ -50,7 +50,7 @@ are_compared op n l r bits v held valid = record {
       (held.each i lt);
 }
 
--- the sides the other way round
+-- the sides swapped
 pub turned : (op : CompareOperator) (v w : Value)
     → holds (compare_swap op) (compare_values w v) ≡ holds op (compare_values v w)
 turned op v w =

@@ -1,4 +1,4 @@
--- Rows beside both of their bounds, tested at once, and three scalars.
+-- Rows compared with both of their bounds at once, and three scalars.
 use Rattle.std.proofs.Common.{◌≡◌, ◌∙◌, ℕ, ◌<◌, Bool, true, false, List, length, Option, Some, None}
 use Rattle.std.proofs.Common.{refl, sym, ap, subst, cond, arith, Result}
 use Rattle.std.specs.Prelude.{◌&&◌, ◌||◌, not, is_some, IfSome, slice_index_or}
@@ -34,7 +34,7 @@ use Rattle.vortex_kernels.proofs.Comparing.{constant_row, constant_has_rows}
 use Rattle.vortex_kernels.proofs.KleeneBits.{both_some}
 use Rattle.vortex_kernels.proofs.RowLemmas.{bool_answers}
 
--- the order of each row and its bound tells the comparison
+-- the order of each row and its bound decides the comparison
 pub beside_held : (test : ℕ → Bool) (op : CompareOperator) (order : ℕ → Ordering)
     (xs bounds : List Value) (n : ℕ) (bits : List Bool) → n ≡ length xs
     → ((i : ℕ) → i < length xs → IsOrderAt xs bounds i (order i))
@@ -73,7 +73,7 @@ both_truths true true = refl
 both_truths true false = refl
 both_truths false b = refl
 
--- a value beside two bounds that are there
+-- a value and two bounds that are present
 between_at : (options : BetweenOptions) (low x high : Value) (b : Bool)
     → is_null low ≡ false → is_null high ≡ false
     → (is_null x ≡ false → b
@@ -128,7 +128,7 @@ bounded_answers options x lower upper nullable bits v r e g low high is told val
     (slice_index_or bits i false) l h (λ p. told.each i lt p l h))
     answered)
 
--- three scalars: nothing is said only where one of them has null
+-- three scalars: null only where one of them has null
 compared_some : (op : CompareOperator) (v w : Value) → is_null v ≡ false → is_null w ≡ false
     → is_some (truth_of (comparison_value op v w)) ≡ true
 compared_some op v w p q =

@@ -1,4 +1,4 @@
--- Rows that are calculated one by one, and the column that is made of the results.
+-- Rows calculated one by one, and the column of the results.
 use Rattle.std.proofs.Common.{◌≡◌, ◌⊎◌, inl, inr, ℕ, ◌+◌, ◌<◌, Bool, true, false, Option, Some}
 use Rattle.std.proofs.Common.{None, List, [], ◌∷◌, ◌++◌, length, map, refl, sym, ap, subst, ◌∙◌}
 use Rattle.std.proofs.Common.{arith, length-append, cond}
@@ -62,7 +62,7 @@ results_more p exact n ns o z h same answered = record {
         rw (q, ← h.count, get_or-last)
         (rw h.count (subst (λ (x : Option ℤ). AnswersExact p x z) same answered))
 
--- one more row's evidence
+-- one more row's flag
 pub tells_more : (p : PType) (exact : ℕ → Option ℤ) (n : ℕ) (told e joined : Bool) (o : Option ℤ)
     → TellsFaults p exact n told → o ≡ exact n → FalseIff e (FitsResult p o)
     → joined ≡ (told || e) → TellsFaults p exact (n + 1) joined
@@ -116,7 +116,7 @@ held_none p (Some z) fault = by (is_outside (least_of p) (greatest_of p) z) refl
     by true e = refl
     by false e = absurd (fault (inside_is (least_of p) (greatest_of p) z e))
 
--- beside null there is no fault
+-- a null operand is no fault
 pub null_right : (op : NumericOperator) (p : PType) (v : Value)
     → arithmetic_value op p v null ≡ Some null
 null_right op p null = refl
@@ -126,7 +126,7 @@ null_right op p (text bs) = refl
 null_right op p (bytes bs) = refl
 null_right op p (list vs) = refl
 
--- the value of a row, by what is known of each side
+-- the value of a row, from what is known of each side
 value_at : (op : NumericOperator) (p : PType) (exact : ℤ → ℤ → Option ℤ) → IsExactOf op exact
     → (a b z : ℤ) (v w : Value) → IsUnlessNull v (number a) → IsUnlessNull w (number b)
     → (is_null v ≡ false → is_null w ≡ false → FitsResult p (exact a b))
@@ -236,7 +236,7 @@ some_is P (Some y) x e h =
     let same : y ≡ x = cc in
     subst P same h
 
--- evidence that equals the default
+-- a flag that equals the default
 pub no_fault : (unlike same fault : Bool) → unlike ≡ not same → same ≡ not fault → unlike ≡ false
     → fault ≡ false
 no_fault unlike same false e f h = refl
@@ -244,7 +244,7 @@ no_fault unlike same true e f h =
     let turned : unlike ≡ true = e ∙ ap not f in
     cc
 
--- a constant column of integers without one is null
+-- a constant column of integers that has no integer is null
 typed_null : (p : PType) (t : LogicalType) (v : Value) → IsIntegerType p t → HasType t v
     → ((z : ℤ) → v ≡ number z → ¬ FitsPType p z) → (is_nullable t ≡ true) × (v ≡ null)
 typed_null p (integer_type q n) null is typed none = (typed, refl)
@@ -287,7 +287,7 @@ null_where_none p z s c e typed is None Q fault =
     subst (λ (x : ℤ). ¬ FitsPType p x) same fault)
 null_where_none p z s c e typed is (Some x) Q found = tt
 
--- a cell of no integer has no number
+-- the cell of a value that is no integer has no number
 pub cell_number : (k : Cell) → ((x : ℤ) → k ≡ cell.Int x → ⊥) → (z : ℤ)
     → cell_value k ≡ number z → ⊥
 cell_number cell.Null none z e = cc

@@ -1,4 +1,4 @@
--- The rows of a column of Bool, kept.
+-- The rows of a column of Bool, unchanged.
 use Rattle.std.proofs.Common.{◌≡◌, ℕ, ◌<◌, true, false, List, length, refl, sym, arith, cond}
 use Rattle.std.specs.Prelude.{Bool, None, not, slice_index_or}
 use Rattle.vortex_types.specs.LogicalTypes.{LogicalType, bool_type, is_bool_type}
@@ -7,7 +7,7 @@ use Rattle.vortex_types.specs.Values.{truth_of}
 use Rattle.vortex_types.specs.Typing.{HasType}
 use Rattle.vortex_columns.specs.ColumnView.{ColumnView, row, AreBits}
 
--- what is no truth value is null
+-- a value that is no truth value is null
 null_of_bool : (n : Bool) (v : Value) → HasType (bool_type n) v → truth_of v ≡ None → null ≡ v
 null_of_bool n null h e = refl
 null_of_bool n (truth b) h e = cc

@@ -1,4 +1,4 @@
--- Rows that are compared one by one, and the column that is made of the answers.
+-- Rows compared one by one, and the column of the results.
 use Rattle.std.proofs.Common.{◌≡◌, ℕ, ◌<◌, Bool, true, false, List, [], length, refl, sym, ap}
 use Rattle.std.proofs.Common.{subst, ◌∙◌, arith, cond}
 use Rattle.std.specs.Prelude.{◌||◌, nat_eq, not, ℤ, Option, Some, None, IfSome, MatchOption}
@@ -33,7 +33,7 @@ use Rattle.vortex_kernels.specs.Comparison.{compared_scalar, are_comparable, is_
 use Rattle.vortex_kernels.specs.Comparison.{is_settled, AnswersCompare, AreHeld, IsConstantOf}
 use Rattle.vortex_kernels.specs.Comparison.{IsConstantBytes, IsOrderAt, AreComparisons}
 
--- the orders tell the comparisons
+-- the orders decide the comparisons
 held_compares : (op : CompareOperator) (order : ℕ → Ordering) (ls rs : List Value)
     (bits : List Bool)
     → ((i : ℕ) → i < length ls → IsOrderAt ls rs i (order i)) → AreHeld op order (length ls) bits
@@ -52,7 +52,7 @@ answers_compare op order ls rs r orders =
     AnswersUnlessMemory-weaker r (AreHeld op order (length ls)) (AreComparisons op ls rs)
     (λ bits h. held_compares op order ls rs bits orders h)
 
--- what a formula says in words is what the comparison says of the order
+-- a formula over words equals the comparison of the order
 pub answers_held : (op : CompareOperator) (order : ℕ → Ordering) (says : ℕ → Bool) (m n : ℕ)
     (r : Result (List Bool) VortexError) → m ≡ n → ((i : ℕ) → says i ≡ holds op (order i))
     → AnswersUnlessMemory r (AreRows m says) → AnswersUnlessMemory r (AreHeld op order n)
@@ -118,7 +118,7 @@ module _ (l r : ColumnView) (same : length l.rows ≡ length r.rows) where
       λ j. compare_values (sym (a.each i (omega (arith, a.count)) p) j)
       (sym (b i (omega (arith, same))) j)
 
--- the comparison of two values, by what is known of each
+-- the comparison of two values, from what is known of each
 pub comparison_at : (op : CompareOperator) (v w : Value) (b : Bool)
     → (is_null v ≡ false → is_null w ≡ false → b ≡ holds op (compare_values v w))
     → cond (not (is_null v || is_null w)) (truth b) null ≡ comparison_value op v w
@@ -178,7 +178,7 @@ pub null_rows : (s : ScalarView) (c : ColumnView) → c ≡ constant_column s (l
     → is_null s.value ≡ true → IsConstantOf null c
 null_rows s c e h i lt = constant_row s c e i lt ∙ null_is s.value h
 
--- settled, or of types that agree, where two scalars are comparable
+-- decided early, or of types that agree, where two scalars are comparable
 settled_or : (z p q x : Bool) → ((p || q) || x) ≡ true → ((z || (p || q)) || x) ≡ true
 settled_or true p q x h = refl
 settled_or false p q x h = h

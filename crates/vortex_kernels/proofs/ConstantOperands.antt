@@ -1,4 +1,4 @@
--- Rows that are calculated by one number.
+-- Rows calculated with a constant.
 use Rattle.std.proofs.Common.{◌≡◌, ◌∙◌, ℕ, ℤ, pos, ◌<◌, List, length, map, get_or, sym, ap}
 use Rattle.std.specs.Prelude.{slice_index_or}
 use Rattle.std.proofs.lemmas.List.{get_or-map}

@@ -26,7 +26,7 @@ use Rattle.vortex_kernels.specs.Numeric.{AnswersNumeric, RefusesNumeric, faulty,
 use Rattle.vortex_kernels.proofs.Calculating.{held_result, held_none}
 use Rattle.vortex_kernels.proofs.Comparing.{constant_has_rows}
 
--- the integer type of both sides, in its form of any nullability
+-- the integer type of both sides, with any nullability
 integer_form : (t u : LogicalType) (p : PType) (m : Bool) → integer_of_both t u ≡ Some p
     → with_nullability t m ≡ integer_type p m
 integer_form (integer_type q n) (integer_type r k) p m e = by (ptype_eq q r) e
@@ -51,7 +51,7 @@ either_form l r p t u m x y types same is either left right =
 pub int_value : (z : ℤ) → value_of (Int z) ≡ number z
 int_value z = search (rules, the_lemmas)
 
--- evidence that differs from the default
+-- a flag that differs from the default
 pub is_told : (unlike same fault : Bool) → unlike ≡ not same → same ≡ not fault → unlike ≡ true
     → fault ≡ true
 is_told unlike same true e f h = refl

@@ -1,4 +1,4 @@
--- Byte strings are equal exactly where their order says so.
+-- Byte strings are equal exactly where their order is Equal.
 use Rattle.std.proofs.Common.{◌≡◌, ℕ, Bool, true, false, IsTrue, List, [], ◌∷◌, refl, sym, ap, ◌∙◌}
 use Rattle.std.specs.Prelude.{◌↔◌}
 use Rattle.std.specs.Cmp.Lexicographic.{slice_cmp}

@@ -1,4 +1,4 @@
--- Rows that fault, found among bits.
+-- Rows that fault, searched among bits.
 use Rattle.std.proofs.Common.{◌≡◌, ◌⊎◌, inl, inr, ℕ, ◌+◌, ◌*◌, ◌-◌, ◌^◌, ◌<◌, Bool, true}
 use Rattle.std.proofs.Common.{false, Option, Some, None, List, length, refl, sym, ap, ◌∙◌, arith}
 use Rattle.std.proofs.Common.{zero-add}
@@ -22,7 +22,7 @@ use Rattle.vortex_kernels.specs.Numeric.{IsValidPair}
 use Rattle.vortex_kernels.specs.Faults.{is_faulty, IsOfBoth, FindsBoth, FindsFault}
 use Rattle.vortex_kernels.proofs.Calculating.{within_not, inside_is}
 
--- the test tells where the integer type does not hold the result
+-- the test is whether the integer type does not hold the result
 fits_unless : (p : PType) (o : Option ℤ) → is_faulty p o ≡ false → FitsResult p o
 fits_unless p None e = cc
 fits_unless p (Some z) e = inside_is (least_of p) (greatest_of p) z e
@@ -33,7 +33,7 @@ fault_not p (Some z) e fits =
     let held : is_faulty p (Some z) ≡ false = within_not (least_of p) (greatest_of p) z fits in
     cc
 
--- what is found by tests that say the same of the first n
+-- the result of a search, for tests that agree on the first n
 finds_same : (n : ℕ) (f f' h h' : ℕ → Bool) → ((i : ℕ) → i < n → f i ≡ f' i)
     → ((i : ℕ) → i < n → h i ≡ h' i) → (o : Option ℕ) → FindsBoth n f h o → FindsBoth n f' h' o
 finds_same n f f' h h' e d None none = λ i w.
@@ -49,7 +49,7 @@ finds_same n f f' h h' e d (Some i) w = record {
   right = sym (d i w.inside) ∙ w.right;
 }
 
--- what is found in lists that are borrowed whole
+-- the result of a search in whole borrowed lists
 pub finds_listed : (bits valid s v : List Bool) (w : ValidityView) (m n : ℕ) (o : Option ℕ)
     → AreRows m (λ i. slice_index_or bits (0 + i) false) s → m ≡ length bits
     → AreRows n (λ i. slice_index_or valid (0 + i) false) v → n ≡ length valid
@@ -71,7 +71,7 @@ finds_listed bits valid s v w m n o on_bits all_bits on_valid all_valid fits sam
     (λ k. FindsBoth k (λ i. slice_index_or s i false) (λ i. slice_index_or v i false) o)
     (on_bits.count ∙ all_bits) found)
 
--- a place of word k, where places before it hold none
+-- an index in word k, if there is none before
 place_of : (k i : ℕ) → i < 64 * (k + 1)
     → (i < 64 * k) ⊎ ((j : ℕ) × (j < 64) × (i ≡ 64 * k + j))
 place_of k i lt = elim (cases_lt i (64 * k)) [
@@ -92,19 +92,19 @@ neither true b e = cc
 bit_of_zero : (j : ℕ) → bit 0 j ≡ false
 bit_of_zero j = ap (λ n. nat_eq n 1) (bit_at-zero j)
 
--- a place that is read as set is in the list
+-- an index whose bit is set is in the list
 inside_where_set : (s : List Bool) (i : ℕ) → slice_index_or s i false ≡ true → i < length s
 inside_where_set s i set = elim (cases_lt i (length s)) [
   | inl lt ↦ lt
   | inr le ↦ let clear = past s i le in cc
 ]
 
--- 64 places of two lists, read as words
+-- 64 items of two lists, read as words
 module _ (left right : List Bool) (k a b : ℕ)
     (on_left : (j : ℕ) → j < 64 → bit a j ≡ slice_index_or left (64 * k + j) false)
     (on_right : (j : ℕ) → j < 64 → bit b j ≡ slice_index_or right (64 * k + j) false)
   where
-    -- no place is set in both where the words have no bit in common
+    -- no index is set in both where the words have no bit in common
     pub none_more : bit_and a b ≡ 0
         → ((i : ℕ) → ¬ IsOfBoth (64 * k) (λ i. slice_index_or left i false)
         (λ i. slice_index_or right i false) i)
@@ -124,7 +124,7 @@ module _ (left right : List Bool) (k a b : ℕ)
           cc
     ]
 
-    -- the lowest bit in common is a place that is set in both
+    -- the lowest common bit is an index that is set in both
     pub found_in_word : (n : ℕ) → 0 < bit_and a b → bit_and a b < 2 ^ 64
         → length left ≡ n
         → IsOfBoth n (λ i. slice_index_or left i false) (λ i. slice_index_or right i false)
@@ -142,7 +142,7 @@ module _ (left right : List Bool) (k a b : ℕ)
           right = sym (on_right j lowest.0) ∙ each.1;
         }
 
--- a row that faults, found among the rows of which each bit says whether it faults
+-- a row that faults, found among rows with a bit for each that faults
 pub finds_fault : (p : PType) (exact : ℕ → Option ℤ) (l r : ColumnView) (nullable : Bool)
     (v : ValidityView) (bits : List Bool) (o : Option ℕ)
     → AreRows (length l.rows) (λ i. is_faulty p (exact i)) bits → IsJointValidity nullable l r v

@@ -1,5 +1,4 @@
--- Records compared a field at a time: what the words say, and that the first field that differs
--- decides.
+-- Records compared a field at a time: the words mean, and the first different field decides.
 use Rattle.std.proofs.Common.{◌≡◌, ℕ, zero, suc, ◌<◌, ◌^◌, ◌-◌, ◌+◌, Bool, true, false, cond}
 use Rattle.std.proofs.Common.{List, length, refl, sym, ap, ◌∙◌, arith, bit_and, bit_or, w64}
 use Rattle.std.specs.Prelude.{◌&&◌, ◌||◌, not, slice_index_or}
@@ -66,7 +65,7 @@ above_null (text bs) e = refl
 above_null (bytes bs) e = refl
 above_null (list vs) e = refl
 
--- where either value is null, which of them is tells their order
+-- where either value is null, nullness decides their order
 pub nulls_least : (op : CompareOperator) (v w : Value) (p q b s : Bool) → p ≡ not (is_null v)
     → q ≡ not (is_null w)
     → (is_null v ≡ false → is_null w ≡ false → b ≡ holds op (compare_values v w))
@@ -110,7 +109,7 @@ nulls_least_rows op ls rs p q s says values bits same left right held reads form
       (right i lt) (λ e g. reads i lt ∙ held.each i lt e g) (formula (p i) (q i));
 }
 
--- ---- what differs, and the rest
+-- ---- different fields, and the rest
 
 same_choice : (op : CompareOperator) (o : Ordering) (e r u x : Bool) → e ≡ is_eq o → r ≡ x
     → (is_eq o ≡ false → u ≡ holds op o) → cond e r u ≡ cond (is_eq o) x (holds op o)
@@ -134,7 +133,7 @@ joined_rows op order n eq rs un x bits equal rest unequal are = record {
       ∙ same_choice op (order i) (eq i) (rs i) (un i) (x i) (equal i lt) (rest i lt) (unequal i lt);
 }
 
--- a comparison that only asks whether they differ
+-- a comparison that only tests whether they differ
 pub unequal_alike : (op : CompareOperator) (o : Ordering) (b : Bool) → b ≡ holds op Less
     → holds op Less ≡ holds op Greater → is_eq o ≡ false → b ≡ holds op o
 unequal_alike op Less b e same h = e

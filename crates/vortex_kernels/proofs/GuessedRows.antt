@@ -1,4 +1,4 @@
--- Rows whose results are guessed.
+-- Rows with estimated results.
 use Rattle.std.proofs.Common.{◌≡◌, ◌∙◌, ℕ, ◌+◌, ◌-◌, ◌≤◌, Bool, true, false, Option, Some, List}
 use Rattle.std.proofs.Common.{[], ◌∷◌, ◌++◌, length, take, drop, arith}
 use Rattle.std.proofs.lemmas.List.{length-take-le, length-drop}
@@ -13,7 +13,7 @@ or_false : (b : Bool) → b ≡ (b || false)
 or_false true = refl
 or_false false = refl
 
--- one more guess, unless it or one before is off
+-- one more estimate, unless one is wrong
 pub one_more_guess : (p : PType) (exact : ℕ → Option ℤ) (n m : ℕ) (ns : List ℤ) (o : Option ℤ)
     (z : ℤ) (told off here : Bool) → m ≡ n + 1 → o ≡ exact n → (here ≡ false → Some z ≡ o)
     → (here ≡ false → FitsResult p o) → (off || here) ≡ false

@@ -1,4 +1,4 @@
--- Kleene's tables in words: what the formulas say of two truth values, or of null.
+-- Kleene's tables in words: the formulas for two truth values, or null.
 use Rattle.std.proofs.Common.{◌≡◌, ◌∙◌, ℕ, Bool, true, false, Option, Some, None, refl, ap}
 use Rattle.std.proofs.Common.{sym, bit_and, bit_or}
 use Rattle.std.specs.Prelude.{◌&&◌, ◌||◌, is_some}
@@ -16,7 +16,7 @@ pub present_is : (o : Option Bool) (v b : Bool) → v ≡ is_some o → IsValueO
 present_is None v b e h = ap (λ p. present p b) e
 present_is (Some x) v b e h = ap (λ p. present p b) e ∙ ap Some h
 
--- there is one where both sides have one, or one side has one that decides
+-- the result is present where both sides are, or one side decides
 valid_by : (op : Operator) (a p b q : Bool) → is_boolean op ≡ true
     → ((p && q) || ((p && decides op a) || (q && decides op b)))
     ≡ is_some (kleene op (present p a) (present q b))
@@ -42,7 +42,7 @@ valid_by Or a false false true h = refl
 valid_by Or a false false false h = refl
 valid_by op a p b q h = cc
 
--- the same in words, where the first two tell what decides
+-- the same in words, where the first two are what decides
 pub valid_word : (op : Operator) (d e l p r q j : ℕ) → is_boolean op ≡ true
     → bit d j ≡ decides op (bit l j) → bit e j ≡ decides op (bit r j)
     → bit (bit_or (bit_and p q) (bit_or (bit_and p d) (bit_and q e))) j
@@ -78,7 +78,7 @@ other_is_or And h n = absurd (n refl)
 other_is_or Or h n = refl
 other_is_or op h n = cc
 
--- the table of two truth values has one
+-- the result for two truth values is present
 pub both_some : (op : Operator) (a b : Option Bool) → is_boolean op ≡ true → is_some a ≡ true
     → is_some b ≡ true → is_some (kleene op a b) ≡ true
 both_some op (Some a) (Some b) h p q = sym (valid_by op a true b true h)

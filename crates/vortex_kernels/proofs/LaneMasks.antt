@@ -1,4 +1,4 @@
--- What the processor's comparison of 64 lanes tells of the integers in them.
+-- The processor's comparison of 64 lanes, for the integers in them.
 use Rattle.std.proofs.Common.{◌≡◌, ℕ, ◌-◌, ◌^◌, ◌%◌, ◌<◌, ◌≤◌, Bool, true, false, cond, nat_eq, eqb}
 use Rattle.std.proofs.Common.{ltb, refl, sym, map, ap, ◌∙◌, subst, arith, get_or, List, length, take}
 use Rattle.std.proofs.Common.{replicate, ℤ, pos, FitsSigned, eq-eqb, eqb-true, zero, suc, ◌≤ℤ◌}
@@ -24,20 +24,20 @@ one_is : (b : Bool) → nat_eq (cond b 1 0) 1 ≡ b
 one_is true = refl
 one_is false = refl
 
--- the bits of a word that reads what a test says of each two lanes
+-- the bits of a word of a test of each two lanes
 abbrev pub Reads : {X : Type 0} → (X → X → Bool) → (List X → List X → ℕ) → Type 0
 Reads {X} t word =
     (xs ys : List X) → length xs ≡ 64 → length ys ≡ 64
     → word xs ys ≡ mask_l (zip2 t xs ys) % 2 ^ 64
 
--- the top bits of lanes that are all ones where the test says yes
+-- the top bits of lanes that are all ones where the test is true
 pub masked : {X : Type 0} (w : Width) (t : X → X → Bool)
     → Reads t
     (λ xs ys.
     mask_l (map (top (hbits w)) (zip2 (λ a b. cond (t a b) (2 ^ bits w - 1) 0) xs ys)) % 2 ^ 64)
 masked w t xs ys e f = ap (λ m. mask_l m % 2 ^ 64) (tops_compared w t xs ys)
 
--- lanes of 64 bits that are first made bytes
+-- lanes of 64 bits that are narrowed to bytes first
 abbrev negative : ℕ → ℕ → ℕ
 negative m z = cond (int_lt (to_z w64 m) (to_z w64 z)) (2 ^ 64 - 1) 0
 
@@ -80,7 +80,7 @@ lanes_fit t [] ys = tt
 lanes_fit t (x ∷ xs) [] = tt
 lanes_fit t (x ∷ xs) (y ∷ ys) = (lane_fits (t x y), lanes_fit t xs ys)
 
--- the vectors the other way round
+-- the vectors swapped
 zip2_turned : {X : Type 0} (t : X → X → Bool) (xs ys : List X)
     → zip2 t ys xs ≡ zip2 (λ a b. t b a) xs ys
 zip2_turned t [] [] = refl
@@ -104,7 +104,7 @@ compared t word reads d xs ys e f j lt =
     ∙ one_is _
     ∙ get_or-zip2 t xs ys j d d false (omega (arith, e)) (omega (arith, f))
 
--- the order of two numbers tells which is less, and whether they are the same
+-- the order of two numbers decides which is less, and whether they are equal
 pub less_is : (a b : ℤ) → int_lt a b ≡ is_lt (int_cmp a b)
 less_is a b = grind (arith, ints)
 
@@ -126,7 +126,7 @@ greater_unsigned a b = greater_is (pos a) (pos b)
 pub equal_unsigned : (a b : ℕ) → eqb a b ≡ is_eq (int_cmp (pos a) (pos b))
 equal_unsigned a b = grind (arith, ints)
 
--- of rows that are unsigned numbers
+-- for unsigned rows
 pub unsigned_rows : (t : ℕ → ℕ → Bool) (says : Ordering → Bool)
     → ((a b : ℕ) → t a b ≡ says (int_cmp (pos a) (pos b))) → {word : List ℕ → List ℕ → ℕ}
     → Reads t word → (xs ys : List ℕ) → length xs ≡ 64 → length ys ≡ 64 → (j : ℕ) → j < 64
@@ -154,7 +154,7 @@ unsigned_rows_with t says tells {word} reads xs y e j lt =
     ∙ tells (get_or xs j 0) y
     ∙ sym (ap (λ z. says (int_cmp z (pos y))) (get_or-map pos xs j 0 (pos 0) (omega (arith, e))))
 
--- signed numbers within the range that reading tells
+-- signed numbers within the range known from reading
 abbrev pub Within : ℕ → List ℤ → Type 0
 Within m xs = All (λ z. (negsuc m ≤ℤ z) × (z ≤ℤ pos m)) (map (λ z. z) xs)
 
@@ -170,7 +170,7 @@ fits_at w m e xs h j lt =
     (subst (λ z. (negsuc m ≤ℤ z) × (z ≤ℤ pos m)) (get_or-map (λ z. z) xs j (pos 0) (pos 0) lt)
     (h j (pos 0) (subst (λ n. j < n) (sym (length-map xs (λ z. z))) lt)))
 
--- what a test of the bits of two signed numbers says
+-- a test of the bits of two signed numbers
 abbrev pub SaysOf : Width → (ℕ → ℕ → Bool) → (Ordering → Bool) → Type 0
 SaysOf w t says =
     (a b : ℤ) → FitsSigned w a → FitsSigned w b → t (of_z w a) (of_z w b) ≡ says (int_cmp a b)

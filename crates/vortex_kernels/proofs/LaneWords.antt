@@ -1,4 +1,4 @@
--- Words of 64 comparisons: those that say the contrary, and those of 64 rows of a longer list.
+-- Words of 64 comparisons: their negation, and those of 64 rows of a longer list.
 use Rattle.std.proofs.Common.{◌≡◌, ◌∙◌, ℕ, ◌+◌, ◌-◌, ◌^◌, ◌<◌, ◌≤◌, Bool, List, length, map, take, drop}
 use Rattle.std.proofs.Common.{refl, sym, ap, arith, get_or, ℤ, pos, w64}
 use Rattle.std.specs.Prelude.{not}
@@ -11,7 +11,7 @@ use Rattle.vortex_bits.specs.Bits.{bit}
 use Rattle.vortex_bits.proofs.WordLogic.{not_bit}
 use Rattle.vortex_kernels.proofs.LaneMasks.{less_is, greater_is}
 
--- the contrary of a word
+-- the negation of a word
 pub denied : (word : ℕ) → word < 2 ^ 64 → (says other : ℕ → Bool)
     → ((j : ℕ) → not (says j) ≡ other j) → ((j : ℕ) → j < 64 → bit word j ≡ says j)
     → (j : ℕ) → j < 64 → bit (bit_not w64 word) j ≡ other j
@@ -37,7 +37,7 @@ pub not_less_turned : (a b : ℤ) → not (is_lt (int_cmp b a)) ≡ is_le (int_c
 not_less_turned a b =
     ap not (sym (less_is b a) ∙ greater_is a b) ∙ not_greater (int_cmp a b)
 
--- a row of those from one on
+-- a row of 64 rows from a row on
 pub row_of_part : {X : Type 0} (f : X → ℤ) (xs : List X) (at n j : ℕ) → j < n
     → get_or (map f (take (at + n - at) (drop at xs))) j (pos 0)
     ≡ get_or (map f xs) (at + j) (pos 0)

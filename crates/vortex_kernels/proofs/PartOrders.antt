@@ -1,4 +1,4 @@
--- Lists compared element by element: the first elements that differ decide, and else their lengths.
+-- Lists compared element by element: the first different elements decide, else the lengths.
 use Rattle.std.proofs.Common.{◌≡◌, ℕ, suc, ◌+◌, ◌<◌, ℤ, pos, Bool, true, false}
 use Rattle.std.proofs.Common.{List, [], ◌∷◌, length, map, take, drop, min, refl, sym, ap, ◌∙◌, arith}
 use Rattle.std.proofs.Common.{get_or, nat_cmp}
@@ -15,7 +15,7 @@ use Rattle.vortex_columns.specs.ColumnView.{ColumnView, row, AreInts}
 use Rattle.vortex_columns.specs.PairOrder.{compare_from}
 use Rattle.vortex_kernels.specs.Ranges.{part_order, LiesIn}
 
--- ---- one list beside another
+-- ---- one list and another
 
 suc_ranks : (a b : ℕ) (o : Ordering) → MatchOrdering o (a < b) (a ≡ b) (b < a)
     → MatchOrdering o (suc a < suc b) (suc a ≡ suc b) (suc b < suc a)

@@ -1,4 +1,4 @@
--- Rows of truth values that are built one by one, and the column that is made of them.
+-- Rows of truth values built one by one, and the column made of them.
 use Rattle.std.proofs.Common.{◌≡◌, ℕ, zero, suc, ◌<◌, Bool, true, false, Option}
 use Rattle.std.proofs.Common.{Some, None, List, [], ◌∷◌, ◌++◌, length, get_or, refl, sym, ap, subst}
 use Rattle.std.proofs.Common.{◌∙◌, arith, cond}
@@ -37,7 +37,7 @@ module _ {A : Type 0} (other : A) where
   get_or-before (y ∷ ys) x zero h = refl
   get_or-before (y ∷ ys) x (suc k) h = get_or-before ys x k (omega arith)
 
--- rows that are told by another function of the same values
+-- rows given by another function of the same values
 pub same_rows : (m n : ℕ) (f h : ℕ → Bool) (bits : List Bool) → m ≡ n
     → ((i : ℕ) → i < n → f i ≡ h i) → AreRows m f bits → AreRows n h bits
 same_rows m n f h bits e same are = record {
@@ -56,7 +56,7 @@ bool_dtype (list_type t n) h = cc
 bool_dtype (fixed_size_list_type t s n) h = cc
 bool_dtype (map_type k v n) h = cc
 
--- a truth value that is told by a bool, and null where there is none
+-- a truth value given by a bool, or null
 pub value_row : (o : Option Bool) (b : Bool) → IsValueOf b o
     → cond (is_some o) (truth b) null ≡ truth_or_null o
 value_row None b h = refl
@@ -97,7 +97,7 @@ bool_answers nullable n valid f bits v r count h rows answered =
     (λ c e. bool_rows nullable n valid f bits v c count h rows e)
     answered
 
--- bits that say the truth value where there is one, beside the rows that have one
+-- bits equal to the truth values where present, with the rows that have one
 pub truth_answers : (nullable : Bool) (n : ℕ) (f : ℕ → Option Bool) (bits : List Bool)
     (v : ValidityView) (r : Result ColumnView VortexError)
     → length bits ≡ n → IsValidity nullable n (λ i. is_some (f i)) v
@@ -108,7 +108,7 @@ truth_answers nullable n f bits v r count valid values answered =
     bool_answers nullable n (λ i. is_some (f i)) (λ i. truth_or_null (f i)) bits v r count valid
     (λ i lt. value_row (f i) (slice_index_or bits i false) (values i lt)) answered
 
--- a row that is turned where it is not null
+-- a row that is negated where it is not null
 pub not_row : (c : ColumnView) (xs bits : List Bool) → AreBits c xs
     → AreRows (length xs) (λ i. not (slice_index_or xs i false)) bits → (i : ℕ)
     → i < length c.rows

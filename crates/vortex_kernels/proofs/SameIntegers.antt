@@ -1,4 +1,4 @@
--- What follows from the laws of an integer that columns hold and checked arithmetic reads.
+-- Laws of an integer type that columns hold and checked arithmetic reads.
 use Rattle.std.proofs.Common.{◌≡◌, ℤ, List, [], ◌∷◌, map, Option, Some, None, refl, sym, ap}
 use Rattle.std.proofs.Common.{subst, ◌∙◌}
 use Rattle.std.specs.Prelude.{◌≤ℤ◌}
@@ -28,7 +28,7 @@ module _ (p : PType) (least greatest : ℤ) (low : least ≡ least_of p)
   fits_held (Some z) h =
       (subst (λ (n : ℤ). n ≤ℤ z) (sym low) h.0, subst (λ (n : ℤ). z ≤ℤ n) (sym high) h.1)
 
-  -- what is answered where the type holds it
+  -- the result where the type holds it
   pub answers_exact : (o : Option ℤ) (v z : ℤ) → (HasResult least greatest o → o ≡ Some v) → z ≡ v
       → AnswersExact p o z
   answers_exact o v z answers is h = answers (fits_held o h) ∙ ap Some (sym is)

@@ -13,14 +13,14 @@ use Rattle.vortex_operators.specs.OperatorValues.{holds, comparison_value}
 use Rattle.vortex_kernels.specs.Rows.{HasRows}
 use Rattle.vortex_kernels.specs.Truths.{truth_at}
 
--- in each row whether the value lies between its bounds, nullable if any of the three columns is
+-- in each row whether the value is between its bounds, nullable if any of the three columns is
 abbrev pub HasBetweenRows : BetweenOptions → ColumnView → ColumnView → ColumnView → ColumnView
     → Type 0
 HasBetweenRows options x lower upper =
     HasRows (between_type x.dtype lower.dtype upper.dtype) (length x.rows)
     (λ i. between_value options (row lower.rows i) (row x.rows i) (row upper.rows i))
 
--- the comparison of each row as bits, beside the rows that are null on neither side
+-- the comparison of each row as bits, with the rows that are null on neither side
 pub record AreCompared (op : CompareOperator) (l r : ColumnView) (bits : List Bool)
     (v : ValidityView) : Type 0 where
   pub count : length bits ≡ length l.rows
@@ -28,7 +28,7 @@ pub record AreCompared (op : CompareOperator) (l r : ColumnView) (bits : List Bo
   pub each : (i : ℕ) → i < length l.rows
       → truth_at bits v i ≡ truth_of (comparison_value op (row l.rows i) (row r.rows i))
 
--- whether any of three types is
+-- whether any of three types has null
 abbrev pub any_nullable : LogicalType → LogicalType → LogicalType → Bool
 any_nullable t lower upper = (is_nullable t || is_nullable lower) || is_nullable upper
 
@@ -44,8 +44,7 @@ between_scalar options x lower upper =
 abbrev pub HasNoNull : List Value → Type 0
 HasNoNull vs = (i : ℕ) → i < length vs → is_null (row vs i) ≡ false
 
--- for each row whether a test says yes of it, and the comparison with its bound, where neither is
--- null
+-- for each row whether a test is true, and the comparison with its bound, where neither is null
 pub record AreBeside (test : ℕ → Bool) (op : CompareOperator) (xs bounds : List Value)
     (bits : List Bool) : Type 0 where
   pub count : length bits ≡ length xs
@@ -54,8 +53,8 @@ pub record AreBeside (test : ℕ → Bool) (op : CompareOperator) (xs bounds : L
       → slice_index_or bits i false ≡ (test i && holds op
       (compare_values (row xs i) (row bounds i)))
 
--- for each row whether both comparisons say yes, with the lower and with the upper bound, where
--- none of the three is null
+-- for each row whether both comparisons are true, with the lower and the upper bound, where none of
+-- the three is null
 pub record AreBounded (op other : CompareOperator) (xs lower upper : List Value)
     (bits : List Bool) : Type 0 where
   pub count : length bits ≡ length xs

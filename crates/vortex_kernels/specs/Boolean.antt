@@ -18,7 +18,7 @@ use Rattle.vortex_columns.specs.ValidRows.{IsValidity}
 abbrev pub are_bools : ColumnView → ColumnView → Bool
 are_bools l r = is_bool_type l.dtype && is_bool_type r.dtype
 
--- in each row what Kleene's table says of the two rows, nullable if either side is
+-- in each row Kleene's table of the two rows, nullable if either side is
 abbrev pub HasBooleanRows : Operator → ColumnView → ColumnView → ColumnView → Type 0
 HasBooleanRows op l r =
     HasRows (bool_type (is_nullable l.dtype || is_nullable r.dtype)) (length l.rows)
@@ -28,14 +28,14 @@ HasBooleanRows op l r =
 abbrev pub HasNotRows : ColumnView → ColumnView → Type 0
 HasNotRows c = HasRows c.dtype (length c.rows) (λ i. not_value (row c.rows i))
 
--- the rows that have a truth value by Kleene's table
+-- the rows with a truth value by Kleene's table
 abbrev pub IsKleeneValidity : Operator → ColumnView → ColumnView → ValidityView → Type 0
 IsKleeneValidity op l r =
     IsValidity (either_nullable l r) (length l.rows)
     (λ i. is_some (kleene op (truth_of (row l.rows i)) (truth_of (row r.rows i))))
 
--- an operator that is neither And nor Or is refused before any type, and then two columns that are
--- not both of Bool
+-- first the error for an operator that is neither And nor Or, then for columns that are not both of
+-- Bool
 pub data RefusesBoolean (op : Operator) (l r : ColumnView) (e : VortexError) : Type 0 where
   no_operator : is_boolean op ≡ false → IsNotBoolean op e → RefusesBoolean op l r e
   no_bools : is_boolean op ≡ true → are_bools l r ≡ false → e ≡ TypeMismatch place.Boolean

@@ -16,7 +16,7 @@ use Rattle.vortex_operators.specs.OperatorValues.{holds, comparison_value, compa
 use Rattle.vortex_kernels.specs.Rows.{HasRows}
 use Rattle.vortex_bits.specs.Rows.{AreRows}
 
--- two scalars, whatever their types where one is null
+-- two scalars; any types where one is null
 abbrev pub compared_scalar : CompareOperator → ScalarView → ScalarView → ScalarView
 compared_scalar op a b =
     record { dtype = comparison_type a.dtype b.dtype; value = comparison_value op a.value b.value }
@@ -38,7 +38,7 @@ is_null_scalar (Some s) = is_null s.value
 abbrev pub is_null_constant : ColumnView → Bool
 is_null_constant c = is_null_scalar c.constant
 
--- no rows, or a side that is a null constant: settled before a look at the types
+-- no rows, or a null constant on a side: decided before types are compared
 abbrev pub is_settled : ColumnView → ColumnView → Bool
 is_settled l r = nat_eq (length l.rows) 0 || (is_null_constant l || is_null_constant r)
 
@@ -47,14 +47,14 @@ HasComparisonRows op l r =
     HasRows (comparison_type l.dtype r.dtype) (length l.rows)
     (λ i. comparison_value op (row l.rows i) (row r.rows i))
 
--- where types that differ apart from nullability are refused: two constants go by the comparison of
+-- where types that differ apart from nullability are an error: two constants are compared as
 -- scalars
 abbrev pub compare_place : ColumnView → ColumnView → MismatchPlace
 compare_place l r =
     if is_some l.constant && is_some r.constant then place.Scalars else place.Compare
 
--- columns of two lengths are refused first, and then types that differ apart from nullability,
--- unless all is settled without them
+-- first the error for columns of two lengths, then for types that differ apart from nullability,
+-- unless the result is decided without them
 pub data RefusesCompare (l r : ColumnView) (e : VortexError) : Type 0 where
   uneven : length l.rows ≢ length r.rows → e ≡ LengthMismatch (length l.rows) (length r.rows)
       → RefusesCompare l r e
@@ -67,7 +67,7 @@ pub record AnswersCompare (op : CompareOperator) (l r c : ColumnView) : Type 0 w
   pub accepted : (is_settled l r || alike_types l.dtype r.dtype) ≡ true
   pub rows : HasComparisonRows op l r c
 
--- for each of n rows whether the comparison says yes to its order
+-- for each of n rows whether the comparison is true for its order
 abbrev pub AreHeld : CompareOperator → (ℕ → Ordering) → ℕ → List Bool → Type 0
 AreHeld op order n = AreRows n (λ i. holds op (order i))
 
@@ -85,7 +85,7 @@ abbrev pub IsOrderAt : List Value → List Value → ℕ → Ordering → Type 0
 IsOrderAt ls rs i o = is_null (row ls i) ≡ false → is_null (row rs i) ≡ false
     → o ≡ compare_values (row ls i) (row rs i)
 
--- for each row whether the comparison says yes, where neither side is null
+-- for each row whether the comparison is true, where neither side is null
 pub record AreComparisons (op : CompareOperator) (ls rs : List Value) (bits : List Bool) : Type 0
   where
     pub count : length bits ≡ length ls

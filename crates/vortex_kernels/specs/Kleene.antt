@@ -14,7 +14,7 @@ use Rattle.vortex_columns.specs.ColumnView.{ColumnView}
 use Rattle.vortex_kernels.specs.Rows.{HasRows}
 use Rattle.vortex_kernels.specs.Truths.{present, IsValueOf, truth_at}
 
--- the values of 64 rows, whatever lies under nulls
+-- the values of 64 rows, whatever is under nulls
 abbrev pub value_word : Operator → ℕ → ℕ → ℕ
 value_word And a b = bit_and a b
 value_word op a b = bit_or a b
@@ -23,7 +23,7 @@ value_word op a b = bit_or a b
 abbrev pub HasTruthRows : Bool → ℕ → (ℕ → Option Bool) → ColumnView → Type 0
 HasTruthRows nullable n truth = HasRows (bool_type nullable) n (λ i. truth_or_null (truth i))
 
--- in each of n rows what the table says of two truth values or nulls
+-- in each of n rows the table's result for two truth values or nulls
 abbrev pub HasKleeneRows : Operator → Bool → ℕ → (ℕ → Option Bool) → (ℕ → Option Bool) → ColumnView
     → Type 0
 HasKleeneRows op nullable n left right = HasTruthRows nullable n (λ i. kleene op (left i) (right i))
@@ -41,7 +41,7 @@ pub record AnswersKleene (op : Operator) (nullable : Bool) (n : ℕ) (left right
 abbrev pub RefusesOperator : Operator → VortexError → Type 0
 RefusesOperator op e = (is_boolean op ≡ false) × IsNotBoolean op e
 
--- both formulas say the truth value where there is one
+-- both formulas give the truth value where there is one
 pub and_says : (p q a b : Bool) → IsValueOf (a && b) (kleene And (present p a) (present q b))
 and_says true true true true = refl
 and_says true true true false = refl

@@ -1,4 +1,4 @@
--- Truth values told row by row, and the null tests of a column.
+-- Truth values given row by row, and the null tests of a column.
 use Rattle.std.specs.Prelude.{◌≢◌, ℕ, length, Bool, false, not, IsSome}
 use Rattle.vortex_types.specs.LogicalTypes.{bool_type}
 use Rattle.vortex_types.specs.Values.{Value, truth, is_null}
@@ -10,7 +10,7 @@ use Rattle.vortex_kernels.specs.Rows.{HasRows}
 abbrev pub HasTruths : ℕ → (ℕ → Bool) → ColumnView → Type 0
 HasTruths n f = HasRows (bool_type false) n (λ i. truth (f i))
 
--- in each row what the test says of the input's
+-- in each row the test's result for the input's row
 abbrev pub HasTests : (Value → Bool) → ColumnView → ColumnView → Type 0
 HasTests test c = HasTruths (length c.rows) (λ i. test (row c.rows i))
 
@@ -22,6 +22,6 @@ HasNullTests = HasTests is_null
 abbrev pub HasNotNullTests : ColumnView → ColumnView → Type 0
 HasNotNullTests = HasTests (λ v. not (is_null v))
 
--- a constant, unless nulls are told row by row
+-- constant, unless nulls are given row by row
 abbrev pub IsConstantUnlessListed : ColumnView → ColumnView → Type 0
 IsConstantUnlessListed c d = c.form ≢ array → IsSome d.constant

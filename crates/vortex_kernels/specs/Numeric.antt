@@ -17,12 +17,11 @@ use Rattle.vortex_kernels.specs.ArithmeticIntegers.{FitsResult, AnswersExact}
 use Rattle.vortex_kernels.specs.Comparison.{IsConstantOf}
 use Rattle.vortex_columns.specs.ValidRows.{either_nullable}
 
--- the value in row i, and none where it faults
+-- the value in row i; none where it faults
 abbrev pub numeric_row : NumericOperator → PType → ColumnView → ColumnView → ℕ → Option Value
 numeric_row op p l r i = arithmetic_value op p (row l.rows i) (row r.rows i)
 
--- the column has the type of both sides, nullable if either is, as many rows, and in each row the
--- value
+-- the type of both sides, nullable if either is, as many rows, and in each row the value
 pub record HasNumericRows (op : NumericOperator) (p : PType) (l r c : ColumnView) : Type 0 where
   pub dtype : c.dtype ≡ integer_type p (either_nullable l r)
   pub count : length c.rows ≡ length l.rows
@@ -34,8 +33,8 @@ pub record AnswersNumeric (op : NumericOperator) (l r c : ColumnView) : Type 0 w
   pub lengths : length l.rows ≡ length r.rows
   pub rows : HasNumericRows op ptype l r c
 
--- first types that are not one integer type apart from nullability, then two lengths, then a row
--- that faults
+-- first the error for types that are not one integer type apart from nullability, then for two
+-- lengths, then for a row that faults
 pub data RefusesNumeric (op : NumericOperator) (l r : ColumnView) (e : VortexError) : Type 0 where
   unlike : integer_of_both l.dtype r.dtype ≡ None → e ≡ TypeMismatch place.Arithmetic
       → RefusesNumeric op l r e
@@ -50,15 +49,15 @@ pub data RefusesNumeric (op : NumericOperator) (l r : ColumnView) (e : VortexErr
 abbrev pub IsExactOf : NumericOperator → (ℤ → ℤ → Option ℤ) → Type 0
 IsExactOf op exact = (a b : ℤ) → exact a b ≡ exact_result op a b
 
--- of the two numbers in each row
+-- from the two numbers in each row
 abbrev pub row_results : (ℤ → ℤ → Option ℤ) → (ℕ → ℤ) → (ℕ → ℤ) → ℕ → Option ℤ
 row_results exact left right i = exact (left i) (right i)
 
--- of the numbers of a list and one number
+-- from the numbers of a list and one number
 abbrev pub results_by : (ℤ → ℤ → Option ℤ) → List ℤ → ℤ → ℕ → Option ℤ
 results_by exact ns z i = exact (slice_index_or ns i (pos 0)) z
 
--- a number is there for each row, which is the row's where it is not null
+-- a number for each row, which is the row's where it is not null
 pub record AreNumbers (c : ColumnView) (has_row : ℕ → Type 0) (number_at : ℕ → ℤ) : Type 0 where
   pub there : (i : ℕ) → i < length c.rows → has_row i
   pub each : (i : ℕ) → i < length c.rows → IsUnlessNull (row c.rows i) (number (number_at i))
@@ -68,7 +67,7 @@ pub record AreResults (p : PType) (exact : ℕ → Option ℤ) (n : ℕ) (ns : L
   pub count : length ns ≡ n
   pub each : (i : ℕ) → i < n → AnswersExact p (exact i) (slice_index_or ns i (pos 0))
 
--- where no fault is told of, the integer type holds the result of each of n rows
+-- if no fault is flagged, the integer type holds the result of each of n rows
 abbrev pub TellsFaults : PType → (ℕ → Option ℤ) → ℕ → Bool → Type 0
 TellsFaults p exact n told = told ≡ false → (i : ℕ) → i < n → FitsResult p (exact i)
 
@@ -86,7 +85,7 @@ pub record FaultsAt (p : PType) (exact : ℕ → Option ℤ) (l r : ColumnView) 
   pub valid : IsValidPair l r i
   pub fault : ¬ FitsResult p (exact i)
 
--- the null of a type's nullable form
+-- the null of a type made nullable
 abbrev pub null_of : LogicalType → ScalarView
 null_of t = record { dtype = with_nullability t true; value = null }
 

@@ -1,4 +1,4 @@
--- The order of the two values in each row, in the forms in which columns are read side by side.
+-- The order of the two values in each row, in the forms in which columns are read in pairs.
 use Rattle.std.specs.Prelude.{ℕ, ℤ, pos, Bool, false, List, [], slice_index_or}
 use Rattle.std.specs.declared.cmp.Ordering.{Ordering}
 use Rattle.std.specs.Ordering.{nat_cmp, int_cmp, bool_cmp}
@@ -10,7 +10,7 @@ use Rattle.vortex_columns.specs.ColumnView.{row}
 abbrev pub row_orders : List Value → List Value → ℕ → Ordering
 row_orders ls rs i = compare_values (row ls i) (row rs i)
 
--- beside a list, and beside one in each row
+-- a list with a list, and with one value in each row
 abbrev pub int_orders : List ℤ → List ℤ → ℕ → Ordering
 int_orders xs ys i = int_cmp (slice_index_or xs i (pos 0)) (slice_index_or ys i (pos 0))
 

@@ -5,15 +5,15 @@ use Rattle.vortex_types.specs.Values.{Value}
 use Rattle.vortex_types.specs.Order.{compare_values}
 use Rattle.vortex_columns.specs.ColumnView.{part}
 
--- the order of two lists, each so many values from a place on
+-- the order of two lists, each that many values from an index on
 abbrev pub part_order : List Value → ℕ → ℕ → List Value → ℕ → ℕ → Ordering
 part_order ls a m rs b n = compare_values (part ls a m) (part rs b n)
 
--- so many values from a place on are there
+-- that many values from an index on are in range
 abbrev pub LiesIn : ℕ → ℕ → List Value → Type 0
 LiesIn start size values = (start + size ≤ length values) × (length values < 2 ^ 64)
 
--- where the list of each row begins and how long it is: in each of n rows it is among the values
+-- the start and length of each row's list: in each of n rows it is within the values
 pub record AreListed {A : Type 0} (n : ℕ) (has_row : A → ℕ → Type 0) (start size : A → ℕ → ℕ)
     (ranges : A) (values : List Value) : Type 0 where
   pub there : (i : ℕ) → i < n → has_row ranges i

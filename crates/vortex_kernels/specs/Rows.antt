@@ -1,11 +1,11 @@
--- A column that is known by its type and its rows.
+-- A column given by its type and its rows.
 use Rattle.std.specs.Prelude.{◌≡◌, ℕ, ◌<◌, length}
 use Rattle.vortex_types.specs.LogicalTypes.{LogicalType}
 use Rattle.vortex_types.specs.ScalarView.{ScalarView}
 use Rattle.vortex_types.specs.Values.{Value}
 use Rattle.vortex_columns.specs.ColumnView.{ColumnView, row}
 
--- the column has the type and the number of rows, and in each row the value that is given
+-- the column has the type and the number of rows, and in each row the given value
 pub record HasRows (t : LogicalType) (n : ℕ) (f : ℕ → Value) (c : ColumnView) : Type 0 where
   pub dtype : c.dtype ≡ t
   pub count : length c.rows ≡ n

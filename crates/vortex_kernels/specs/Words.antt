@@ -1,4 +1,4 @@
--- The words of the contracts, from one place.
+-- The words that contracts use, from one module.
 pub use Rattle.vortex_bits.specs.Bits.{bit}
 pub use Rattle.vortex_bits.specs.Forms.{shifted_there, shifted_bit}
 pub use Rattle.vortex_bits.specs.Rows.{AreRows}
@@ -28,7 +28,7 @@ pub use Rattle.vortex_kernels.specs.PairOrders.{byte_order, row_orders, int_orde
 pub use Rattle.vortex_kernels.specs.PairOrders.{bit_orders, bit_orders_with, byte_orders}
 pub use Rattle.vortex_kernels.specs.PairOrders.{byte_orders_with}
 pub use Rattle.vortex_kernels.specs.Ranges.{LiesIn, AreListed, part_order, list_orders}
-pub use Rattle.vortex_kernels.specs.Records.{HoldByLast, TellsPresence, presence_there}
+pub use Rattle.vortex_kernels.specs.Records.{HoldByLast, AreValidityWords, presence_there}
 pub use Rattle.vortex_kernels.specs.Records.{presence_bit, IsRecordType}
 pub use Rattle.vortex_kernels.specs.Rows.{HasScalarRows}
 pub use Rattle.vortex_kernels.specs.Kleene.{HasKleeneRows, value_word, HaveTruths, AnswersKleene}

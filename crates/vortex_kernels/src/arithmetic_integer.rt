@@ -10,8 +10,8 @@ use vortex_checked::{
 };
 use vortex_columns::NativePType;
 
-/// One of the eight integer types. What columns and checked arithmetic see of it is the same: the
-/// number of each value, and the range of the type.
+/// One of the eight integer types. Columns and checked arithmetic agree on the number of each
+/// value, and on the range of the type.
 pub trait ArithmeticInteger: NativePType + ConstantArithmetic {
     ghost use Rattle.std.specs.Prelude.{◌≡◌};
     ghost use Rattle.vortex_types.specs.Typing.{least_of, greatest_of};
@@ -103,8 +103,8 @@ impl ArithmeticInteger for u64 {
     ghost same_greatest = { refl };
 }
 
-/// The operation on two integers of columns: the value, which is the exact result where the integer
-/// type holds it, and evidence, which tells of a fault exactly where it does not.
+/// The operation on two integers: the value, which is the exact result where the integer type holds
+/// it, and a flag, which is a fault exactly where it does not.
 pub fn apply_checked<T: ArithmeticInteger, O: CheckedPrimitiveOp<T>>(
     left: T,
     right: T,
@@ -121,7 +121,7 @@ pub fn apply_checked<T: ArithmeticInteger, O: CheckedPrimitiveOp<T>>(
     O::apply(left, right)
 }
 
-/// The product of an integer and a factor between whose ends it fits: the value, which is the exact
+/// The product of an integer and a factor within the factor's range: the value, which is the exact
 /// product where the integer type holds it, and whether it does not.
 #[inline(always)]
 pub(crate) fn multiply_bounded<T: ArithmeticInteger>(
@@ -141,7 +141,7 @@ pub(crate) fn multiply_bounded<T: ArithmeticInteger>(
     bounded_product(number, factor, least, greatest)
 }
 
-/// The quotient of an integer, which its type holds.
+/// The quotient of an integer. The type holds it.
 #[inline(always)]
 pub(crate) fn divide_by<T: ArithmeticInteger, D: Divisor<T>>(number: T, divisor: &D) -> T
     ensures exact { Some (T.NativePType.number result)
@@ -152,8 +152,8 @@ pub(crate) fn divide_by<T: ArithmeticInteger, D: Divisor<T>>(number: T, divisor:
     divisor.divide(number)
 }
 
-/// The quotient by the guess at a place, and whether that is off. Where it is not, this is the
-/// quotient, which the integer type holds.
+/// The quotient from the estimate at an index, and whether that is wrong. Where it is not, this is
+/// the quotient, which the integer type holds.
 #[inline(always)]
 pub(crate) fn by_guess<T: ArithmeticInteger + GuessedDivision>(
     left: T,

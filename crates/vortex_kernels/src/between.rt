@@ -1,4 +1,4 @@
-//! Whether each row of a column lies between two bounds.
+//! Whether each row of a column is between two bounds.
 ghost use Rattle.std.specs.Prelude.{◌≡◌, true, length, IfSome, IfOk};
 ghost use Rattle.vortex_kernels.specs.Words.{AnswersUnlessMemory, AreComparisons, AreBounded};
 ghost use Rattle.vortex_kernels.specs.Words.{bound_operator, HasBetweenRows, HasNoNull};
@@ -30,7 +30,7 @@ fn hold_below(
     ensures { AnswersUnlessMemory result
         (AreComparisons (bound_operator strict) lhs.now.rows rhs.now.rows) }
 {
-    // a constant stands on the right
+    // a constant goes to the right
     match (lhs.as_constant().is_some(), strict) {
         (true, StrictComparison::Strict) => hold_in_rows::<IsGreater>(alloc, rhs, lhs),
         (true, StrictComparison::NonStrict) => hold_in_rows::<IsGreaterOrEqual>(alloc, rhs, lhs),
@@ -39,7 +39,7 @@ fn hold_below(
     }
 }
 
-/// The nullability of the answer.
+/// The nullability of the result.
 fn nullability_of(array: &DType, lower: &DType, upper: &DType) -> Nullability
     ensures { allows_null result
         ≡ any_nullable (type_of array.now) (type_of lower.now) (type_of upper.now) }
@@ -77,8 +77,8 @@ fn between_columns(
     )
 }
 
-/// Whether each value lies between its bounds, in one pass; nothing where the columns are not read
-/// so. The operators are chosen before the rows, and the array stands on the left of both.
+/// Whether each value is between its bounds, in one pass; none where these columns have no such
+/// form. The operators are chosen before the rows, and the array is on the left of both.
 fn hold_in_bounds(
     alloc: Global,
     array: &Column,
@@ -133,8 +133,7 @@ fn between_full(
     Column::try_bool(alloc, bits, validity)
 }
 
-/// Whether no row of a column is null, by its validity alone: where there is a list of bits, none
-/// of them is read.
+/// Whether no row of a column is null, by its validity only: no list of bits is read.
 fn is_full(column: &Column) -> bool
     ensures { result ≡ true → HasNoNull column.now.rows }
 {
@@ -144,7 +143,7 @@ fn is_full(column: &Column) -> bool
     }
 }
 
-/// Whether a value is below another; nothing where either is null.
+/// Whether a value is below another; null where either is null.
 fn is_below(left: &Scalar, right: &Scalar, strict: StrictComparison) -> Option<bool>
     ensures { result
         ≡ truth_of (comparison_value (bound_operator strict) left.now.value right.now.value) }
@@ -168,7 +167,7 @@ fn both(left: Option<bool>, right: Option<bool>) -> Option<bool>
     }
 }
 
-/// Whether one value lies between two others.
+/// Whether one value is between two others.
 fn between_scalars(
     value: &Scalar,
     lower: &Scalar,
@@ -186,9 +185,9 @@ fn between_scalars(
     }
 }
 
-/// Whether each row of a column lies between the row's bounds: Kleene's And of `lower < array` and
-/// `array < upper`, each with `<=` where its bound is not strict. A column of Bool, nullable if any
-/// of the three is; where one bound is null the row can still be false. Three constants answer a
+/// Whether each row of a column is between the row's bounds: Kleene's And of `lower < array` and
+/// `array < upper`, each with `<=` for a bound that is not strict. A column of Bool, nullable if
+/// any of the three is; a row with one null bound can still be false. Three constants give a
 /// constant.
 pub fn execute_between(
     array: &Column,

@@ -21,7 +21,7 @@ use vortex_columns::{
 /// And or Or of two Bool columns of equal length, row by row by Kleene's table, nullable if either
 /// is.
 ///
-/// E4 for another operator, before E3 Boolean for two columns that are not both of Bool.
+/// E4 for another operator, then E3 Boolean for two columns that are not both of Bool.
 pub fn execute_boolean(
     lhs: &Column,
     rhs: &Column,
@@ -74,8 +74,8 @@ pub fn execute_not(input: &Column, ctx: &mut ExecutionCtx) -> VortexResult<Colum
     }
 }
 
-/// And or Or of two lists of truth values row by row: bits, beside the rows that are not null. A
-/// column of Bool of the nullability handed in, which is `Nullable` unless no row on either side is
+/// And or Or of two lists of truth values row by row: bits, with the rows that are not null. A
+/// column of Bool with the given nullability, which is `Nullable` unless no row on either side is
 /// null.
 ///
 /// E4 for another operator.
@@ -113,8 +113,8 @@ pub fn kleene_boolean_buffers(
     }
 }
 
-/// And or Or of a list of truth values and one truth value or null, row by row. A column of Bool of
-/// the nullability handed in, which is `Nullable` unless nothing on either side is null.
+/// And or Or of a list of truth values and one truth value or null, row by row. A column of Bool
+/// with the given nullability, which is `Nullable` unless nothing on either side is null.
 ///
 /// E4 for another operator.
 pub fn kleene_boolean_buffer_scalar(

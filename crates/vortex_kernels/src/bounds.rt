@@ -1,4 +1,4 @@
-//! The values of a column beside both bounds of their rows, tested in one pass.
+//! The values of a column and both bounds of their rows, tested in one pass.
 ghost use Rattle.std.specs.Prelude.{◌≡◌, ◌<◌, ◌&&◌, ℕ, length, IfSome};
 ghost use Rattle.vortex_kernels.specs.Words.{AnswersUnlessMemory, AreRows, holds, is_text_type};
 ghost use Rattle.vortex_kernels.specs.Words.{AreBeside, AreBounded};
@@ -15,7 +15,7 @@ use std::marker::PhantomData;
 use vortex_bits::{RowBits, collect_rows};
 use vortex_columns::{BitBuffer, Column, DType, PType, VortexResult};
 
-/// Whether both comparisons say yes, each to its pair.
+/// Whether both comparisons are true, each for its pair.
 #[derive(Clone, Copy)]
 struct HeldBoth<P: Comparison, Q: Comparison, L: Pairs, U: Pairs> {
     lower: L,
@@ -44,7 +44,7 @@ impl<P: Comparison, Q: Comparison, L: SpanPairs, U: SpanPairs> SpanBits for Held
     }
 }
 
-/// Whether both comparisons say yes in each row.
+/// Whether both comparisons are true in each row.
 fn hold_in_both<P: Comparison, Q: Comparison, L: Pairs, U: Pairs>(
     alloc: Global,
     lower: L,
@@ -65,7 +65,7 @@ fn hold_in_both<P: Comparison, Q: Comparison, L: Pairs, U: Pairs>(
     collect_rows(alloc, &rows, len)
 }
 
-/// The same of pairs of which 64 are compared at once.
+/// The same for pairs of which 64 are compared at once.
 fn hold_both_in_spans<P: Comparison, Q: Comparison, L: SpanPairs, U: SpanPairs>(
     alloc: Global,
     lower: L,
@@ -86,8 +86,8 @@ fn hold_both_in_spans<P: Comparison, Q: Comparison, L: SpanPairs, U: SpanPairs>(
     collect_spans(alloc, &rows, len)
 }
 
-/// The integers of a column beside lower bounds whose form is chosen, and the upper ones; nothing
-/// where those lend none.
+/// The integers of a column with lower bounds in a chosen form, and the upper bounds; none where
+/// those are not integers.
 fn ints_beside<P: Comparison, Q: Comparison, L: SpanPairs, T: LaneInteger>(
     alloc: Global,
     array: &Column,
@@ -128,7 +128,7 @@ fn ints_between<P: Comparison, Q: Comparison, T: LaneInteger>(
     ensures { AnswersUnlessMemory result (λ bits. IfSome bits
         (AreBounded P.operator Q.operator array.now.rows lower.now.rows upper.now.rows)) }
 {
-    // so that the rows are known to fit
+    // so that the rows are known not to overflow
     let _ = array.len();
     let Some(left) = array.ints::<T>() else {
         return Ok(None);
@@ -144,8 +144,8 @@ fn ints_between<P: Comparison, Q: Comparison, T: LaneInteger>(
     Ok(None)
 }
 
-/// The texts of a column beside lower bounds whose form is chosen, and the upper ones; nothing
-/// where those lend none.
+/// The texts of a column with lower bounds in a chosen form, and the upper bounds; none where those
+/// are not texts.
 fn texts_beside<P: Comparison, Q: Comparison, L: Pairs>(
     alloc: Global,
     array: &Column,
@@ -204,9 +204,9 @@ fn texts_between<P: Comparison, Q: Comparison>(
     Ok(None)
 }
 
-/// Whether the first comparison says yes of each value and its lower bound, and the second one of
-/// it and its upper bound, in each row in which all three have a value. Nothing for types and forms
-/// that are not read in one pass: it takes integers and texts, beside columns of them or constants.
+/// Whether the first comparison is true for each value and its lower bound, and the second for it
+/// and its upper bound, in each row in which all three have a value. None for types and forms that
+/// are not read in one pass: it takes integers and texts, with columns or constants as bounds.
 pub(crate) fn hold_between<P: Comparison, Q: Comparison>(
     alloc: Global,
     array: &Column,

@@ -1,4 +1,4 @@
-//! Cast of Bool to the nullable one.
+//! Cast of Bool to nullable Bool.
 ghost use Rattle.std.specs.Prelude.{◌≡◌, true};
 ghost use Rattle.vortex_kernels.specs.Words.{AnswersUnlessMemory, is_bool_type, bool_type};
 ghost use Rattle.vortex_kernels.specs.Words.{HasCastRows, KeepsConstant};
@@ -6,7 +6,7 @@ ghost use Rattle.vortex_kernels.specs.Words.{HasCastRows, KeepsConstant};
 use crate::validity::nullable_valid;
 use vortex_columns::{Column, DType, ExecutionCtx, Nullability, Scalar, VortexResult};
 
-/// The same value of nullable Bool.
+/// The same value as nullable Bool.
 fn cast_scalar(scalar: &Scalar) -> Scalar
     requires { is_bool_type scalar.now.dtype ≡ true }
     ensures { result ≡ record { dtype = bool_type true; value = scalar.now.value } }
@@ -19,7 +19,7 @@ fn cast_scalar(scalar: &Scalar) -> Scalar
     }
 }
 
-/// The rows of a Bool column, of nullable Bool; a constant stays one.
+/// The rows of a Bool column, as nullable Bool; a constant stays constant.
 pub fn execute_cast(input: &Column, ctx: &mut ExecutionCtx) -> VortexResult<Column>
     requires { is_bool_type input.now.dtype ≡ true }
     ensures rows { AnswersUnlessMemory result (HasCastRows input.now) }

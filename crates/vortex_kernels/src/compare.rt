@@ -28,7 +28,7 @@ fn compare_rows<P: Comparison>(
     Column::try_bool(ctx.alloc(), bits, validity)
 }
 
-/// The comparison of each row, the operator being chosen before the rows.
+/// The comparison of each row; the operator is chosen before the rows.
 fn compare_columns(
     lhs: &Column,
     rhs: &Column,
@@ -48,7 +48,7 @@ fn compare_columns(
     }
 }
 
-/// Whether the column is a constant one whose value is null.
+/// Whether the column is a constant null.
 fn is_null_constant(column: &Column) -> bool
     requires { 0 < length column.now.rows }
     ensures says { result ≡ is_null_constant column.now }
@@ -60,7 +60,7 @@ fn is_null_constant(column: &Column) -> bool
     }
 }
 
-/// One scalar of Bool in each of so many rows.
+/// One scalar of Bool in each of `len` rows.
 fn constant_rows(lhs: &Column, scalar: Scalar, ctx: &mut ExecutionCtx) -> VortexResult<Column>
     ensures { AnswersUnlessMemory result (HasScalarRows scalar (length lhs.now.rows)) }
 {
@@ -68,9 +68,9 @@ fn constant_rows(lhs: &Column, scalar: Scalar, ctx: &mut ExecutionCtx) -> Vortex
 }
 
 /// The comparison of two scalars by the order of their values: a truth value of Bool, nullable if
-/// either type is. Takes memory as `Cell::compare` does.
+/// either type is. Allocates as `Cell::compare` does.
 ///
-/// A null of nullable Bool if either is null, whatever the types; else E3 Scalars exactly for types
+/// A null of nullable Bool if either is null, whatever the types. Else E3 Scalars exactly for types
 /// that differ apart from nullability.
 pub fn scalar_cmp(lhs: &Scalar, rhs: &Scalar, operator: CompareOperator) -> VortexResult<Scalar>
     ensures { MatchResult result (AnswersScalars operator lhs.now rhs.now)
@@ -90,8 +90,8 @@ pub fn scalar_cmp(lhs: &Scalar, rhs: &Scalar, operator: CompareOperator) -> Vort
 /// either type is, null exactly where a row is null on either side. Nulls within a value are
 /// values, equal to each other and least.
 ///
-/// In order: E2 for columns of two lengths, with `left` the first; no rows answer an empty column,
-/// and a constant null on either side answers nulls, whatever the types; two constants go by
+/// In order: E2 for columns of two lengths, with `left` the first; no rows give an empty column,
+/// and a constant null on either side gives nulls, whatever the types; two constants use
 /// `scalar_cmp` (E3 Scalars); E3 Compare for types that differ apart from nullability.
 pub fn execute_compare(
     lhs: &Column,
@@ -120,7 +120,7 @@ pub fn execute_compare(
     if !lhs.dtype().eq_ignore_nullability(rhs.dtype()) {
         return Err(VortexError::TypeMismatch(MismatchPlace::Compare));
     }
-    // a constant stands on the right
+    // a constant goes to the right
     if lhs.as_constant().is_some() {
         return compare_columns(rhs, lhs, operator.swap(), ctx);
     }

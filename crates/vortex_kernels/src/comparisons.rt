@@ -1,4 +1,4 @@
-//! The comparisons, each a type, so that one is chosen before the rows.
+//! The comparisons, each a type, so that the comparison is chosen once, before the rows.
 ghost use Rattle.std.specs.Prelude.{◌≡◌};
 ghost use Rattle.vortex_kernels.specs.Words.{CompareOperator, Eq, NotEq, Gt, Gte, Lt, Lte, holds};
 ghost use Rattle.vortex_kernels.specs.Words.{byte_order};
@@ -17,32 +17,31 @@ pub(crate) trait Comparison: WordFormula + Copy {
 
     ghost operator: { CompareOperator };
 
-    /// Whether it says yes to that order of left and right.
+    /// Whether it is true for that order of left and right.
     fn holds(order: Ordering) -> bool
         ensures { result ≡ holds operator order };
 
-    /// Whether it says yes to those texts or byte strings.
+    /// Whether it is true for those texts or byte strings.
     fn holds_of_bytes<A: WordsOfBytes, B: WordsOfBytes>(left: &A, right: &B) -> bool
         ensures { result ≡ holds operator (byte_order (A.value left.now) (B.value right.now)) }
     {
         Self::holds(compare(left, right))
     }
 
-    /// Which of 64 integers it says yes to beside those of the other side, the first as the least
-    /// significant bit.
+    /// For which of 64 pairs of integers it is true, the first as the least significant bit.
     fn of_integers<T: LaneInteger>(left: &[T], right: &[T]) -> u64
         requires left { length left.now ≡ 64 }
         requires right { length right.now ≡ 64 }
         ensures { (j : ℕ) → j < 64 → bit result j
             ≡ holds operator (int_orders (map T.number left.now) (map T.number right.now) j) };
 
-    /// The same beside one integer.
+    /// The same with one integer on the right.
     fn of_integers_with<T: LaneInteger>(left: &[T], right: T) -> u64
         requires { length left.now ≡ 64 }
         ensures { (j : ℕ) → j < 64 → bit result j
             ≡ holds operator (int_orders_with (map T.number left.now) (T.number right) j) };
 
-    /// In words it says of two truth values what it says of their order.
+    /// The formula over words of truth values is the comparison of their order.
     ghost of_bits: { (l r : Bool) → Self.says l r ≡ holds operator (bool_cmp l r) };
 }
 

@@ -1,4 +1,4 @@
-//! Products and quotients of a column and one integer, which is looked at before the rows.
+//! Products and quotients of a column and a constant, which is precomputed before the rows.
 ghost use Rattle.std.specs.Prelude.{◌≡◌, ◌*ℤ◌, length, map, Some};
 ghost use Rattle.vortex_checked.specs.Exact.{quotient};
 ghost use Rattle.vortex_errors.specs.declared.error.NumericOperator.TheVariants.{Mul, Div};
@@ -10,12 +10,12 @@ ghost use Rattle.vortex_kernels.specs.Faults.{AreHeldResults};
 
 use crate::arithmetic_integer::{ArithmeticInteger, divide_by, multiply_bounded};
 use crate::numbers::{ListedNumbers, OneNumber};
-use crate::settled::settled_rows;
+use crate::numeric_column::numeric_column;
 use std::alloc::Global;
 use vortex_checked::{CheckedDiv, CheckedMul, ConstantArithmetic, Divisor, factor_ends};
 use vortex_columns::{Column, ExecutionCtx, NumericOperator, VortexResult};
 
-/// The product of each integer with the factor, and whether any is one that the type does not hold.
+/// The product of each integer with the factor, and whether the type does not hold one of them.
 fn bounded_products<T: ArithmeticInteger>(
     alloc: Global,
     numbers: &[T],
@@ -78,7 +78,7 @@ pub(crate) fn products_by<T: ArithmeticInteger>(
     let calculated = bounded_products::<T>(ctx.alloc(), values, factor)?;
     let left = ListedNumbers { values };
     let right = OneNumber { value: factor };
-    settled_rows::<T, CheckedMul, ListedNumbers<T>, OneNumber<T>>(
+    numeric_column::<T, CheckedMul, ListedNumbers<T>, OneNumber<T>>(
         calculated,
         &left,
         &right,
@@ -107,7 +107,7 @@ pub(crate) fn products_of<T: ArithmeticInteger>(
     let calculated = bounded_products::<T>(ctx.alloc(), values, factor)?;
     let left = OneNumber { value: factor };
     let right = ListedNumbers { values };
-    settled_rows::<T, CheckedMul, OneNumber<T>, ListedNumbers<T>>(
+    numeric_column::<T, CheckedMul, OneNumber<T>, ListedNumbers<T>>(
         calculated,
         &left,
         &right,
@@ -118,8 +118,8 @@ pub(crate) fn products_of<T: ArithmeticInteger>(
     )
 }
 
-/// The quotient in each row, of integers on the left and a value on the right, which is also known
-/// as a divisor.
+/// The quotient in each row, of integers on the left and a value on the right, given as a divisor
+/// too.
 pub(crate) fn quotients_by<T: ArithmeticInteger>(
     values: &[T],
     value: T,
@@ -139,7 +139,7 @@ pub(crate) fn quotients_by<T: ArithmeticInteger>(
     let quotients = held_quotients::<T, T::Divisor>(ctx.alloc(), values, divisor)?;
     let left = ListedNumbers { values };
     let right = OneNumber { value };
-    settled_rows::<T, CheckedDiv, ListedNumbers<T>, OneNumber<T>>(
+    numeric_column::<T, CheckedDiv, ListedNumbers<T>, OneNumber<T>>(
         (quotients, false),
         &left,
         &right,

@@ -1,4 +1,4 @@
-//! Rows that fault and are null on neither side, found 64 rows at a time.
+//! Rows that fault and are null on neither side, searched 64 rows at a time.
 ghost use Rattle.std.specs.Prelude.{◌≡◌, ◌<◌, ℕ, false, length, slice_index_or};
 ghost use Rattle.vortex_columns.specs.ValidityView.{is_valid_row};
 ghost use Rattle.vortex_kernels.specs.Words.{AnswersUnlessMemory, row_results, validity_of};
@@ -14,7 +14,7 @@ use std::marker::PhantomData;
 use vortex_bits::{BitView, RowBits, collect_rows};
 use vortex_columns::{BitBuffer, Column, ValidRows, Validity, VortexResult};
 
-/// Whether each row faults, be it under a null.
+/// Whether each row faults, even under a null.
 #[derive(Drop)]
 struct RowFaults<'a, T: ArithmeticInteger, O: RowOperation<T>, L: Numbers<T>, R: Numbers<T>> {
     left: &'a L,
@@ -38,7 +38,7 @@ impl<T: ArithmeticInteger, O: RowOperation<T>, L: Numbers<T>, R: Numbers<T>> Row
     }
 }
 
-/// A place where both bits are set, if there is one: the first.
+/// The first index where both bits are set, if there is one.
 fn first_of_both(left: &BitView<'_>, right: &BitView<'_>) -> Option<usize>
     requires { length left.now ≡ length right.now }
     ensures { FindsBoth (length left.now) (λ i. slice_index_or left.now i false)
@@ -53,7 +53,7 @@ fn first_of_both(left: &BitView<'_>, right: &BitView<'_>) -> Option<usize>
     None
 }
 
-/// A row whose bit is set and that is valid, if there is one: the first.
+/// The first row whose bit is set and that is valid, if there is one.
 fn first_valid(bits: &BitBuffer, validity: &Validity) -> Option<usize>
     requires { FitsRows (validity_of validity.now) (length bits.now) }
     ensures { FindsBoth (length bits.now) (λ i. slice_index_or bits.now i false)
@@ -67,8 +67,8 @@ fn first_valid(bits: &BitBuffer, validity: &Validity) -> Option<usize>
     }
 }
 
-/// A row that faults and is null on neither side, if there is one: the first. The validity is that
-/// of both sides.
+/// The first row that faults and is null on neither side, if there is one. The validity is that of
+/// both sides.
 pub(crate) fn faulty_row<T: ArithmeticInteger, O: RowOperation<T>, L: Numbers<T>, R: Numbers<T>>(
     alloc: Global,
     left: &L,

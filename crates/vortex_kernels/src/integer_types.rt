@@ -4,7 +4,7 @@ ghost use Rattle.vortex_kernels.specs.Words.{integer_of_both, type_of};
 
 use vortex_columns::{DType, PType};
 
-/// The integer type of both types, where they agree apart from nullability.
+/// The integer type of both types, if they agree apart from nullability.
 pub(crate) fn integer_of_both(lhs: &DType, rhs: &DType) -> Option<PType>
     ensures { result ≡ integer_of_both (type_of lhs.now) (type_of rhs.now) }
 {
@@ -14,7 +14,7 @@ pub(crate) fn integer_of_both(lhs: &DType, rhs: &DType) -> Option<PType>
     }
 }
 
-/// A call of a generic function at the integer type of a `PType`: the type stands for the `_`, the
+/// A call of a generic function at the integer type of a `PType`: the type replaces the `_`, the
 /// last of the type arguments.
 macro_rules! with_integer {
     ($ptype:expr, $function:ident::<$($choice:ident,)* _>($($argument:expr),*)) => {

@@ -23,11 +23,11 @@ pub(crate) trait KleeneTable: WordFormula {
 
     ghost boolean: { is_boolean operator ≡ true };
 
-    /// The truth values that decide, whatever the other side says.
+    /// The truth values that decide, whatever the other side.
     fn deciding(values: u64) -> u64
         ensures { (j : ℕ) → j < 64 → bit result j ≡ decides operator (bit values j) };
 
-    /// The formula says the truth value where there is one, whatever lies under nulls.
+    /// The formula gives the truth value where there is one, whatever is under nulls.
     ghost table: { (p q a b : Bool)
         → IsValueOf (Self.says a b) (kleene operator (present p a) (present q b)) };
 }
@@ -62,7 +62,7 @@ impl KleeneTable for Either {
     }
 }
 
-/// Whether there is a truth value, by the values of both sides and which of them there are.
+/// Whether there is a truth value, from the values of both sides and which are present.
 pub(crate) fn valid_words<K: KleeneTable>(
     left: u64,
     left_valid: u64,
@@ -77,8 +77,7 @@ pub(crate) fn valid_words<K: KleeneTable>(
     (left_valid & right_valid) | decided
 }
 
-/// And or Or of 64 rows: the values, and which of them there are. Under a null the value is what
-/// the formula makes of the bits that lie there.
+/// And or Or of 64 rows: the values, and which are present. Under a null the value is arbitrary.
 pub fn kleene_words(
     operator: Operator,
     left: u64,
@@ -104,7 +103,7 @@ pub fn kleene_words(
     }
 }
 
-/// What the table says of two truth values for each row.
+/// The table's result for two truth values of each row.
 fn table_rows<K: KleeneTable + Copy>(
     left: TruthRows<'_>,
     right: TruthRows<'_>,
@@ -147,8 +146,8 @@ fn kleene_rows(
     }
 }
 
-/// One truth value or null, in a type of that nullability. Null in a type without null, which no row
-/// is, becomes false.
+/// One truth value or null, in a type of that nullability. Null in a type without null (for no
+/// rows) becomes false.
 fn truth_scalar(truth: Option<bool>, nullability: Nullability) -> Scalar
     ensures dtype { result.dtype ≡ bool_type (allows_null nullability) }
     ensures value { (allows_null nullability ≡ false → is_some truth ≡ true)
@@ -212,8 +211,8 @@ fn copied(
     Column::try_bool(ctx.alloc(), values, validity)
 }
 
-/// What the table says of one truth value beside each of a side: that value where it decides, else
-/// what the side says.
+/// The table's result for one truth value and each row of a side: that value where it decides, else
+/// the side's row.
 fn kleene_beside(
     value: bool,
     side: Operand<'_>,
@@ -239,7 +238,7 @@ fn kleene_beside(
     }
 }
 
-/// What the table says of each of `len` rows of two sides, in a column of that nullability.
+/// The table's result for each of `len` rows of two sides, in a column of that nullability.
 pub(crate) fn kleene_sides(
     left: Operand<'_>,
     right: Operand<'_>,

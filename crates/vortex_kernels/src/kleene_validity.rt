@@ -16,7 +16,7 @@ use vortex_bits::{
 };
 use vortex_columns::{BitBuffer, Nullability, ValidRows, Validity, VortexResult};
 
-/// What the formula says of whether a truth value decides, and of another bit.
+/// A formula over whether a truth value decides, and another bit.
 #[derive(Clone, Copy)]
 struct Deciding<K: KleeneTable + Copy, F: WordFormula + Copy> {
     table: PhantomData<K>,
@@ -31,7 +31,7 @@ impl<K: KleeneTable + Copy, F: WordFormula + Copy> WordFormula for Deciding<K, F
     }
 }
 
-/// Whether there is a truth value, where nulls are listed on both sides.
+/// Whether there is a truth value, where both sides have lists of nulls.
 #[derive(Clone, Copy)]
 struct BothListed<K: KleeneTable + Copy, W: BitWords + Copy> {
     left: W,
@@ -68,7 +68,7 @@ impl<K: KleeneTable + Copy, W: BitWords + Copy> BitWords for BothListed<K, W> {
     }
 }
 
-/// The rows that have a truth value, by values beside the rows that are valid.
+/// The rows with a truth value, from values with the valid rows.
 fn both_listed<K: KleeneTable + Copy>(
     alloc: Global,
     left: &BitBuffer,
@@ -116,7 +116,7 @@ fn both_listed<K: KleeneTable + Copy>(
     }
 }
 
-/// The rows that have a truth value beside null.
+/// The rows with a truth value, where the other side is null.
 fn valid_beside_null<K: KleeneTable + Copy>(
     alloc: Global,
     rows: TruthRows<'_>,
@@ -134,8 +134,8 @@ fn valid_beside_null<K: KleeneTable + Copy>(
     Ok(Validity::Array(bits?))
 }
 
-/// The rows that have a truth value, for a type of that nullability, which is nullable unless each
-/// row has one: no list of bits where no side has a null.
+/// The rows with a truth value, for a type of that nullability, which is nullable unless each row
+/// has one. No list of bits if no side has a null.
 pub(crate) fn kleene_validity<K: KleeneTable + Copy>(
     alloc: Global,
     left: TruthRows<'_>,

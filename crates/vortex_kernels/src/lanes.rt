@@ -1,4 +1,4 @@
-//! The integer types as they are compared: 64 at a time, by the processor's vectors.
+//! The integer types, compared 64 at a time, by the processor's vectors.
 
 mod signed;
 mod unsigned;
@@ -11,7 +11,7 @@ pub(crate) trait LaneInteger: NativePType {
     ghost use Rattle.vortex_kernels.specs.Words.{bit, Eq, Gt, Lt, holds, int_orders};
     ghost use Rattle.vortex_kernels.specs.Words.{int_orders_with};
 
-    /// Which of 64 integers equal those beside them, the first as the least significant bit.
+    /// Which of 64 integers equal those at the same index, the first as the least significant bit.
     fn equal_word(left: &[Self], right: &[Self]) -> u64
         requires left { length left.now ≡ 64 }
         requires right { length right.now ≡ 64 }
@@ -25,7 +25,7 @@ pub(crate) trait LaneInteger: NativePType {
         ensures { (j : ℕ) → j < 64 → bit result j
             ≡ holds Lt (int_orders (map Self.number left.now) (map Self.number right.now) j) };
 
-    /// Which of 64 integers equal one.
+    /// Which of 64 integers equal a given one.
     fn equal_word_with(left: &[Self], right: Self) -> u64
         requires { length left.now ≡ 64 }
         ensures { (j : ℕ) → j < 64 → bit result j

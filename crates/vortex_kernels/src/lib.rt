@@ -1,4 +1,4 @@
-//! Kernels over whole columns; with the operators that they are chosen by, which stand below.
+//! Kernels over whole columns, with the operators of the crate below.
 #![tactic(auto)]
 
 pub mod arithmetic_integer;
@@ -18,16 +18,16 @@ mod lists;
 pub mod null_tests;
 mod numbers;
 pub mod numeric;
+mod numeric_column;
 mod pairs;
-mod presence;
 mod products;
 mod quotients;
 mod records;
 mod row_operation;
-mod settled;
 mod spans;
 mod truths;
 mod validity;
+mod validity_words;
 
 pub use arithmetic_integer::{ArithmeticInteger, apply_checked};
 pub use between::execute_between;

@@ -1,5 +1,5 @@
-//! Lists of two columns compared by their elements, where these lie: the kind of the elements and
-//! the form of the lists are chosen before the rows.
+//! Lists of two columns compared by their elements, in place: the kind of the elements and the form
+//! of the lists are chosen before the rows.
 ghost use Rattle.std.specs.Prelude.{◌≡◌, length};
 ghost use Rattle.vortex_kernels.specs.Words.{AnswersUnlessMemory, AreComparisons, AreHeld};
 ghost use Rattle.vortex_kernels.specs.Words.{LiesIn, AreListed, part_order, list_orders};
@@ -30,7 +30,7 @@ pub(crate) trait Elements: Copy {
         ensures { result ≡ compare_values (row (left self.now) i) (row (right self.now) j) };
 }
 
-/// Elements of any type, read where they lie.
+/// Elements of any type, borrowed.
 #[derive(Clone, Copy)]
 struct CellElements<'a> {
     left: &'a Column,
@@ -67,7 +67,7 @@ impl<T: LaneInteger> Elements for IntElements<'_, T> {
     }
 }
 
-/// Where the list of each row lies among the elements.
+/// Where the list of each row is among the elements.
 pub(crate) trait Ranges: Copy {
     ghost use Rattle.std.specs.Prelude.{◌≡◌, ◌+◌, ◌^◌, ◌<◌, ℕ};
 
@@ -77,7 +77,7 @@ pub(crate) trait Ranges: Copy {
 
     ghost size: { Self → ℕ → ℕ };
 
-    /// From which element on it lies, and how many it has.
+    /// Its first element, and its length.
     fn range(&self, i: usize) -> (usize, usize)
         requires row { has_row self.now i }
         requires place { start self.now i + size self.now i < 2 ^ 64 }
@@ -85,7 +85,7 @@ pub(crate) trait Ranges: Copy {
         ensures size { result.1 ≡ size self.now i };
 }
 
-/// Lists that lie anywhere.
+/// Lists at any position.
 #[derive(Clone, Copy)]
 struct ListedRanges<'a> {
     offsets: &'a [usize],
@@ -106,7 +106,7 @@ impl Ranges for ListedRanges<'_> {
     }
 }
 
-/// Lists of one size, one behind another.
+/// Lists of one size, one after another.
 #[derive(Clone, Copy)]
 struct FixedRanges {
     size: usize,
@@ -127,8 +127,8 @@ impl Ranges for FixedRanges {
     }
 }
 
-/// The order of two lists, each so many elements from a place on: that of the first elements that
-/// differ, and else of their lengths.
+/// The order of two lists, each that many elements from an index on: of their first different
+/// elements, else of their lengths.
 fn compare_parts<E: Elements>(
     elements: &E,
     left: usize,
@@ -179,7 +179,7 @@ impl<E: Elements, R: Ranges> Pairs for ListPairs<E, R> {
     }
 }
 
-/// The lists of two columns: their elements, and where those of each row lie.
+/// The lists of two columns: their elements, and the position of each row's list.
 #[derive(Clone, Copy)]
 struct Lists<'a, R: Ranges> {
     left_elements: &'a Column,
@@ -188,7 +188,7 @@ struct Lists<'a, R: Ranges> {
     right: R,
 }
 
-/// Whether the comparison says yes in each row, of lists of elements of any type.
+/// Whether the comparison is true in each row, of lists of elements of any type.
 fn hold_in_cell_lists<P: Comparison, R: Ranges>(
     alloc: Global,
     lists: Lists<'_, R>,
@@ -212,7 +212,7 @@ fn hold_in_cell_lists<P: Comparison, R: Ranges>(
     hold_in_pairs::<P, ListPairs<CellElements, R>>(alloc, pairs, len)
 }
 
-/// The same of lists of integers, which are read as such where none is null.
+/// The same for lists of integers, which are read as such if none is null.
 fn hold_in_int_lists<P: Comparison, R: Ranges, T: LaneInteger>(
     alloc: Global,
     lists: Lists<'_, R>,
@@ -245,7 +245,7 @@ fn hold_in_int_lists<P: Comparison, R: Ranges, T: LaneInteger>(
     }
 }
 
-/// The same of lists of elements whose kind is chosen before the rows.
+/// The same for lists of elements; their kind is chosen before the rows.
 fn hold_in_list_rows<P: Comparison, R: Ranges>(
     alloc: Global,
     lists: Lists<'_, R>,
@@ -266,7 +266,7 @@ fn hold_in_list_rows<P: Comparison, R: Ranges>(
     }
 }
 
-/// Whether the comparison says yes in each row in which both sides have a value, of columns of
+/// Whether the comparison is true in each row in which both sides have a value, of columns of
 /// lists.
 pub(crate) fn hold_in_lists<P: Comparison>(
     alloc: Global,
@@ -280,7 +280,7 @@ pub(crate) fn hold_in_lists<P: Comparison>(
     let (Some(left), Some(right)) = (lhs.list_parts(), rhs.list_parts()) else {
         return hold_in_cells::<P>(alloc, lhs, rhs);
     };
-    // so that the places are known to fit
+    // so that the indices are known not to overflow
     let _left_count = left.0.len();
     let _right_count = right.0.len();
     let lists = Lists {
@@ -298,7 +298,7 @@ pub(crate) fn hold_in_lists<P: Comparison>(
     hold_in_list_rows::<P, ListedRanges>(alloc, lists, lhs.len())
 }
 
-/// The same of columns of lists of one size.
+/// The same for columns of lists of one size.
 pub(crate) fn hold_in_fixed_lists<P: Comparison>(
     alloc: Global,
     lhs: &Column,
@@ -314,7 +314,7 @@ pub(crate) fn hold_in_fixed_lists<P: Comparison>(
     ) else {
         return hold_in_cells::<P>(alloc, lhs, rhs);
     };
-    // so that the places are known to fit
+    // so that the indices are known not to overflow
     let _left_count = left.len();
     let _right_count = right.len();
     let lists = Lists {

@@ -1,4 +1,4 @@
-//! Which rows of a column are null, and which are not, as truth values. Only the validity is read.
+//! Which rows of a column are null or not, as truth values. Reads only the validity.
 ghost use Rattle.std.specs.Prelude.{length, slice_index_or, false, IsSome};
 ghost use Rattle.vortex_kernels.specs.Words.{AnswersUnlessMemory, HasTruths, HasNullTests};
 ghost use Rattle.vortex_kernels.specs.Words.{HasNotNullTests, IsConstantUnlessListed};
@@ -9,7 +9,7 @@ use vortex_columns::{
     BitBuffer, Column, ExecutionCtx, Nullability, Scalar, ValidRows, Validity, VortexResult,
 };
 
-/// One truth value in each of so many rows: a constant.
+/// One truth value in each of `len` rows: a constant.
 fn one_truth(alloc: Global, truth: bool, len: usize) -> VortexResult<Column>
     ensures rows { AnswersUnlessMemory result (HasTruths len (λ i. truth)) }
     ensures constant { AnswersUnlessMemory result (λ c. IsSome c.constant) }
@@ -26,8 +26,7 @@ fn listed_truths(alloc: Global, bits: BitBuffer) -> VortexResult<Column>
     Column::try_bool(alloc, bits, Validity::NonNullable)
 }
 
-/// Whether each row is null, as non-nullable Bool. A constant unless a list of bits tells the
-/// nulls.
+/// Whether each row is null, as non-nullable Bool. A constant unless nulls are a list of bits.
 pub fn execute_is_null(input: &Column, ctx: &mut ExecutionCtx) -> VortexResult<Column>
     ensures rows { AnswersUnlessMemory result (HasNullTests input.now) }
     ensures constant { AnswersUnlessMemory result (IsConstantUnlessListed input.now) }
@@ -43,8 +42,7 @@ pub fn execute_is_null(input: &Column, ctx: &mut ExecutionCtx) -> VortexResult<C
     }
 }
 
-/// Whether each row is not null, as non-nullable Bool. A constant unless a list of bits tells the
-/// nulls.
+/// Whether each row is not null, as non-nullable Bool. A constant unless nulls are a list of bits.
 pub fn execute_is_not_null(input: &Column, ctx: &mut ExecutionCtx) -> VortexResult<Column>
     ensures rows { AnswersUnlessMemory result (HasNotNullTests input.now) }
     ensures constant { AnswersUnlessMemory result (IsConstantUnlessListed input.now) }

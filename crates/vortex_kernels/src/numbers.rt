@@ -7,7 +7,7 @@ use vortex_columns::NativePType;
 pub(crate) trait Numbers<T: NativePType> {
     ghost has_row: { Self → ℕ → Type 0 };
 
-    /// The number in a row. It says nothing of the row where it lies under a null.
+    /// The number in a row. Arbitrary under a null.
     ghost number_at: { Self → ℕ → ℤ };
 
     fn at(&self, i: usize) -> T

@@ -14,11 +14,11 @@ use crate::arithmetic_integer::{ArithmeticInteger, apply_checked};
 use crate::constant_operand::{products_by, products_of, quotients_by};
 use crate::integer_types::{integer_of_both, with_integer};
 use crate::numbers::{ListedNumbers, Numbers, OneNumber};
+use crate::numeric_column::numeric_column;
 use crate::pairs::constant_int;
 use crate::products::VectorMul;
 use crate::quotients::column_quotients;
 use crate::row_operation::{RowOperation, WideMul};
-use crate::settled::settled_rows;
 use std::alloc::Global;
 use vortex_checked::{
     CheckedAdd, CheckedDiv, CheckedMul, CheckedSub, ConstantArithmetic, GuessedDivision,
@@ -28,8 +28,7 @@ use vortex_columns::{
     VortexError, VortexResult,
 };
 
-/// The value of each row, also where it lies under a null, and evidence that is joined over all
-/// rows.
+/// The value of each row, even under a null, and a fault flag, joined over all rows.
 fn apply_rows<T: ArithmeticInteger, O: RowOperation<T>, L: Numbers<T>, R: Numbers<T>>(
     alloc: Global,
     left: &L,
@@ -55,7 +54,7 @@ fn apply_rows<T: ArithmeticInteger, O: RowOperation<T>, L: Numbers<T>, R: Number
     Ok((values, fault))
 }
 
-/// The value of each row, unless a row faults, be it under a null: the loop ends there.
+/// The value of each row, unless a row faults, even under a null: the loop ends there.
 fn unfaulted_rows<T: ArithmeticInteger, O: RowOperation<T>, L: Numbers<T>, R: Numbers<T>>(
     alloc: Global,
     left: &L,
@@ -79,8 +78,8 @@ fn unfaulted_rows<T: ArithmeticInteger, O: RowOperation<T>, L: Numbers<T>, R: Nu
     Ok(Some(values))
 }
 
-/// The value of each row, also where it lies under a null, and whether any row faults, in the form
-/// that serves the operation.
+/// The value of each row, even under a null, and whether any row faults, by the loop that is best
+/// for the operation.
 fn checked_rows<T: ArithmeticInteger, O: RowOperation<T>, L: Numbers<T>, R: Numbers<T>>(
     alloc: Global,
     left: &L,
@@ -123,7 +122,7 @@ fn numeric_rows<T: ArithmeticInteger, O: RowOperation<T>, L: Numbers<T>, R: Numb
         (RefusesNumeric operator lhs.now rhs.now) }
 {
     let calculated = checked_rows::<T, O, L, R>(ctx.alloc(), left, right, lhs.len())?;
-    settled_rows::<T, O, L, R>(calculated, left, right, lhs, rhs, operator, ctx)
+    numeric_column::<T, O, L, R>(calculated, left, right, lhs, rhs, operator, ctx)
 }
 
 /// Null in each row, of the nullable form of the type: a constant.
@@ -137,7 +136,7 @@ fn null_rows(lhs: &Column, ctx: &mut ExecutionCtx) -> VortexResult<Column>
     Column::constant(ctx.alloc(), null, lhs.len())
 }
 
-/// The same as `numeric_columns`, the integers of the left side being listed.
+/// The same as `numeric_columns`, for a list of integers on the left.
 fn numeric_listed<T: ArithmeticInteger, O: RowOperation<T>>(
     values: &[T],
     lhs: &Column,
@@ -170,8 +169,8 @@ fn numeric_listed<T: ArithmeticInteger, O: RowOperation<T>>(
     }
 }
 
-/// The operation on two constant columns of equal length: it is made once, and answered as a
-/// constant. Nothing faults where there are no rows.
+/// The operation on two constant columns of equal length: computed once, and returned as a
+/// constant. Nothing faults if there are no rows.
 fn numeric_constants<T: ArithmeticInteger, O: RowOperation<T>>(
     left: T,
     right: T,
@@ -200,7 +199,7 @@ fn numeric_constants<T: ArithmeticInteger, O: RowOperation<T>>(
     Column::constant(ctx.alloc(), scalar, lhs.len())
 }
 
-/// The same as `numeric_columns`, the left side being a constant.
+/// The same as `numeric_columns`, for a constant on the left.
 fn numeric_constant<T: ArithmeticInteger, O: RowOperation<T>>(
     value: T,
     lhs: &Column,
@@ -251,8 +250,8 @@ fn numeric_columns<T: ArithmeticInteger, O: RowOperation<T>>(
     }
 }
 
-/// The product in each row, of columns of equal length. A factor that is constant is looked at
-/// before the rows.
+/// The product in each row, of columns of equal length. A constant factor is precomputed before the
+/// rows.
 fn numeric_products<T: ArithmeticInteger, O: RowOperation<T>>(
     lhs: &Column,
     rhs: &Column,
@@ -274,8 +273,8 @@ fn numeric_products<T: ArithmeticInteger, O: RowOperation<T>>(
     numeric_columns::<T, O>(lhs, rhs, NumericOperator::Mul, ctx)
 }
 
-/// The quotient in each row, of columns of equal length. A divisor that is constant is looked at
-/// before the rows.
+/// The quotient in each row, of columns of equal length. A constant divisor is precomputed before
+/// the rows.
 fn numeric_quotients<T: ArithmeticInteger>(
     lhs: &Column,
     rhs: &Column,
@@ -295,7 +294,7 @@ fn numeric_quotients<T: ArithmeticInteger>(
     numeric_columns::<T, CheckedDiv>(lhs, rhs, NumericOperator::Div, ctx)
 }
 
-/// The same, of a type whose quotients are guessed where neither column is constant.
+/// The same for a type whose quotients are estimated if neither column is constant.
 fn guessed_or_quotients<T: ArithmeticInteger + GuessedDivision>(
     lhs: &Column,
     rhs: &Column,
@@ -313,7 +312,7 @@ fn guessed_or_quotients<T: ArithmeticInteger + GuessedDivision>(
     numeric_quotients::<T>(lhs, rhs, ctx)
 }
 
-/// The same, the operator being chosen before the rows, in the form that serves any type.
+/// The same, in the form for any type; the operator is chosen before the rows.
 fn numeric_in<T: ArithmeticInteger>(
     lhs: &Column,
     rhs: &Column,
@@ -367,11 +366,11 @@ fn numeric_typed(
 
 /// Exact arithmetic of two columns row by row: a column of their integer type, nullable if either
 /// is, null exactly where a row is null on either side. A quotient is truncated toward zero. Two
-/// constants answer a constant.
+/// constants give a constant.
 ///
 /// In order: E3 Arithmetic for types that are not one integer type apart from nullability; E2 for
 /// columns of two lengths, with `left` the first; E7 exactly where in some row two operands that
-/// are not null have no exact result that the type holds, whatever lies under nulls.
+/// are not null have no exact result that the type holds, whatever values are under nulls.
 pub fn execute_numeric(
     lhs: &Column,
     rhs: &Column,

@@ -1,4 +1,4 @@
-//! The values of two columns side by side, and what a comparison says of each pair.
+//! The values of two columns row by row, and the result of a comparison for each pair.
 ghost use Rattle.std.specs.Prelude.{◌≡◌, ◌<◌, ◌+◌, ◌^◌, ℕ, true, map, length};
 ghost use Rattle.std.specs.Prelude.{IsSome, IfSome, IfNone};
 ghost use Rattle.std.specs.declared.cmp.Ordering.{Ordering};
@@ -27,10 +27,10 @@ use vortex_views::ConstantBytes;
 pub(crate) trait Pairs: Copy {
     ghost has_pair: { Self → ℕ → Type 0 };
 
-    /// The order of what lies in a row. It says nothing of the row where that lies under a null.
+    /// The order of the values in a row. Arbitrary under a null.
     ghost order: { Self → ℕ → Ordering };
 
-    /// Whether the comparison says yes to a pair.
+    /// Whether the comparison is true for a pair.
     fn holds_at<P: Comparison>(&self, i: usize) -> bool
         requires { has_pair self.now i }
         ensures { result ≡ holds P.operator (order self.now i) };
@@ -38,7 +38,7 @@ pub(crate) trait Pairs: Copy {
 
 /// Pairs of which 64 are compared at once.
 pub(crate) trait SpanPairs: Pairs {
-    /// Whether the comparison says yes to pairs `at` to `at + 63`, the first as the least
+    /// Whether the comparison is true for pairs `at` to `at + 63`, the first as the least
     /// significant bit.
     fn hold_from<P: Comparison>(&self, at: usize) -> u64
         requires place { at + 64 < 2 ^ 64 }
@@ -47,7 +47,7 @@ pub(crate) trait SpanPairs: Pairs {
             → bit result j ≡ holds P.operator (Self.order self.now (at + j)) };
 }
 
-/// Whether the comparison says yes to each pair.
+/// Whether the comparison is true for each pair.
 #[derive(Clone, Copy)]
 struct Held<P: Comparison, R: Pairs> {
     pairs: R,
@@ -70,7 +70,7 @@ impl<P: Comparison, R: SpanPairs> SpanBits for Held<P, R> {
     }
 }
 
-/// Whether the comparison says yes in each row.
+/// Whether the comparison is true in each row.
 pub(crate) fn hold_in_pairs<P: Comparison, R: Pairs>(
     alloc: Global,
     pairs: R,
@@ -86,7 +86,7 @@ pub(crate) fn hold_in_pairs<P: Comparison, R: Pairs>(
     collect_rows(alloc, &rows, len)
 }
 
-/// The same of pairs of which 64 are compared at once.
+/// The same for pairs of which 64 are compared at once.
 fn hold_in_spans<P: Comparison, R: SpanPairs>(
     alloc: Global,
     pairs: R,
@@ -102,7 +102,7 @@ fn hold_in_spans<P: Comparison, R: SpanPairs>(
     collect_spans(alloc, &rows, len)
 }
 
-/// Rows of any type, read where they lie.
+/// Rows of any type, borrowed.
 #[derive(Clone, Copy)]
 struct CellPairs<'a> {
     left: &'a Column,
@@ -142,7 +142,7 @@ impl<T: LaneInteger> SpanPairs for IntPairs<'_, T> {
     }
 }
 
-/// The integers of a column beside one.
+/// The integers of a column and a constant.
 #[derive(Clone, Copy)]
 pub(crate) struct IntsAndOne<'a, T: LaneInteger> {
     pub(crate) left: &'a [T],
@@ -183,7 +183,7 @@ impl Pairs for BytesPairs<'_> {
     }
 }
 
-/// The texts or the byte strings of a column beside one.
+/// The texts or the byte strings of a column and a constant.
 #[derive(Clone, Copy)]
 pub(crate) struct BytesAndOne<'a> {
     pub(crate) left: ResolvedViews<'a>,
@@ -200,7 +200,7 @@ impl Pairs for BytesAndOne<'_> {
     }
 }
 
-/// The same of rows of any type, one by one.
+/// The same for rows of any type, one by one.
 pub(crate) fn hold_in_cells<P: Comparison>(
     alloc: Global,
     lhs: &Column,
@@ -278,7 +278,7 @@ fn hold_in_bools<P: Comparison>(
     }
 }
 
-/// Bytes with their words, if a view can tell their length.
+/// Bytes with their words, if a view can have their length.
 fn with_words(bytes: &[u8]) -> Option<ConstantBytes<'_>>
     ensures { IfSome result (λ one. constant_value one ≡ bytes.now) }
 {
@@ -331,9 +331,9 @@ fn hold_in_bytes<P: Comparison>(
     }
 }
 
-/// Whether the comparison says yes in each row in which both sides have a value, with records by
-/// the cells. The kind is chosen before the rows, and so is the form of the right side; a constant
-/// on the left goes by the cells.
+/// Whether the comparison is true in each row in which both sides have a value; records are
+/// compared by cells. The kind and the form of the right side are chosen before the rows; a
+/// constant on the left is compared by cells.
 pub(crate) fn hold_in_flat<P: Comparison>(
     alloc: Global,
     lhs: &Column,

@@ -17,7 +17,7 @@ fn upper_half_16(left: i16, right: i16) -> u16
     (product.cast_unsigned() >> 16) as u16
 }
 
-/// Each bit the sign of a number of 16 bits.
+/// A word whose bits are all the sign of a 16-bit number.
 fn sign_word_16(number: i16) -> u16
     ensures { result ≡ sign_word w16 number }
 {
@@ -40,7 +40,7 @@ fn upper_half_32(left: i32, right: i32) -> u32
     (product.cast_unsigned() >> 32) as u32
 }
 
-/// Each bit the sign of a number of 32 bits.
+/// A word whose bits are all the sign of a 32-bit number.
 fn sign_word_32(number: i32) -> u32
     ensures { result ≡ sign_word w32 number }
 {

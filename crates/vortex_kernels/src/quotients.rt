@@ -1,4 +1,4 @@
-//! Quotients of two columns, guessed 64 rows at a time where floats may hold the integers.
+//! Quotients of two columns, estimated 64 rows at a time where floats may hold the integers.
 ghost use Rattle.std.specs.Prelude.{◌≡◌, ◌+◌, ◌≤◌, Bool, false, length, map, take, Some};
 ghost use Rattle.std.specs.Vec.{vec_len, vec_capacity};
 ghost use Rattle.vortex_checked.specs.Exact.{quotient};
@@ -9,13 +9,12 @@ ghost use Rattle.vortex_kernels.specs.Faults.{AreToldResults, pair_results};
 
 use crate::arithmetic_integer::{ArithmeticInteger, apply_checked, by_guess};
 use crate::numbers::ListedNumbers;
-use crate::settled::settled_rows;
+use crate::numeric_column::numeric_column;
 use std::alloc::Global;
 use vortex_checked::{CheckedDiv, GuessedDivision};
 use vortex_columns::{Column, ExecutionCtx, NumericOperator, VortexResult};
 
-/// The quotients of the rows up to `end`, row by row, behind those of the rows before; and whether
-/// a row faults.
+/// Appends the quotients of the rows up to `end`, row by row; returns whether a row faults.
 fn divide_rows<T: ArithmeticInteger>(
     mut values: Vec<T>,
     mut fault: bool,
@@ -43,8 +42,7 @@ fn divide_rows<T: ArithmeticInteger>(
     (values, fault)
 }
 
-/// Guesses at the quotients of the next 64 rows, behind those of the rows before; and whether any
-/// may be off.
+/// Appends estimates of the quotients of the next 64 rows; returns whether any may be wrong.
 #[inline(always)]
 fn guess_rows<T: ArithmeticInteger + GuessedDivision>(
     mut values: Vec<T>,
@@ -74,8 +72,8 @@ fn guess_rows<T: ArithmeticInteger + GuessedDivision>(
     (values, is_off)
 }
 
-/// The quotients of the next 64 rows, behind those of the rows before; and whether a row faults.
-/// Where a guess may be off, all 64 rows are divided.
+/// Appends the quotients of the next 64 rows; returns whether a row faults. If an estimate may be
+/// wrong, all 64 rows are divided.
 fn next_rows<T: ArithmeticInteger + GuessedDivision>(
     values: Vec<T>,
     fault: bool,
@@ -105,7 +103,7 @@ fn next_rows<T: ArithmeticInteger + GuessedDivision>(
     divide_rows::<T>(guesses, fault, lefts, rights, start + 64)
 }
 
-/// The quotient of each row, also where it lies under a null, and whether a row faults.
+/// The quotient of each row, even under a null, and whether a row faults.
 fn guessed_quotients<T: ArithmeticInteger + GuessedDivision>(
     alloc: Global,
     lefts: &[T],
@@ -145,7 +143,7 @@ pub(crate) fn column_quotients<T: ArithmeticInteger + GuessedDivision>(
     let calculated = guessed_quotients::<T>(ctx.alloc(), lefts, rights)?;
     let left = ListedNumbers { values: lefts };
     let right = ListedNumbers { values: rights };
-    settled_rows::<T, CheckedDiv, ListedNumbers<T>, ListedNumbers<T>>(
+    numeric_column::<T, CheckedDiv, ListedNumbers<T>, ListedNumbers<T>>(
         calculated,
         &left,
         &right,

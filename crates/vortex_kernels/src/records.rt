@@ -1,5 +1,5 @@
 //! Records of two columns compared a field at a time: a pass over each field, joined by words. The
-//! first field that differs decides.
+//! first different field decides.
 ghost use Rattle.std.specs.Prelude.{◌≡◌, ◌<◌, ◌+◌, ℕ, length, slice_index_or, false, IfSome};
 ghost use Rattle.std.specs.Prelude.{MatchOption, if◌then◌else◌};
 ghost use Rattle.std.specs.Ordering.{is_eq};
@@ -8,18 +8,18 @@ ghost use Rattle.vortex_kernels.specs.Words.{AreComparisons, HoldByLast, holds, 
 
 use crate::comparisons::{Comparison, IsEqual};
 use crate::pairs::{hold_in_cells, hold_in_flat};
-use crate::presence::{Presence, chosen_word, presence_of};
+use crate::validity_words::{ValidityWords, chosen_word, validity_words};
 use std::alloc::Global;
 use std::cmp::Ordering;
 use std::marker::PhantomData;
 use vortex_bits::{BitWords, SameBit, ShiftedBits, collect_words};
 use vortex_columns::{BitBuffer, Column, DType, ValidRows, VortexResult};
 
-/// What a comparison says of values where there are two, and else of what is null.
+/// The result of a comparison where there are two values, and where there is a null.
 #[derive(Clone, Copy)]
 struct NullsLeast<'a, P: Comparison> {
-    left: Presence<'a>,
-    right: Presence<'a>,
+    left: ValidityWords<'a>,
+    right: ValidityWords<'a>,
     values: ShiftedBits<'a>,
     comparison: PhantomData<P>,
 }
@@ -50,7 +50,7 @@ impl<P: Comparison> BitWords for NullsLeast<'_, P> {
     }
 }
 
-/// What is said of the rest of two records where they are equal so far, and else of what differs.
+/// The result for the rest of two records where they are equal so far, and where they differ.
 #[derive(Clone, Copy)]
 struct Joined<'a, U: BitWords + Copy> {
     equal: ShiftedBits<'a>,
@@ -84,18 +84,18 @@ pub(crate) trait FieldKernel: Copy {
     ghost use Rattle.std.specs.Prelude.{◌≡◌, length};
     ghost use Rattle.vortex_kernels.specs.Words.{AnswersUnlessMemory, AreComparisons};
 
-    /// Whether the comparison says yes in each row in which both sides have a value.
+    /// Whether the comparison is true in each row in which both sides have a value.
     fn hold<P: Comparison>(alloc: Global, lhs: &Column, rhs: &Column) -> VortexResult<BitBuffer>
         requires { length lhs.now.rows ≡ length rhs.now.rows }
         ensures { AnswersUnlessMemory result
             (AreComparisons P.operator lhs.now.rows rhs.now.rows) };
 }
 
-/// Each by its kind, records by their cells.
+/// By kind; records by their cells.
 #[derive(Clone, Copy)]
 pub(crate) struct Flat {}
 
-/// Records by their fields, which go by the kernel, and others by their kind.
+/// Records by their fields, with the kernel; other values by their kind.
 #[derive(Clone, Copy)]
 pub(crate) struct Nested<K: FieldKernel> {
     fields: PhantomData<K>,
@@ -118,7 +118,7 @@ impl<K: FieldKernel> FieldKernel for Nested<K> {
     }
 }
 
-/// Whether the comparison says yes in each row, where null is a value, equal to null and least.
+/// Whether the comparison is true in each row, where null is a value, equal to null and least.
 fn hold_with_nulls<P: Comparison, K: FieldKernel>(
     alloc: Global,
     lhs: &Column,
@@ -134,16 +134,16 @@ fn hold_with_nulls<P: Comparison, K: FieldKernel>(
         return Ok(values);
     }
     let rows = NullsLeast::<P> {
-        left: presence_of(lhs),
-        right: presence_of(rhs),
+        left: validity_words(lhs),
+        right: validity_words(rhs),
         values: values.shifted(),
         comparison: PhantomData,
     };
     collect_words(alloc, &rows, len)
 }
 
-/// Whether the comparison says yes in each row: to these values where they differ, and else as the
-/// rest of the rows has it.
+/// Whether the comparison is true in each row: for these values where they differ, else the result
+/// for the rest of the record.
 fn hold_before<P: Comparison, K: FieldKernel>(
     alloc: Global,
     lhs: &Column,
@@ -162,7 +162,7 @@ fn hold_before<P: Comparison, K: FieldKernel>(
     let equal = equal.shifted();
     let rest = rest.shifted();
     if P::holds(Ordering::Less) == P::holds(Ordering::Greater) {
-        // whether they differ is all that it asks
+        // only whether they differ is needed
         let unequal = SameBit {
             bit: P::holds(Ordering::Less),
         };
@@ -189,8 +189,8 @@ fn hold_before<P: Comparison, K: FieldKernel>(
     )
 }
 
-/// Whether the comparison says yes in each row to the last `told + 1` of so many fields, by what was
-/// told of the last `told`, if any. None where a side keeps no such field.
+/// Whether the comparison is true in each row for the last `told + 1` of that many fields, from the
+/// result for the last `told`, if any. None where a side has no such field.
 fn hold_by_last<P: Comparison, K: FieldKernel>(
     alloc: Global,
     lhs: &Column,
@@ -217,8 +217,8 @@ fn hold_by_last<P: Comparison, K: FieldKernel>(
     Ok(Some(bits))
 }
 
-/// Whether the comparison says yes in each row by all fields, from the last to the first. None
-/// where a side keeps none.
+/// Whether the comparison is true in each row for all fields, from the last to the first. None
+/// where a side has none.
 fn hold_in_fields<P: Comparison, K: FieldKernel>(
     alloc: Global,
     lhs: &Column,
@@ -246,7 +246,7 @@ fn hold_in_fields<P: Comparison, K: FieldKernel>(
     Ok(rest)
 }
 
-/// Whether the comparison says yes in each row, of records of so many fields.
+/// Whether the comparison is true in each row, of records of that many fields.
 fn hold_in_records<P: Comparison, K: FieldKernel>(
     alloc: Global,
     lhs: &Column,
@@ -267,11 +267,12 @@ fn hold_in_records<P: Comparison, K: FieldKernel>(
     }
 }
 
-/// How deep records within records go by their fields; below that by their cells.
+/// Down to this depth records within records are compared by their fields; below that by their
+/// cells.
 type FourLevels = Nested<Nested<Nested<Nested<Flat>>>>;
 
-/// Whether the comparison says yes in each row in which both sides have a value: records by their
-/// fields, and others by their kind.
+/// Whether the comparison is true in each row in which both sides have a value: records by their
+/// fields, others by their kind.
 pub(crate) fn hold_in_rows<P: Comparison>(
     alloc: Global,
     lhs: &Column,

@@ -1,13 +1,13 @@
-//! The operations as rows are calculated by them, and whether the rows end at a fault.
+//! The row operations, and whether a loop stops at a fault.
 
 use crate::arithmetic_integer::ArithmeticInteger;
 use crate::products::VectorMul;
 use vortex_checked::{CheckedAdd, CheckedDiv, CheckedMul, CheckedPrimitiveOp, CheckedSub};
 
-/// A checked operation, and the form of the loop that serves it best.
+/// A checked operation, and the best form of its loop.
 pub(crate) trait RowOperation<T: ArithmeticInteger>: CheckedPrimitiveOp<T> {
-    /// Whether the rows end at the first fault, be it under a null. Else evidence is joined over
-    /// all rows, which leaves the loop free to become vector code.
+    /// Whether the loop stops at the first fault, even under a null. Else flags are joined over all
+    /// rows, so that the loop can become vector code.
     const ENDS_AT_FAULT: bool;
 }
 
@@ -28,7 +28,7 @@ impl<T: ArithmeticInteger> RowOperation<T> for CheckedDiv {
 }
 
 /// Multiplication of 64 bits: the product, wrapped. No vector holds such products, and the
-/// processor tells of a fault with each.
+/// processor flags each overflow.
 pub(crate) struct WideMul {}
 
 impl CheckedPrimitiveOp<i64> for WideMul {

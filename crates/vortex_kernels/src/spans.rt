@@ -1,4 +1,4 @@
-//! Rows of which 64 are told at once, from any row on.
+//! Rows read 64 at once, from any row on.
 ghost use Rattle.std.specs.Prelude.{◌≡◌, ◌<◌, ◌≤◌, ◌+◌, ◌^◌, ℕ};
 ghost use Rattle.vortex_kernels.specs.Words.{AnswersUnlessMemory, AreRows, bit};
 
@@ -6,7 +6,7 @@ use std::alloc::Global;
 use vortex_bits::{BitWords, RowBits, collect_rows, collect_words};
 use vortex_columns::{BitBuffer, VortexResult};
 
-/// A bit for each row, told for one of them or for 64 at once.
+/// A bit for each row, for one of them or for 64 at once.
 pub(crate) trait SpanBits: RowBits {
     /// Rows `at` to `at + 63`, the first as the least significant bit.
     fn span(&self, at: usize) -> u64
@@ -33,7 +33,7 @@ impl<S: SpanBits> BitWords for Spans<'_, S> {
     }
 
     fn last(&self, k: usize, _count: usize) -> u64 {
-        // the last 64 rows at once, of which those before the word are shifted out
+        // the last 64 rows at once; those before the word are shifted out
         let first = 64 * k;
         let at = first.min(self.len - 64);
         self.rows.span(at) >> (first - at)

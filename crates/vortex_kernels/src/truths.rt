@@ -1,4 +1,4 @@
-//! The truth values of one side of And or Or, borrowed where they lie.
+//! The truth values of one side of And or Or, borrowed.
 ghost use Rattle.std.specs.Prelude.{◌≡◌, true, length};
 ghost use Rattle.vortex_kernels.specs.Words.{is_bool_type, row, truth_of};
 ghost use Rattle.vortex_kernels.specs.Words.{IsOperandOf};
@@ -6,7 +6,7 @@ ghost use Rattle.vortex_kernels.specs.Words.{IsOperandOf};
 use crate::pairs::constant_bool;
 use vortex_columns::{BitBuffer, Column, ValidRows};
 
-/// A bit for each row, and which of them are under no null. What lies under one says nothing.
+/// A bit for each row, and which rows are not null. Bits under a null are arbitrary.
 #[derive(Clone, Copy)]
 pub(crate) struct TruthRows<'a> {
     pub(crate) bits: &'a BitBuffer,
@@ -22,7 +22,7 @@ pub(crate) enum Operand<'a> {
     One(Option<bool>),
 }
 
-/// The form in which a column of Bool lends its truth values. Takes no memory.
+/// The form in which a column of Bool gives its truth values. Allocates nothing.
 pub(crate) fn operand_of(column: &Column) -> Operand<'_>
     requires { is_bool_type column.now.dtype ≡ true }
     ensures { IsOperandOf (length column.now.rows) (λ i. truth_of (row column.now.rows i)) result }

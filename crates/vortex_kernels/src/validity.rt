@@ -1,4 +1,4 @@
-//! The validity of the rows of a column, for an answer.
+//! The validity of the rows of a column, for a result.
 ghost use Rattle.std.specs.Prelude.{◌≡◌, true, false};
 ghost use Rattle.vortex_kernels.specs.Words.{AnswersUnlessMemory, validity_of, allows_null};
 ghost use Rattle.vortex_kernels.specs.Words.{IsValidityOf, IsValidityIn};

@@ -1,4 +1,4 @@
--- Which patterns are ASCII, and their forms past case.
+-- Which patterns are ASCII, and their case-insensitive forms.
 use Rattle.std.proofs.Common.{◌≡◌, ℕ, zero, suc, ◌<◌, Bool, true, false, List, [], ◌∷◌, get_or}
 use Rattle.std.proofs.Common.{refl, sym}
 use Rattle.std.proofs.Common.{Option, ap, subst, ◌∙◌, arith}

@@ -1,9 +1,9 @@
--- How many looks the matcher's walk takes: what is still to come falls with each step.
+-- How many looks the matcher's walk takes: the remaining number falls with each step.
 use Rattle.std.proofs.Common.{ℕ, ◌+◌, ◌-◌, ◌*◌, ◌≤◌, ◌<◌, arith}
 use Rattle.std.proofs.Math.Nat.{mul-le-mul_right}
 
--- how many steps there are still at most: with so many tokens, this many of them left, and so many
--- characters from the place to go back to
+-- an upper bound on the remaining steps: with that many tokens, this many of them left, and that
+-- many characters from the backtracking point on
 abbrev pub steps_left : ℕ → ℕ → ℕ → ℕ
 steps_left tokens left room = room * (tokens + 1) + left
 

@@ -1,4 +1,5 @@
--- What the last pattern says of a text is what LIKE says of the two values of a row.
+-- The result of the last compiled pattern for a text is the result of LIKE for the two values of a
+-- row.
 use Rattle.std.proofs.Common.{◌≡◌, ℕ, Bool, false, List, sym, ap, subst, ◌∙◌}
 use Rattle.std.specs.Str.{chars}
 use Rattle.vortex_types.specs.Values.{Value, text, is_null}
@@ -8,7 +9,7 @@ use Rattle.vortex_like.specs.Patterns.{PatternView, pattern_of, like}
 use Rattle.vortex_like.specs.Rows.{IsLikeBit, turned}
 use Rattle.vortex_like.specs.TextRows.{IsTextOf}
 
--- the values are texts, which lie in the columns as these bytes, and the pattern is of its text
+-- the values are texts, with these bytes in the columns, and the pattern is compiled from its text
 pub row_like : (options : LikeOptions) (v w : Value) (p : PatternView)
     (own ps ps' bs bs' : List ℕ) (ascii b : Bool) → IsTextOf v bs → IsTextOf w ps
     → is_null v ≡ false → is_null w ≡ false

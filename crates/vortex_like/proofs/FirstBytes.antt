@@ -1,4 +1,4 @@
--- A text that tokens match begins with a byte that may.
+-- A text that tokens match begins with a permitted byte.
 use Rattle.std.proofs.Common.{◌≡◌, ◌⊎◌, inl, inr, ℕ, ◌<◌, ◌≤◌, Bool, true, List, []}
 use Rattle.std.proofs.Common.{◌∷◌, ◌++◌, length, refl, sym, ap, ◌∙◌, arith}
 use Rattle.std.proofs.Common.{length-append}
@@ -28,7 +28,7 @@ module _ (fold : Bool) where
   none_admitted (character own ∷ ts) e = cc
 
   module _ (tokens : List Token) (may : List Bool) (h : AreFirstBytes fold tokens may) where
-    -- what is no ASCII, and what is no byte, may
+    -- bytes that are not ASCII, and numbers that are no byte, are permitted
     other_may : (b : ℕ) → 128 ≤ b → (b < 256) ⊎ (256 ≤ b) → slice_index_or may b true ≡ true
     other_may b ge (inl lt) = h.others b ge lt
     other_may b ge (inr past) = get_or_past may b true (omega (arith, h.count))

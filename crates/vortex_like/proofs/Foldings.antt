@@ -1,4 +1,4 @@
--- A text beside a literal part past case: equal foldings are what the tokens ask.
+-- A text compared with a literal part, ignoring case: equal foldings mean that the tokens match.
 use Rattle.std.proofs.Common.{◌≡◌, ℕ, suc, ◌+◌, ◌-◌, ◌<◌, ◌≤◌, true, false, List, [], ◌∷◌, ◌++◌}
 use Rattle.std.proofs.Common.{map, length, take}
 use Rattle.std.proofs.Common.{drop, refl, sym, ap, subst, ◌∙◌, arith, length-append, eq-eqb}
@@ -18,7 +18,7 @@ use Rattle.vortex_like.specs.Tokens.{Token, any, character, Match, is_match}
 use Rattle.vortex_like.specs.Shapes.{whole_tokens, front_tokens, end_tokens}
 use Rattle.vortex_like.proofs.Testing.{answer_is}
 
--- a text that the tokens of a literal part match begins with what folds as it does
+-- a text that the tokens of a literal part match begins with equal foldings
 fold_start : (literal : List ℕ) (rest : List Token) (text : List ℕ)
     → Match true (map character literal ++ rest) text
     → (front : List ℕ) × (after : List ℕ) × (text ≡ front ++ after)
@@ -125,7 +125,7 @@ end_alone literal text front after e f =
           ∙ f,
     )
 
--- bytes that are too few
+-- too few bytes
 pub too_short : (literal bytes : List ℕ) → length bytes < length literal
     → folds_alike literal bytes ≡ false
 too_short literal bytes lt =
@@ -139,7 +139,7 @@ too_short literal bytes lt =
       length-map literal simple_fold,
     ))
 
--- ASCII bytes are folded as themselves
+-- ASCII bytes are folded as their characters
 ascii_folded : (bytes : List ℕ) → IsAscii bytes → folded_bytes bytes ≡ folded bytes
 ascii_folded [] ascii = refl
 ascii_folded (b ∷ bytes) ascii =
@@ -154,7 +154,7 @@ alike_told literal bytes ascii =
     let decides = bytes_eq-Decides (folded_bytes bytes) (folded literal) in
     (λ is. sym same ∙ decides.0 is, λ e. decides.1 (same ∙ e))
 
--- what a test by foldings says of an ASCII text
+-- the result of a test by foldings for an ASCII text
 module _ (literal bytes : List ℕ) (ascii : IsAscii bytes) where
   text_is : chars bytes ≡ bytes
   text_is = chars-IsAscii bytes ascii
@@ -191,7 +191,7 @@ module _ (literal bytes : List ℕ) (ascii : IsAscii bytes) where
       )
       ∙ ap (λ (cs : List ℕ). is_match true (end_tokens literal) cs) (sym text_is)
 
--- and, at the front, of a text whose first bytes are ASCII
+-- and, for a prefix, for a text whose first bytes are ASCII
 pub folded_any_front : (literal bytes : List ℕ) → IsUtf8 bytes → length literal ≤ length bytes
     → IsAscii (take (length literal) bytes)
     → front_folds_alike literal bytes ≡ is_match true (front_tokens literal) (chars bytes)

@@ -1,4 +1,4 @@
--- What the test of each form says of a text is whether its tokens match.
+-- The test of each form passes exactly where the pattern's tokens match.
 use Rattle.std.proofs.Common.{◌≡◌, ℕ, true, List, refl}
 use Rattle.std.specs.Prelude.{IsUtf8, string_bytes}
 use Rattle.std.specs.Str.{chars, IsAscii}

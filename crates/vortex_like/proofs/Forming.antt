@@ -1,4 +1,4 @@
--- The shapes of patterns that have a literal part, and what their tokens are.
+-- The shapes of patterns with a literal part, and their tokens.
 use Rattle.std.proofs.Common.{◌≡◌, ℕ, Bool, true, false, List, [], ◌∷◌, ◌++◌, map, Option, refl}
 use Rattle.std.proofs.Common.{sym, ap}
 use Rattle.std.proofs.Common.{◌∙◌, cond}
@@ -44,7 +44,7 @@ module _ (escape : Option ℕ) where
             ∙ append-nil (map character front),
       )
 
-  -- behind the part stands a special character
+  -- a special character follows the part
   pub no_literal : (pattern front rest behind : List ℕ) (c : ℕ) → pattern ≡ front ++ rest
       → rest ≡ c ∷ behind → list_any (is_special escape) front ≡ false → StartsSpecial escape rest
       → is_literal escape pattern ≡ false

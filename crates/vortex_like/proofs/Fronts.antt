@@ -1,5 +1,5 @@
 -- A text that a pattern matches begins with the pattern's characters before the first special one,
--- and ends with those behind the last.
+-- and ends with those after the last.
 use Rattle.std.proofs.Common.{◌≡◌, ℕ, true, false, List, [], ◌∷◌, ◌++◌, map, ap, ◌∙◌, subst, refl}
 use Rattle.std.proofs.Common.{sym, append_assoc}
 use Rattle.std.specs.Prelude.{IsUtf8, nat_eq, encode_utf8_all, Option}
@@ -86,7 +86,7 @@ module _ (escape : Option ℕ) (pattern rest : List ℕ) (before : List Token) (
         ∙ ap (λ (ts : List Token). before ++ ts)
         (ap (tokens_of escape) k.split ∙ plain_tokens escape front (chars cut.rest.now) k.plain)
 
-    -- what is cut off before the first special character, if there is none more, is the last part
+    -- the text before the first special character is the last part, if there is no other
     pub last_alone : chars cut.rest.now ≡ [] → IsLastPart escape pattern front
     last_alone none = (
       before,
@@ -95,7 +95,7 @@ module _ (escape : Option ℕ) (pattern rest : List ℕ) (before : List Token) (
           ∙ ap (λ (ts : List Token). before ++ ts) (append-nil (map character front)),
     )
 
-    -- else the tokens go on behind the first special one
+    -- else the tokens continue after the first special one
     pub last_behind : (t : Token) (behind : List ℕ)
         → tokens_of escape (chars cut.rest.now) ≡ t ∷ tokens_of escape behind
         → (more : List Token) × (tokens_of escape pattern ≡ more ++ tokens_of escape behind)

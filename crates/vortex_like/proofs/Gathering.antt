@@ -1,4 +1,4 @@
--- A needle is sought in texts that stand one behind another.
+-- A needle is searched in concatenated texts.
 use Rattle.std.proofs.Common.{◌≡◌, ◌⊎◌, inl, inr, ℕ, zero, suc, ◌+◌, ◌-◌, ◌<◌, ◌≤◌, Bool, true, false}
 use Rattle.std.proofs.Common.{List, [], ◌∷◌, ◌++◌, length, take, drop, get_or, map, refl, sym, ap, subst}
 use Rattle.std.proofs.Common.{◌∙◌, arith, length-append, length-drop, Some, None}
@@ -21,7 +21,7 @@ use Rattle.vortex_like.proofs.LiteralAnswers.{parted_holds}
 last_or_before : (k n : ℕ) → k < n + 1 → (k < n) ⊎ (k ≡ n)
 last_or_before k n lt = grind arith
 
--- one more is told of
+-- one more result
 pub told_push : (tells : ℕ → Bool → Type 0) (bits new : List Bool) (b : Bool)
     → new ≡ bits ++ b ∷ [] → AreTold (length bits) tells bits → tells (length bits) b
     → AreTold (length new) tells new
@@ -33,7 +33,7 @@ told_push tells bits new b e h told =
 below_or_not : (k n : ℕ) → (k < n) ⊎ (n ≤ k)
 below_or_not k n = grind arith
 
--- what is gathered grows by a text
+-- the gathered bytes grow by a text
 module _ (texts : List (List ℕ)) (first : ℕ) where
   pub gathered_none : AreGathered texts first 0 [] (0 ∷ [])
   gathered_none = record {
@@ -114,7 +114,7 @@ module _ (texts : List (List ℕ)) (first : ℕ) where
       lies = λ r lt. lies_now r (last_or_before r n lt);
     }
 
--- the places of what is gathered
+-- the offsets of the gathered texts
 module _ (texts : List (List ℕ)) (first n : ℕ) (bytes places : List ℕ)
     (h : AreGathered texts first n bytes places) where
   rise_by : (d r : ℕ) → r + d ≤ n → slice_index places r ≤ slice_index places (r + d)
@@ -148,7 +148,7 @@ module _ (texts : List (List ℕ)) (first n : ℕ) (bytes places : List ℕ)
         ap (λ (bs : List ℕ). get_or bs i 0) (sym (h.lies r lt))
         ∙ get_or-take (length own) (drop at bytes) i 0 below ∙ get_or-drop at bytes i 0
 
-    -- the needle stands in the text where it stands in its part of the bytes
+    -- the needle is in a text exactly where it is in the text's range of the bytes
     in_text : (k : ℕ) → at ≤ k → k + length needle ≤ slice_index places (r + 1)
         → OccursAt bytes needle k → OccursAt own needle (k - at)
     in_text k low high o =
@@ -190,7 +190,7 @@ module _ (texts : List (List ℕ)) (first n : ℕ) (bytes places : List ℕ)
               parted_holds needle own parts.0 parts.1 parts.2,
         )
 
--- the texts of a batch behind those before
+-- the texts of a batch after those before
 pub held_more : (texts : List (List ℕ)) (first n : ℕ) (bytes places needle : List ℕ)
     (all held : List Bool) → AreGathered texts first n bytes places
     → AreHeld texts needle first all → AreTold n (IsHeldAt bytes needle places) held
@@ -213,7 +213,7 @@ held_more texts first n bytes places needle all held h old new = record {
         (new.each r below)
         ∙ ap (λ (k : ℕ). holds_inside needle (text_at texts k)) e
 
--- where the needle stands next, by what is found behind a place
+-- where the needle is next, from a search that starts at an offset
 module _ (bytes needle : List ℕ) (from : ℕ) where
   dropped : (k : ℕ) → from ≤ k → OccursAt bytes needle k
       → OccursAt (drop from bytes) needle (k - from)
@@ -253,7 +253,7 @@ module _ (bytes needle : List ℕ) (from : ℕ) where
     low = omega arith;
   }
 
--- what the next place says of texts
+-- results for texts from the next position of the needle
 module _ (bytes needle places : List ℕ) (start r place : ℕ) (h : ArePlaces bytes places)
     (next : IsNext bytes needle (slice_index places start) place) (le : start ≤ r)
     (lt : r + 1 < length places) where
@@ -277,7 +277,7 @@ module _ (bytes needle places : List ℕ) (start r place : ℕ) (h : ArePlaces b
     λ w. refl,
   )
 
--- what is gathered for the rows from `first` up to `end`
+-- the gathered texts of the rows from `first` up to `end`
 pub batch : (texts : List (List ℕ)) (first end : ℕ) (bytes places : List ℕ)
     → AreGathered texts first (end - first) bytes places → first < end → end ≤ length texts
     → end ≤ first + 4096 → IsBatch texts first bytes places
@@ -290,7 +290,7 @@ batch texts first end bytes places h some high most = record {
       subst (λ (n : ℕ). AreGathered texts first n bytes places) e h;
 }
 
--- one row more
+-- one more row
 pub gathered_next : (texts : List (List ℕ)) (first end : ℕ) (bytes places own bytes' places' : List ℕ)
     (at : ℕ) → first ≤ end → AreGathered texts first (end - first) bytes places
     → own ≡ text_at texts end → bytes' ≡ bytes ++ own → at ≡ length bytes'
@@ -326,7 +326,7 @@ small_length : (b : Bool) (bs : List ℕ) → length (cased b bs) ≡ length bs
 small_length true bs = length-map bs to_ascii_lowercase
 small_length false bs = refl
 
--- a text in small letters
+-- a text in lower case
 pub small_at : (b : Bool) (ts : List (List ℕ)) (i : ℕ)
     → text_at (map (cased b) ts) i ≡ cased b (text_at ts i)
 small_at true [] i = refl
@@ -340,7 +340,7 @@ small_part true n k bs =
     ap (take n) (drop-map to_ascii_lowercase k bs) ∙ take-map to_ascii_lowercase n (drop k bs)
 small_part false n k bs = refl
 
--- what is gathered, in small letters
+-- gathered texts in lower case
 module _ (texts : List (List ℕ)) (first : ℕ) (bytes places : List ℕ) (in_small : Bool) where
   pub cased_gathered : (n : ℕ) → AreGathered texts first n bytes places
       → AreGathered (map (cased in_small) texts) first n (cased in_small bytes) places
@@ -371,7 +371,7 @@ module _ (texts : List (List ℕ)) (first : ℕ) (bytes places : List ℕ) (in_s
     gathered = cased_gathered (length places - 1) h.gathered;
   }
 
--- the texts of a batch are told behind those before
+-- the results for a batch come after those before
 pub held_batch : (texts : List (List ℕ)) (first : ℕ) (bytes places needle : List ℕ)
     (all held both : List Bool) → IsBatch texts first bytes places → first ≡ length all
     → AreHeld texts needle (length all) all

@@ -1,4 +1,4 @@
--- Compiled patterns that are kept, by their places.
+-- Compiled patterns in a cache, by their index.
 use Rattle.std.proofs.Common.{◌≡◌, ℕ, inl, inr, List, [], ◌∷◌, ◌++◌, length, refl, sym, subst}
 use Rattle.std.proofs.Common.{arith, length-set, ◌∙◌, ap}
 use Rattle.std.specs.Prelude.{string_bytes, slice_set}
@@ -8,14 +8,14 @@ use Rattle.std.proofs.lemmas.List.Elements.{All-push, All-set, All-same}
 use Rattle.vortex_like.specs.EachPattern.{IsKept, IsKeptAt}
 use Rattle.vortex_like.specs.declared.each_pattern.CompiledPattern.{CompiledPattern}
 
--- what holds of each that was kept, and of the one that is new, holds of each that is kept
+-- a property of each cached pattern, and of the new one, holds for each in the new cache
 pub all_kept : (P : CompiledPattern → Type 0) (own : CompiledPattern) (at : ℕ)
     (old new : List CompiledPattern) → IsKept own at old new → All P old → P own → All P new
 all_kept P own at old new (inl e) h p = All-same P new (old ++ own ∷ []) e.0 (All-push P old own h p)
 all_kept P own at old new (inr e) h p =
     All-same P new (slice_set old at own) e.0 (All-set P old at own p h)
 
--- the one that is new is kept at its place
+-- the new pattern is cached at its index
 pub kept_there : (bytes : List ℕ) (own : CompiledPattern) (at : ℕ)
     (old new : List CompiledPattern) → IsKept own at old new → string_bytes own.text ≡ bytes
     → IsKeptAt bytes new at
@@ -33,7 +33,7 @@ kept_there bytes own at old new (inr e) t =
     ) in
     subst (λ (ps : List CompiledPattern). IsKeptAt bytes ps at) (sym e.0) put
 
--- what holds of each that is kept, holds of the one that is read at a place
+-- a property of each cached pattern holds for the one that is read
 pub kept_is : (P : CompiledPattern → Type 0) (own : CompiledPattern) (bytes : List ℕ) (at : ℕ)
     (kept : List CompiledPattern) → All P kept → IsKeptAt bytes kept at
     → HoldsAt (λ p. p ≡ own) kept at → P own × (string_bytes own.text ≡ bytes)

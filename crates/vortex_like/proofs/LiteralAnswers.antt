@@ -1,4 +1,4 @@
--- What a test by bytes answers is what the tokens of its form ask.
+-- A test by bytes passes exactly where its form's tokens match.
 use Rattle.std.proofs.Common.{◌≡◌, ℕ, ◌+◌, ◌-◌, ◌<◌, ◌≤◌, Bool, true, false, List, ◌++◌, length}
 use Rattle.std.proofs.Common.{take}
 use Rattle.std.proofs.Common.{drop, get_or, refl, sym, ap, ◌∙◌, arith, length-append, nat_eq}
@@ -18,7 +18,7 @@ use Rattle.vortex_like.specs.Shapes.{whole_tokens, front_tokens, end_tokens, ins
 use Rattle.vortex_like.proofs.Testing.{answer_is, ending_passes, passes_ending}
 use Rattle.vortex_like.proofs.Literals.{whole_match, front_match, end_match, inside_match}
 
--- where a literal part stands in a text
+-- where a literal part is in a text
 pub occurs_parted : (bytes literal : List ℕ) (k : ℕ) → OccursAt bytes literal k
     → (front : List ℕ) × (rest : List ℕ) × (bytes ≡ front ++ (literal ++ rest))
 occurs_parted bytes literal k h = (
@@ -87,7 +87,7 @@ module _ (literal bytes : List ℕ) where
       (ap (λ (bs : List ℕ). drop (length front) bs) e
       ∙ drop_at front (literal ++ rest) (length front) refl))
 
-  -- a search finds the literal where it is held
+  -- a search finds the literal where it is contained
   pub finds_inside : (r : Option ℕ) → FindsNeedle bytes literal 0 r
       → is_some r ≡ holds_inside literal bytes
   finds_inside r h =

@@ -1,5 +1,4 @@
--- A text beside a literal part: what holds of their bytes is what the tokens ask of their
--- characters.
+-- A text compared with a literal part: equal bytes mean that the tokens match.
 use Rattle.std.proofs.Common.{◌≡◌, ℕ, ◌<◌, ◌≤◌, false, List, []}
 use Rattle.std.proofs.Common.{◌∷◌, ◌++◌, length, take, drop, get_or, refl, sym, ap, subst, ◌∙◌}
 use Rattle.std.proofs.Common.{arith, length-append, ◌⊎◌, inl, inr, eq-eqb}
@@ -14,7 +13,7 @@ use Rattle.vortex_like.specs.Tokens.{any, Match}
 use Rattle.vortex_like.specs.Shapes.{whole_tokens, front_tokens, end_tokens, inside_tokens}
 use Rattle.vortex_like.proofs.Shapes.{literal_start, literal_alone, literal_self}
 
--- bytes of a text in front of a text or behind one
+-- bytes of a text before or after another text
 pub utf8_behind : (bytes front rest : List ℕ) → IsUtf8 bytes → IsUtf8 front
     → bytes ≡ front ++ rest → IsUtf8 rest
 utf8_behind bytes front rest u f e =
@@ -39,13 +38,13 @@ pub same_bytes : (xs ys : List ℕ) → IsUtf8 xs → IsUtf8 ys → chars xs ≡
 same_bytes xs ys u v e =
     sym (encodes-chars xs u) ∙ ap encode_utf8_all e ∙ encodes-chars ys v
 
--- the bytes of a text that is put together of characters
+-- the bytes of a text that is built from characters
 pub parted_bytes : (bytes front : List ℕ) (rest : List ℕ) → IsUtf8 bytes → chars bytes ≡ front ++ rest
     → bytes ≡ encode_utf8_all front ++ encode_utf8_all rest
 parted_bytes bytes front rest u e =
     sym (encodes-chars bytes u) ∙ ap encode_utf8_all e ∙ encodes-append front rest
 
--- what stands before a text that is not empty
+-- what comes before a text that is not empty
 utf8_before_lead : (bytes front literal rest : List ℕ) (c : ℕ) (after : List ℕ) → IsUtf8 bytes
     → IsUtf8 literal → literal ≡ c ∷ after → bytes ≡ front ++ (literal ++ rest) → IsUtf8 front
 utf8_before_lead bytes front literal rest c after u l some e =
@@ -81,7 +80,7 @@ starts_or_nothing : (literal : List ℕ)
 starts_or_nothing [] = inl refl
 starts_or_nothing (c ∷ after) = inr (c, after, refl)
 
--- a literal part and what is behind it
+-- a literal part and the tokens after it
 begun : (literal rest : List ℕ) → Match false (front_tokens literal) (literal ++ rest)
 begun [] rest = (rest, [], sym (append-nil rest), refl)
 begun (c ∷ literal) rest = (c, literal ++ rest, refl, eq-eqb c c refl, begun literal rest)
@@ -127,7 +126,7 @@ module _ (literal bytes : List ℕ) (l : IsUtf8 literal) (u : IsUtf8 bytes) wher
     ),
   )
 
-  -- what holds it
+  -- what contains it
   pub inside_match : ((front : List ℕ) × (rest : List ℕ) × (bytes ≡ front ++ (literal ++ rest)))
       ↔ Match false (inside_tokens (chars literal)) (chars bytes)
   inside_match = (

@@ -21,7 +21,7 @@ chars_pushed bytes pushed c u s e =
     (chars_past_char (encode_utf8 c) [] c (IsUtf8-encode c s) (sym (append-nil (encode_utf8 c)))
     ∙ ap (λ (cs : List ℕ). c ∷ cs) chars-nil)
 
--- one character more that stands for itself
+-- one more ordinary character
 pub read_more : (tokens : List Token) (front front' : List ℕ) (c : ℕ) (left behind : List Token)
     → tokens ≡ map character front ++ left → left ≡ character c ∷ behind
     → front' ≡ front ++ c ∷ [] → tokens ≡ map character front' ++ behind
@@ -31,7 +31,7 @@ read_more tokens front front' c left behind e f g =
     ∙ ap (λ (ts : List Token). ts ++ behind)
     (sym (ap (λ (cs : List ℕ). map character cs) g ∙ map-append character front (c ∷ [])))
 
--- a text with no special character is passed
+-- a text with no special character is skipped
 pub pass_none : (escape : Option ℕ) (pattern : List ℕ) → IsPassed escape pattern pattern
 pass_none escape pattern = record {
   front = [];
@@ -71,7 +71,7 @@ pass_more escape pattern rest behind c s e split passed = record {
       ∙ any_last escape (chars passed.front) c passed.plain e;
 }
 
--- where it may be cut, and what the cut gives
+-- where the pattern may be cut, and what the cut gives
 pub cut_seam : (escape : Option ℕ) (pattern rest : List ℕ) → IsUtf8 rest
     → (p : IsPassed escape pattern rest)
     → (length pattern - length rest ≡ length p.front) × IsCharBoundary pattern (length p.front)

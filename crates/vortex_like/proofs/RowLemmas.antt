@@ -1,4 +1,4 @@
--- Rows of truth values that are built one by one, and the column that is made of them.
+-- Rows of truth values that are built one by one, and the column made of them.
 use Rattle.std.proofs.Common.{◌≡◌, ◌⊎◌, inl, inr, ℕ, zero, suc, ◌+◌, ◌<◌, Bool, true, false, List}
 use Rattle.std.proofs.Common.{[]}
 use Rattle.std.proofs.Common.{◌∷◌, ◌++◌, length, get_or, refl, sym, ap, subst, ◌∙◌, arith, cond}
@@ -147,7 +147,7 @@ constant_row s c e i h =
     ap (λ (d : ColumnView). row d.rows i) e
     ∙ get_or-map-range_with_len (λ k. s.value) 0 (length c.rows) i i null h (omega arith)
 
--- a cell that is no text, of a value that is null or a text
+-- the cell of a value that is null or a text is no other kind
 pub null_cell : (c : Cell) (v : Value) → cell_value c ≡ v → IsNullOrText v
     → ((lent : Bor (List ℕ)) → c ≡ Text lent → ⊥) → is_null v ≡ true
 null_cell c null e h none = refl

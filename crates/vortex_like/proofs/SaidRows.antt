@@ -1,4 +1,4 @@
--- What tests say of the texts of a column, row by row.
+-- Results of tests for the texts of a column, row by row.
 use Rattle.std.proofs.Common.{◌≡◌, ℕ, ◌<◌, Bool, false, List, length, refl, sym, ap, ◌∙◌, arith}
 use Rattle.std.specs.Prelude.{slice_index_or}
 use Rattle.vortex_bits.specs.Rows.{AreRows}
@@ -8,7 +8,7 @@ use Rattle.vortex_like.specs.Rows.{AreTold, IsSaid, turned}
 use Rattle.vortex_like.specs.TextRows.{IsTextOf, AreTexts, text_at}
 
 module _ (f g : List ℕ → Bool) (negated : Bool) where
-  -- tests that answer alike of the bytes of a value say the same of it
+  -- tests with equal results for the bytes of a value have equal results for the value
   said_alike : (v : Value) (own : List ℕ) (b : Bool) → IsTextOf v own
       → (is_null v ≡ false → f own ≡ g own) → IsSaid f negated v b → IsSaid g negated v b
   said_alike (text bs) own b h alike said =
@@ -21,7 +21,7 @@ module _ (f g : List ℕ → Bool) (negated : Bool) where
   said_alike (bytes x) own b h alike said = tt
   said_alike (list x) own b h alike said = tt
 
-  -- and of the texts of a column
+  -- and for the texts of a column
   pub told_alike : (c : ColumnView) (texts : List (List ℕ)) (bits : List Bool)
       → AreTexts c texts
       → ((i : ℕ) → i < length c.rows → is_null (row c.rows i) ≡ false
@@ -36,7 +36,7 @@ module _ (f g : List ℕ → Bool) (negated : Bool) where
   }
 
 module _ (f : List ℕ → Bool) (negated : Bool) where
-  -- what is told of the bytes of a value is said of it
+  -- a result for the bytes of a value is the result for the value
   said_text : (v : Value) (own : List ℕ) (b : Bool) → IsTextOf v own
       → (is_null v ≡ false → b ≡ turned negated (f own)) → IsSaid f negated v b
   said_text (text bs) own b h told =
@@ -49,7 +49,7 @@ module _ (f : List ℕ → Bool) (negated : Bool) where
   said_text (bytes x) own b h told = tt
   said_text (list x) own b h told = tt
 
-  -- and of a column, of whose texts it is told one by one
+  -- and for a column, text by text
   pub told_held : (c : ColumnView) (texts : List (List ℕ)) (held bits : List Bool) (n : ℕ)
       → AreTexts c texts
       → ((i : ℕ) → i < length c.rows → is_null (row c.rows i) ≡ false

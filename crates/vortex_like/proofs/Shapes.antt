@@ -24,7 +24,7 @@ pub record IsPlain (escape : Option ℕ) (c : ℕ) : Type 0 where
   pub own : plain_token c ≡ character c
 
 module _ (escape : Option ℕ) where
-  -- a character that is no escape escapes none
+  -- a character that is not the escape escapes none
   pub unescaped_first : (c : ℕ) (rest : List ℕ) → is_escape escape c ≡ false
       → tokens_of escape (c ∷ rest) ≡ plain_token c ∷ tokens_of escape rest
   unescaped_first c [] e =
@@ -80,7 +80,7 @@ module _ (escape : Option ℕ) where
       by true r h = cc
       by false r h = h
 
-  -- behind a front with no special character
+  -- after a prefix with no special character
   pub plain_tokens : (front rest : List ℕ) → list_any (is_special escape) front ≡ false
       → tokens_of escape (front ++ rest) ≡ map character front ++ tokens_of escape rest
   plain_tokens [] rest e = refl
@@ -173,7 +173,7 @@ pub no_empty_text : (bytes : List ℕ) → IsUtf8 bytes → chars bytes ≡ [] �
 no_empty_text bytes u e =
     ap (λ (bs : List ℕ). length bs) (sym (encodes-chars bytes u) ∙ ap encode_utf8_all e)
 
--- a literal is matched by its text alone, and what begins with one by texts that begin with it
+-- a literal is matched only by its own text, and literal and `%` by texts that begin with it
 module _ where
   same_is : (c d : ℕ) → same_character false c d ≡ true → c ≡ d
   same_is c d e = grind arith

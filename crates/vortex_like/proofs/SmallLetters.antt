@@ -1,4 +1,4 @@
--- A literal part that is held past case, by small letters.
+-- A literal part contained in a text, ignoring case, by lower case.
 use Rattle.std.proofs.Common.{◌≡◌, ℕ, suc, true, List, [], ◌∷◌, ◌++◌}
 use Rattle.std.proofs.Common.{length, take, drop, refl, sym, ap, ◌∙◌}
 use Rattle.std.specs.Str.{chars, IsAscii}
@@ -54,7 +54,7 @@ module _ (literal text : List ℕ) where
       (ap folded (sym (take-append-drop n m.1)) ∙ map-append simple_fold (take n m.1) (drop n m.1)
       ∙ ap (λ (cs : List ℕ). cs ++ folded (drop n m.1)) here.1))
 
--- a text holds a literal past case where its small letters hold those of the literal
+-- a text contains a literal, ignoring case, where its lower case contains the literal's
 pub small_inside : FoldsToSmall → (literal bytes : List ℕ) → IsAscii literal → IsAscii bytes
     → holds_inside (small literal) (small bytes)
     ≡ is_match true (inside_tokens (chars literal)) (chars bytes)

@@ -1,4 +1,4 @@
--- The test says yes exactly where the tokens match.
+-- The test passes exactly where the tokens match.
 use Rattle.std.proofs.Common.{◌≡◌, ◌⊎◌, inl, inr, ℕ, zero, suc, Bool, true, false, List, [], ◌∷◌}
 use Rattle.std.proofs.Common.{drop}
 use Rattle.std.proofs.Common.{refl, sym, ap, ◌∙◌}
@@ -32,7 +32,7 @@ and_both : (a b : Bool) → a ≡ true → b ≡ true → a && b ≡ true
 and_both true b e f = f
 and_both false b e f = cc
 
--- some ending passes a test
+-- some suffix passes a test
 pub ending_passes : (p : List ℕ → Bool) (text : List ℕ) → list_any p (endings text) ≡ true
     → (j : ℕ) × (p (drop j text) ≡ true)
 ending_passes p [] e =
@@ -86,7 +86,7 @@ module _ (fold : Bool) where
       ∙ and_both (same_character fold own m.0) (is_match fold ts m.1) m.3
       (test_matched ts m.1 m.4)
 
-  -- an answer that is yes exactly where the tokens match is that of the test
+  -- a result that is true exactly where the tokens match is that of the test
   pub answer_is : (b : Bool) (ts : List Token) (text : List ℕ) → IsTrue b ↔ Match fold ts text
       → b ≡ is_match fold ts text
   answer_is b ts text h =
@@ -98,7 +98,7 @@ module _ (fold : Bool) where
       by false true f g = g refl
       by false false f g = refl
 
-  -- and the other way round
+  -- and conversely
   pub test_answers : (b : Bool) (ts : List Token) (text : List ℕ) → b ≡ is_match fold ts text
       → IsTrue b ↔ Match fold ts text
   test_answers b ts text e = (

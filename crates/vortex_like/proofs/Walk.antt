@@ -26,7 +26,7 @@ abbrev pub BackWithin : List Token → Option Place → Type 0
 BackWithin tokens None = Unit {0}
 BackWithin tokens (Some p) = p.at ≤ length tokens
 
--- the tokens that ask for a character, up to a place
+-- the tokens before an index that need a character
 abbrev pub asked_before : ℕ → List Token → ℕ
 asked_before at tokens = asked (take at tokens)
 
@@ -53,7 +53,7 @@ any_is any e = refl
 any_is one e = cc
 any_is (character c) e = cc
 
--- where any sequence stands next
+-- where any sequence is next
 pub any_there : (tokens : List Token) (at : ℕ) → begins_with_any (drop at tokens) ≡ true
     → (at < length tokens) × (drop at tokens ≡ any ∷ drop (at + 1) tokens)
     × (asked_before (at + 1) tokens ≡ asked_before at tokens)
@@ -82,7 +82,7 @@ any_there tokens at e =
           count_by_more_no (λ t. not (is_any t)) tokens at any lt (ap not sequence),
         )
 
--- a token for one character that stands next
+-- a token for one character that is next
 pub record IsNext (tokens : List Token) (at : ℕ) (t : Token) : Type 0 where
   pub within : at < length tokens
   pub split : drop at tokens ≡ t ∷ drop (at + 1) tokens
@@ -200,7 +200,7 @@ module _ (fold : Bool) (tokens : List Token) (whole : List ℕ) where
         unlooked = λ _ none. absurd (omega arith);
       }
 
-  -- a token that refuses a character was looked at, and where none is left one was before
+  -- a token that rejects a character was compared, and where none is left one was before
   pub refused_looked : (at looks looks' : ℕ) (rest : List ℕ) (back : Option Place)
       → (at < length tokens → looks' ≡ looks + 1) → looks ≤ looks'
       → IsWalk fold tokens whole at rest back looks → 0 < asked tokens → 0 < looks'

@@ -7,23 +7,23 @@ use Rattle.std.proofs.lemmas.List.{take-append-drop, drop-drop}
 use Rattle.vortex_like.specs.Tokens.{Token, any, one, character, is_any, accepts, Match}
 use Rattle.vortex_like.specs.Places.{begins_with_any, first_accepts}
 
--- a match behind the last `%` that begins later than the place to go back to
+-- a match after the last `%` that begins later than the backtracking point
 abbrev pub MatchesLater : Bool → Option (List Token × List ℕ) → Type 0
 MatchesLater fold None = ⊥
 MatchesLater fold (Some p) = (j : ℕ) × Match fold p.0 (drop (suc j) p.1)
 
--- what matches there after so many characters more, its rest matches here after as many
+-- what matches there after that many more characters: its rest matches here after as many
 abbrev pub Follows : Bool → List Token → List ℕ → Option (List Token × List ℕ) → Type 0
 Follows fold left rest None = Unit {0}
 Follows fold left rest (Some p) =
     (j : ℕ) → Match fold p.0 (drop j p.1) → Match fold left (drop j rest)
 
--- how many characters there are from the place to go back to
+-- how many characters there are from the backtracking point on
 abbrev pub room : List ℕ → Option (List Token × List ℕ) → ℕ
 room whole None = length whole
 room whole (Some p) = length p.1
 
--- the tokens match the whole text exactly where those that are left match its rest, or match later
+-- the tokens match the whole text exactly where the remaining ones match its rest, or match later
 pub record Stands (fold : Bool) (tokens : List Token) (whole : List ℕ) (left : List Token)
     (rest : List ℕ) (back : Option (List Token × List ℕ)) : Type 0 where
   pub sound : Match fold left rest ⊎ MatchesLater fold back → Match fold tokens whole

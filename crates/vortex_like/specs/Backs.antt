@@ -1,4 +1,4 @@
--- The place to which the matcher goes back.
+-- The backtracking point of the matcher.
 use Rattle.std.specs.Prelude.{◌≡◌, ℕ, [], ◌∷◌, Option, Some, None}
 use Rattle.std.specs.Str.{chars}
 use Rattle.vortex_like.specs.declared.matching.Place.{Place}
@@ -8,7 +8,7 @@ abbrev pub IsLast : Option Place → Type 0
 IsLast None = Unit {0}
 IsLast (Some p) = chars p.text.now ≡ []
 
--- the same tokens, one character further on
+-- the same tokens, one character later
 abbrev pub IsFurther : Option Place → Place → Type 0
 IsFurther None q = ⊥
 IsFurther (Some p) q =

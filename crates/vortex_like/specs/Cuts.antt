@@ -6,7 +6,7 @@ use Rattle.std.specs.Str.{chars}
 use Rattle.vortex_like.specs.Tokens.{percent, underscore, is_escape}
 use Rattle.vortex_like.specs.declared.cuts.Cut.{Cut}
 
--- a wildcard, or what escapes one
+-- a wildcard, or the escape
 abbrev pub is_special : Option ℕ → ℕ → Bool
 is_special escape c = is_escape escape c || (c == percent || c == underscore)
 
@@ -15,14 +15,14 @@ abbrev pub StartsSpecial : Option ℕ → List ℕ → Type 0
 StartsSpecial escape [] = Unit {0}
 StartsSpecial escape (c ∷ rest) = is_special escape c ≡ true
 
--- the bytes that are left of a pattern, behind a text with no special character
+-- the rest of a pattern, after a text with no special character
 pub record IsPassed (escape : Option ℕ) (pattern rest : List ℕ) : Type 0 where
   pub front : List ℕ
   pub utf8 : IsUtf8 front
   pub split : pattern ≡ front ++ rest
   pub plain : list_any (is_special escape) (chars front) ≡ false
 
--- cut in a part with no special character and what begins with one, by their characters
+-- cut into a part with no special character and the rest, by their characters
 pub record IsCutOf (escape : Option ℕ) (pattern : List ℕ) (cut : Cut) : Type 0 where
   pub split : pattern ≡ chars cut.front.now ++ chars cut.rest.now
   pub plain : list_any (is_special escape) (chars cut.front.now) ≡ false

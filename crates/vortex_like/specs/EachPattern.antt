@@ -1,4 +1,4 @@
--- A pattern for each row, and the last few that were compiled.
+-- A pattern for each row, and the last few compiled ones.
 use Rattle.std.specs.Prelude.{◌≡◌, ◌<◌, ◌⊎◌, ℕ, Bool, false, string_bytes, List, [], ◌∷◌, ◌++◌}
 use Rattle.std.specs.Prelude.{length, slice_set}
 use Rattle.std.specs.List.{HoldsAt}
@@ -14,12 +14,12 @@ abbrev pub IsCompiled : LikeOptions → Bool → CompiledPattern → Type 0
 IsCompiled options ascii own =
     own.pattern ≡ pattern_of options.escape (string_bytes own.text) options.case_insensitive ascii
 
--- the pattern of these bytes is kept at that place
+-- the pattern of these bytes is cached at that index
 abbrev pub IsKeptAt : List ℕ → List CompiledPattern → ℕ → Type 0
 IsKeptAt bytes kept at =
     (at < length kept) × HoldsAt (λ own. string_bytes own.text ≡ bytes) kept at
 
--- a pattern is kept at that place, as one more or in place of another
+-- a pattern is cached at that index, as one more or replacing another
 abbrev pub IsKept : CompiledPattern → ℕ → List CompiledPattern → List CompiledPattern → Type 0
 IsKept own at old new =
     ((new ≡ old ++ own ∷ []) × (at ≡ length old)) ⊎ ((new ≡ slice_set old at own) × (at < length old))

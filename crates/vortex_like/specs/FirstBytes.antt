@@ -1,14 +1,14 @@
--- The bytes that texts may begin with that tokens match.
+-- The bytes with which a text that tokens match may begin.
 use Rattle.std.specs.Prelude.{◌≡◌, ◌≤◌, ◌<◌, ℕ, Bool, true, List, [], ◌∷◌, length, slice_index_or}
 use Rattle.vortex_like.specs.Tokens.{Token, accepts}
 
--- whether the first of the tokens lets a text begin with that character
+-- whether the first of the tokens accepts a text that begins with that character
 abbrev pub admits : Bool → List Token → ℕ → Bool
 admits case_insensitive [] c = true
 admits case_insensitive (t ∷ rest) c = accepts case_insensitive t c
 
--- of each byte whether a text may begin with it; one that is no ASCII is part of a character, and
--- so it may
+-- for each byte whether a text may begin with it; true for a byte that is not ASCII, as it may
+-- begin any character
 pub record AreFirstBytes (case_insensitive : Bool) (tokens : List Token) (may : List Bool)
     : Type 0 where
   pub count : length may ≡ 256

@@ -1,4 +1,4 @@
--- What is seen of the test that a pattern is compiled to.
+-- The view of the test that a pattern is compiled to.
 use Rattle.std.specs.Prelude.{◌≡◌, ℕ, Bool, true, false, List, string_bytes, Option, nat_eq}
 use Rattle.std.specs.List.{starts_with, ends_with}
 use Rattle.std.specs.Str.{chars, bytes_eq}
@@ -25,7 +25,7 @@ test_form (IEndsWithAscii t) = form.IEndsWithAscii
 test_form (Tokens t) = form.Tokens
 test_form (SmallInside t) = form.Tokens
 
--- the tokens that it answers as
+-- the tokens that it is equivalent to
 abbrev pub test_tokens : FormTest → List Token
 test_tokens (Eq t) = whole_tokens (chars (string_bytes t.literal))
 test_tokens (StartsWith t) = front_tokens (chars (string_bytes t.literal))
@@ -37,7 +37,7 @@ test_tokens (IEndsWithAscii t) = end_tokens t.text
 test_tokens (Tokens t) = t.tokens.items
 test_tokens (SmallInside t) = t.tokens.tokens.items
 
--- and whether past case
+-- and whether it ignores case
 abbrev pub test_folds : FormTest → Bool
 test_folds (IEqAscii t) = true
 test_folds (IStartsWithAscii t) = true
@@ -46,7 +46,7 @@ test_folds (Tokens t) = t.case_insensitive
 test_folds (SmallInside t) = t.tokens.case_insensitive
 test_folds t = false
 
--- what it says of bytes that it may read, be they a text or not
+-- the result for bytes that it may read, text or not
 abbrev pub form_said : FormTest → List ℕ → Bool
 form_said (Eq t) bytes = bytes_eq (string_bytes t.literal) bytes
 form_said (StartsWith t) bytes = starts_with nat_eq bytes (string_bytes t.literal)
@@ -59,14 +59,14 @@ form_said (Tokens t) bytes = is_match t.case_insensitive t.tokens.items (chars b
 form_said (SmallInside t) bytes =
     is_match t.tokens.case_insensitive t.tokens.tokens.items (chars bytes)
 
--- the forms that are for ASCII texts alone
+-- the forms for ASCII texts only
 abbrev pub is_ascii_form : LikeForm → Bool
 is_ascii_form form.IEqAscii = true
 is_ascii_form form.IStartsWithAscii = true
 is_ascii_form form.IEndsWithAscii = true
 is_ascii_form f = false
 
--- the test of a pattern with that escape, past case or not, of that form
+-- the test for a pattern with that escape, with or without folding, of that form
 pub record IsTestOf (escape : Option ℕ) (pattern : List ℕ) (past_case : Bool) (f : LikeForm)
     (t : FormTest) : Type 0 where
   pub tokens : test_tokens t ≡ tokens_of escape pattern

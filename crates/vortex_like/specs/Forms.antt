@@ -29,7 +29,7 @@ abbrev pub is_percent_then : (Option ℕ → List ℕ → Bool) → Option ℕ �
 is_percent_then test escape [] = false
 is_percent_then test escape (c ∷ rest) = is_percent escape c && test escape rest
 
--- without folding the first that fits
+-- without folding, the first form that fits
 abbrev pub plain_form : Option ℕ → List ℕ → LikeForm
 plain_form escape pattern =
     if is_literal escape pattern then Eq
@@ -38,7 +38,7 @@ plain_form escape pattern =
     else if is_percent_then is_literal_then_percent escape pattern then Contains
     else Tokens
 
--- the same form past case
+-- the same form, ignoring case
 abbrev pub folded_form : LikeForm → LikeForm
 folded_form Eq = IEqAscii
 folded_form StartsWith = IStartsWithAscii
@@ -48,7 +48,7 @@ folded_form form = Tokens
 abbrev pub is_ascii : List ℕ → Bool
 is_ascii characters = list_all (λ c. nat_lt c 128) characters
 
--- with folding a form past case where the pattern and each text to match are ASCII
+-- with folding, a case-insensitive form if the pattern and each text to match are ASCII
 abbrev pub form_of : Option ℕ → List ℕ → Bool → Bool → LikeForm
 form_of escape pattern false ascii_haystack = plain_form escape pattern
 form_of escape pattern true ascii_haystack =

@@ -1,4 +1,4 @@
--- What each text begins and ends with that tokens match.
+-- Prefix and suffix of each text that tokens match.
 use Rattle.std.specs.Prelude.{◌≡◌, ℕ, Bool, true, List, ◌++◌, map, Option, IsUtf8, nat_eq}
 use Rattle.std.specs.List.{starts_with, ends_with}
 use Rattle.std.specs.Str.{chars}

@@ -1,4 +1,4 @@
--- The bytes that the options of a LIKE are written as, and what byte strings are read as.
+-- The bytes of the options of a LIKE, and what byte strings are read as.
 use Rattle.std.specs.Prelude.{◌≡◌, ℕ, zero, suc, ◌+◌, ◌-◌, ◌==◌, ◌&&◌, nat_lt, not, List, []}
 use Rattle.std.specs.Prelude.{◌∷◌, Bool, true, false, Option, Some, None, MatchOption}
 use Rattle.std.specs.Prelude.{if◌then◌else◌, ⊤}
@@ -11,9 +11,9 @@ use Rattle.vortex_errors.specs.OptionBytes.{two_bits}
 use Rattle.vortex_like.specs.Tokens.{backslash}
 use Rattle.vortex_like.specs.declared.options.LikeOptions.{LikeOptions}
 
--- the first byte has bit 0 where the LIKE is turned over and bit 1 where it looks past case; it is
--- the only one where the escape is the backslash. Another escape sets bit 2, and stands behind it
--- as four bytes, the greatest first; none sets bit 3.
+-- The first byte has bit 0 if the LIKE is negated and bit 1 if it ignores case; it is the only byte
+-- if the escape is the backslash. Another escape sets bit 2, and follows as four bytes, big-endian;
+-- no escape sets bit 3.
 abbrev pub escape_bytes : ℕ → Option ℕ → List ℕ
 escape_bytes bits None = (bits + 8) ∷ []
 escape_bytes bits (Some e) =
@@ -35,8 +35,8 @@ with_bits (suc (suc zero)) escape = Some (asked false true escape)
 with_bits (suc (suc (suc zero))) escape = Some (asked true true escape)
 with_bits bits escape = None
 
--- the escape that the bytes behind the first say: the character of these four, the greatest first,
--- unless that is the backslash
+-- the escape in the bytes after the first: the big-endian character of these four, unless that is
+-- the backslash
 abbrev pub escape_read : List ℕ → Option ℕ
 escape_read number =
     let c = from_be_bytes w32 number in
@@ -51,12 +51,12 @@ like_read (b ∷ number) =
     if nat_lt b 4 then None
     else option_and_then (λ c. with_bits (b - 4) (Some c)) (escape_read number)
 
--- the escape, where there is one, is a character
+-- the escape, if there is one, is a character
 abbrev pub HasCharacter : LikeOptions → Type 0
 HasCharacter options = MatchOption options.escape ⊤ IsScalar
 
 -- back: what is written is read back
--- alone: nothing is read from bytes that are not written
+-- alone: nothing else is read
 pub record IsLikeFormat : Type 0 where
   pub back : (o : LikeOptions) → HasCharacter o → like_read (like_bytes o) ≡ Some o
   pub alone : (bytes : List ℕ) (o : LikeOptions) → like_read bytes ≡ Some o

@@ -4,7 +4,7 @@ use Rattle.std.specs.Prelude.{Option, Some, None, if◌then◌else◌}
 use Rattle.vortex_like.specs.Tokens.{backslash}
 use Rattle.vortex_like.specs.declared.options.LikeOptions.{LikeOptions}
 
--- not turned over, not past case, and with backslash escape
+-- not negated, case-sensitive, and with backslash escape
 abbrev pub default_options : LikeOptions
 default_options =
     record { negated = false; case_insensitive = false; escape = Some backslash }
@@ -15,7 +15,7 @@ like_text true false = codes "NOT LIKE"
 like_text false true = codes "ILIKE"
 like_text true true = codes "NOT ILIKE"
 
--- the escape is told unless it is the backslash: between quotes as it stands, or none there
+-- the escape is printed unless it is the backslash: in quotes, or empty quotes for none
 abbrev pub escape_text : Option ℕ → List ℕ
 escape_text None = codes " ESCAPE ''"
 escape_text (Some e) =

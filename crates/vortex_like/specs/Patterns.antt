@@ -1,4 +1,4 @@
--- What is seen of a pattern, and what LIKE says of two values.
+-- The view of a pattern, and the result of LIKE for two values.
 use Rattle.std.specs.Prelude.{ℕ, List, Bool, not, if◌then◌else◌, Option}
 use Rattle.std.specs.Str.{chars}
 use Rattle.vortex_types.specs.Values.{Value, null, truth, text}
@@ -7,8 +7,7 @@ use Rattle.vortex_like.specs.Tokens.{Token, tokens_of, is_match}
 use Rattle.vortex_like.specs.Forms.{form_of}
 use Rattle.vortex_like.specs.declared.form.LikeForm.{LikeForm}
 
--- the tokens, whether letters match past case, whether every text to match is ASCII, and how the
--- pattern is matched
+-- the tokens, whether case is ignored, whether every text to match is ASCII, and the pattern's form
 pub record PatternView : Type 0 where
   pub tokens : List Token
   pub case_insensitive : Bool
@@ -25,7 +24,7 @@ pattern_of escape bytes case_insensitive ascii_haystack =
       form = form_of escape (chars bytes) case_insensitive ascii_haystack;
     }
 
--- what LIKE says of a text and a pattern, by their bytes
+-- the result of LIKE for a text and a pattern, by their bytes
 abbrev pub like : LikeOptions → List ℕ → List ℕ → Bool
 like options bytes pattern =
     let tokens = tokens_of options.escape (chars pattern) in

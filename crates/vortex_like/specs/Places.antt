@@ -1,4 +1,4 @@
--- What stands first among the tokens that are left, and how many ask for a character.
+-- The first of the remaining tokens, and how many need a character.
 use Rattle.std.specs.Prelude.{ℕ, Bool, false, not, List, [], ◌∷◌, count_by}
 use Rattle.vortex_like.specs.Tokens.{Token, is_any, accepts}
 

@@ -8,21 +8,21 @@ use Rattle.vortex_columns.specs.ValidRows.{either_nullable}
 use Rattle.vortex_like.specs.declared.options.LikeOptions.{LikeOptions}
 use Rattle.vortex_like.specs.Patterns.{like, like_value}
 
--- a bit for each of n rows, of which so much is told
+-- a bit for each of n rows with this property
 pub record AreTold (n : ℕ) (tells : ℕ → Bool → Type 0) (bits : List Bool) : Type 0 where
   pub count : length bits ≡ n
   pub each : (i : ℕ) → i < n → tells i (slice_index_or bits i false)
 
--- an answer, turned over where negated
+-- a result, negated if `negated`
 abbrev pub turned : Bool → Bool → Bool
 turned negated found = if negated then not found else found
 
--- what a test answers to a text, turned over where negated; of what is no text nothing is said
+-- the result of a test for a text, negated if `negated`; arbitrary where the value is no text
 abbrev pub IsSaid : (List ℕ → Bool) → Bool → Value → Bool → Type 0
 IsSaid answer negated (text bytes) b = b ≡ turned negated (answer bytes)
 IsSaid answer negated v b = Unit {0}
 
--- what LIKE says of two texts; of what is no text nothing is said
+-- the result of LIKE for two texts; arbitrary where a value is no text
 abbrev pub IsLikeBit : LikeOptions → Value → Value → Bool → Type 0
 IsLikeBit options (text bytes) (text pattern) b = b ≡ like options bytes pattern
 IsLikeBit options v w b = Unit {0}
@@ -35,7 +35,8 @@ AreLikeBits options l r =
 abbrev pub IsConstantOf : Value → ColumnView → Type 0
 IsConstantOf v c = (i : ℕ) → i < length c.rows → row c.rows i ≡ v
 
--- a column of Bool, nullable if either side is, with what LIKE says of the two values in each row
+-- a column of Bool, nullable if either side is, with the result of LIKE for the two values in each
+-- row
 pub record HasLikeRows (options : LikeOptions) (l r c : ColumnView) : Type 0 where
   pub dtype : c.dtype ≡ bool_type (either_nullable l r)
   pub count : length c.rows ≡ length l.rows

@@ -1,4 +1,4 @@
--- What a character of a pattern stands for, escaped or not.
+-- The meaning of a character of a pattern, escaped or not.
 use Rattle.vortex_like.specs.Tokens.{Token, character, plain_token}
 use Rattle.vortex_like.specs.declared.characters.Symbol.{Symbol}
 use Rattle.vortex_like.specs.declared.characters.Symbol.TheVariants.{Escaped, Plain}

@@ -10,7 +10,7 @@ use Rattle.vortex_like.specs.declared.texts.Texts.{Texts}
 use Rattle.vortex_like.specs.declared.texts.TextColumn.{TextColumn}
 use Rattle.vortex_like.specs.declared.texts.TextColumn.TheVariants.{One, Rows, Null}
 
--- the bytes that are borrowed
+-- the borrowed bytes
 abbrev pub texts_of : Texts → List (List ℕ)
 texts_of texts = lent_values texts.rows
 
@@ -22,7 +22,7 @@ pub record IsTextOf (v : Value) (bytes : List ℕ) : Type 0 where
   pub value : is_null v ≡ false → v ≡ text bytes
   pub utf8 : is_null v ≡ false → IsUtf8 bytes
 
--- bytes for each row, which are the row's text where it is not null
+-- bytes for each row, equal to the row's text where it is not null
 pub record AreTexts (c : ColumnView) (texts : List (List ℕ)) : Type 0 where
   pub count : length texts ≡ length c.rows
   pub each : (i : ℕ) → i < length c.rows → IsTextOf (row c.rows i) (text_at texts i)

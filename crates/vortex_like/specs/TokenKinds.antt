@@ -1,4 +1,4 @@
--- What is seen of a token.
+-- The view of a token.
 use Rattle.vortex_like.specs.Tokens.{Token, any, one, character}
 use Rattle.vortex_like.specs.declared.token.Kind.{Kind}
 use Rattle.vortex_like.specs.declared.token.Kind.TheVariants as kind

@@ -16,11 +16,11 @@ is_wildcard any = true
 is_wildcard one = true
 is_wildcard (character c) = false
 
--- the tokens are those of a text, each character for itself
+-- the tokens are those of a text, each an ordinary character
 abbrev pub AreLiteral : List Token → List ℕ → Type 0
 AreLiteral tokens text = tokens ≡ map character text
 
--- the tokens are those of a text, and then a wildcard
+-- the tokens are those of a text, followed by a wildcard
 abbrev pub AreLiteralThenWildcard : List Token → List ℕ → Type 0
 AreLiteralThenWildcard tokens text =
     (w : Token) × (rest : List Token) × (is_wildcard w ≡ true)
@@ -47,8 +47,8 @@ IsVariantOf escape pattern (Some (Prefix text)) =
     AreLiteralThenWildcard (tokens_of escape pattern) (chars (cow_str_bytes text))
     × (chars (cow_str_bytes text) ≢ []) × (is_lent text ≡ not (meets_escape escape pattern))
 
--- what that says of the texts that the pattern matches, by their characters: of an exact one that
--- text alone, and each that is matched begins with the prefix
+-- what that means for the texts that the pattern matches, by their characters: Exact matches only
+-- that text, and each text that Prefix matches begins with it
 abbrev pub TellsMatches : Option ℕ → List ℕ → Option LikeVariant → Type 0
 TellsMatches escape pattern None = Unit {0}
 TellsMatches escape pattern (Some (Exact text)) =

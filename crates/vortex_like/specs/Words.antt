@@ -1,4 +1,4 @@
--- The words of the contracts, from one place.
+-- The words that contracts use, from one module.
 pub use Rattle.vortex_errors.specs.Answers.{AnswersUnlessMemory}
 pub use Rattle.vortex_types.specs.LogicalTypes.{is_text_type}
 pub use Rattle.vortex_columns.specs.ValidityView.{validity_of}

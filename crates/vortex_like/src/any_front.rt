@@ -1,5 +1,5 @@
-//! Texts that begin with a literal part past case, whatever else they have: their first bytes
-//! answer where these are ASCII, so that no text is asked whether all of it is.
+//! Texts that begin with a literal part, ignoring case: if a text's first bytes are ASCII they
+//! decide, so no test is needed whether all of it is.
 ghost use Rattle.std.specs.Prelude.{◌≡◌, ℕ, List, true, IsUtf8};
 ghost use Rattle.std.specs.Str.{chars};
 ghost use Rattle.vortex_errors.specs.Answers.{AnswersUnlessMemory};
@@ -12,8 +12,8 @@ use crate::token_test::TokenTest;
 use std::alloc::Global;
 use vortex_types::VortexResult;
 
-/// Tokens that ask for a literal part at the front past case, and the part, by whose foldings the
-/// first bytes of a text answer in their place where they are ASCII.
+/// Tokens that ask for a literal part at the start, ignoring case, and the part, whose foldings
+/// decide for texts whose first bytes are ASCII.
 #[derive(Drop)]
 pub(crate) struct AnyFrontTest {
     text: FoldedText,

@@ -3,7 +3,7 @@ ghost use Rattle.std.specs.Prelude.{◌≡◌, ◌<◌, [], ◌∷◌, ◌++◌,
 ghost use Rattle.std.specs.Str.{chars};
 ghost use Rattle.vortex_like.specs.Words.{is_escape, tokens_of, symbol_token};
 
-/// The first character of a text, and the text behind it.
+/// The first character of a text, and the text after it.
 pub(crate) fn split_first(text: &str) -> Option<(char, &str)>
     ensures characters { MatchOption result (chars text.now ≡ [])
         (λ parts. chars text.now ≡ parts.0 ∷ chars parts.1.now) }
@@ -18,12 +18,12 @@ pub(crate) fn split_first(text: &str) -> Option<(char, &str)>
 /// A character of a pattern, as it is read.
 #[derive(Clone, Copy)]
 pub(crate) enum Symbol {
-    /// It stands behind an escape, or is one at the end.
+    /// It follows an escape, or is an escape at the end.
     Escaped(char),
     Plain(char),
 }
 
-/// Whether a character escapes the one behind it.
+/// Whether a character escapes the one after it.
 pub(crate) fn is_escape(escape: Option<char>, c: char) -> bool
     ensures { result ≡ is_escape escape c }
 {
@@ -33,7 +33,7 @@ pub(crate) fn is_escape(escape: Option<char>, c: char) -> bool
     }
 }
 
-/// The first character of a pattern, by what it stands for, and the pattern behind it.
+/// The first character of a pattern, with its meaning, and the rest of the pattern.
 pub(crate) fn first_symbol(pattern: &str, escape: Option<char>) -> Option<(Symbol, &str)>
     ensures token { MatchOption result (chars pattern.now ≡ [])
         (λ parts. tokens_of escape (chars pattern.now)

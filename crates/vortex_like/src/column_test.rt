@@ -1,4 +1,4 @@
-//! One pattern beside the texts of a column: a loop for each form, chosen before the rows.
+//! One pattern against the texts of a column: a loop for each form, chosen before the rows.
 ghost use Rattle.std.specs.Prelude.{◌≡◌, ◌<◌, ◌&&◌, ℕ, List, true, false, not, length, nat_eq};
 ghost use Rattle.std.specs.Prelude.{string_bytes, IsUtf8, IsTrue, slice_index_or};
 ghost use Rattle.std.specs.List.{starts_with, ends_with};
@@ -11,8 +11,8 @@ ghost use Rattle.vortex_like.specs.Words.{form_said, holds_inside};
 use crate::any_front::AnyFrontTest;
 use crate::first_byte::FirstByte;
 use crate::form_test::FormTest;
-use crate::fronted::{said_behind, said_behind_ends};
 use crate::gathered::held_rows;
+use crate::prefiltered::{tested_after, tested_after_ends};
 use crate::small_inside::SmallInsideTest;
 use crate::text_tests::{ByBytes, EndTest, FrontTest, InsideTest, TextTest, WholeTest};
 use crate::texts::Texts;
@@ -25,10 +25,10 @@ use vortex_views::{
     WordsOfBytes,
 };
 
-/// So few texts are searched one by one.
+/// Fewer texts than this are searched one by one.
 const FEW: usize = 64;
 
-/// What a test that reads any bytes says of each text, whether it lies under a null or not.
+/// The result for each text of a test that reads any bytes, also under a null.
 #[derive(Clone, Copy)]
 struct Tested<'a, T: ValueTest> {
     texts: Texts<'a>,
@@ -48,7 +48,7 @@ impl<T: ValueTest> RowBits for Tested<'_, T> {
     }
 }
 
-/// The same of a test that reads texts alone: what lies under a null is passed over.
+/// The same for a test that reads only texts: rows that are null are skipped.
 #[derive(Clone, Copy)]
 struct ValidTested<'a, T: ValueTest> {
     column: &'a Column,
@@ -69,7 +69,7 @@ impl<T: ValueTest> RowBits for ValidTested<'_, T> {
     }
 }
 
-/// What a test that reads any bytes says of the texts of a column, turned over where negated.
+/// The results for a column of a test that reads any bytes, negated if `negated`.
 fn said_by_test<T: ValueTest>(
     alloc: Global,
     column: &Column,
@@ -90,7 +90,7 @@ fn said_by_test<T: ValueTest>(
     collect_rows(alloc, &rows, column.len())
 }
 
-/// What a test that reads texts alone says of them: it reads none under a null.
+/// The results of a test that reads only texts, never under a null.
 fn said_of_texts<'a, T: ValueTest>(
     alloc: Global,
     column: &'a Column,
@@ -112,8 +112,8 @@ fn said_of_texts<'a, T: ValueTest>(
     collect_rows(alloc, &rows, column.len())
 }
 
-/// What a test that asks what tokens do says of the texts of a column: where there are many, and
-/// the tokens do not begin with any sequence, behind a test of the texts' first bytes.
+/// The results of a token test for the texts of a column. Large columns are filtered by the texts'
+/// first bytes, unless the tokens begin with `%`.
 fn said_by_first<'a, T: ValueTest>(
     alloc: Global,
     column: &'a Column,
@@ -134,11 +134,11 @@ fn said_by_first<'a, T: ValueTest>(
         return said_of_texts(alloc, column, texts, test, negated);
     }
     let first = FirstByte::new(alloc, own, tokens.case_insensitive)?;
-    said_behind(alloc, column, texts, (&first, test), negated)
+    tested_after(alloc, column, texts, (&first, test), negated)
 }
 
-/// What a test token by token says of them: behind a test by words of what each text begins with
-/// and ends with that passes, or else of its first byte.
+/// The results of a token test, after a test by words of each text's prefix and suffix, or else of
+/// its first byte.
 fn said_by_tokens<'a>(
     alloc: Global,
     column: &'a Column,
@@ -157,13 +157,13 @@ fn said_by_tokens<'a>(
     }
     if front.len() <= 4 {
         let front = ShortFront::new(front);
-        return said_behind_ends(alloc, column, texts, (&front, test), negated);
+        return tested_after_ends(alloc, column, texts, (&front, test), negated);
     }
     let front = LongFront::new(front);
-    said_behind_ends(alloc, column, texts, (&front, test), negated)
+    tested_after_ends(alloc, column, texts, (&front, test), negated)
 }
 
-/// Which begin with a literal part past case, likewise.
+/// Which texts begin with a literal part, ignoring case, likewise.
 pub(crate) fn said_by_any_front(
     alloc: Global,
     column: &Column,
@@ -185,8 +185,8 @@ pub(crate) fn said_by_any_front(
     )
 }
 
-/// Which texts of a column are this one, turned over where negated: by the words of their views,
-/// which are made of the literal before the rows.
+/// Which texts of a column equal this one, negated if `negated`: by the words of their views; the
+/// literal's words are precomputed.
 fn said_by_whole(
     alloc: Global,
     column: &Column,
@@ -209,7 +209,7 @@ fn said_by_whole(
     said_by_test(alloc, column, texts, &ByBytes { test }, negated)
 }
 
-/// Which begin with it, likewise.
+/// Which texts begin with it, likewise.
 fn said_by_front(
     alloc: Global,
     column: &Column,
@@ -229,7 +229,7 @@ fn said_by_front(
     said_by_test(alloc, column, texts, &LongFront::new(literal), negated)
 }
 
-/// Which end with it, likewise.
+/// Which texts end with it, likewise.
 fn said_by_end(
     alloc: Global,
     column: &Column,
@@ -246,7 +246,7 @@ fn said_by_end(
     said_by_test(alloc, column, texts, &end, negated)
 }
 
-/// Rows of which it is told whether they hold a needle, turned over where negated.
+/// Rows that are known to contain a needle or not, negated if `negated`.
 #[derive(Clone, Copy)]
 struct Held<'a> {
     held: &'a [bool],
@@ -263,7 +263,7 @@ impl RowBits for Held<'_> {
     }
 }
 
-/// Which texts of a column hold it, likewise: by one search over many where there are many.
+/// Which texts of a column contain it, likewise: by one search over many if there are many.
 fn said_by_search(
     alloc: Global,
     column: &Column,
@@ -286,8 +286,8 @@ fn said_by_search(
     collect_rows(alloc, &rows, column.len())
 }
 
-/// Which texts of a column hold a literal part past case, likewise, by small letters; each is
-/// ASCII, if it is not null.
+/// Which texts of a column contain a literal part, ignoring case, likewise, by lower case; each is
+/// ASCII or null.
 fn said_in_small(
     alloc: Global,
     column: &Column,
@@ -309,7 +309,7 @@ fn said_in_small(
     collect_rows(alloc, &rows, column.len())
 }
 
-/// What the test of a pattern says of the texts of a column, turned over where negated.
+/// The results of the test of a pattern for the texts of a column, negated if `negated`.
 fn said_by_form(
     alloc: Global,
     column: &Column,
@@ -347,8 +347,8 @@ fn said_by_form(
     }
 }
 
-/// Which texts of a column the tokens of the test match, turned over where negated. With `ascii`
-/// each text that is not null is ASCII.
+/// Which texts of a column the test's tokens match, negated if `negated`. With `ascii` each text
+/// that is not null is ASCII.
 pub(crate) fn tested_by_form(
     alloc: Global,
     column: &Column,

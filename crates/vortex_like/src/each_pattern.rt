@@ -16,7 +16,7 @@ use std::alloc::Global;
 use vortex_columns::{BitBuffer, Column, VortexResult};
 use vortex_views::{Row, WordsOfBytes, equal};
 
-/// Texts and patterns side by side, and what is asked of each pair.
+/// Texts and patterns row by row, and the options.
 #[derive(Clone, Copy)]
 pub(crate) struct SideBySide<'a> {
     pub(crate) texts: &'a Column,
@@ -45,7 +45,7 @@ struct CompiledPattern {
     pattern: LikePattern,
 }
 
-/// How many compiled patterns are kept.
+/// How many compiled patterns are cached.
 const KEPT: usize = 8;
 
 /// The pattern of this text.
@@ -63,7 +63,7 @@ fn compiled(
     Ok(CompiledPattern { text, pattern })
 }
 
-/// Whether the pattern of these bytes is kept at that place.
+/// Whether the pattern of these bytes is cached at that index.
 #[inline(always)]
 fn is_kept_at(kept: &[CompiledPattern], at: usize, bytes: &[u8]) -> bool
     ensures { IsTrue result → IsKeptAt bytes.now kept.now at }
@@ -71,8 +71,8 @@ fn is_kept_at(kept: &[CompiledPattern], at: usize, bytes: &[u8]) -> bool
     at < kept.len() && kept[at].text.as_bytes() == bytes
 }
 
-/// The place of the pattern of these bytes among those that are kept, if it is one of them: they
-/// are looked at from place `from` on, and then those before it.
+/// The index of the pattern of these bytes in the cache, if it is there: searched from index `from`
+/// on, then before it.
 fn place_of(kept: &[CompiledPattern], from: usize, bytes: &[u8]) -> Option<usize>
     requires { from ≤ length kept.now }
     ensures { IfSome result (IsKeptAt bytes.now kept.now) }
@@ -91,8 +91,8 @@ fn place_of(kept: &[CompiledPattern], from: usize, bytes: &[u8]) -> Option<usize
     None
 }
 
-/// Keeps a pattern, and answers its place: in place of the one behind the last that was asked for,
-/// where there are as many as are kept.
+/// Caches a pattern and returns its index. If the cache is full, it replaces the one after the last
+/// that was used.
 fn keep(
     kept: &mut Vec<CompiledPattern>,
     last: usize,
@@ -110,7 +110,7 @@ fn keep(
     Ok(at)
 }
 
-/// The place of the pattern of these bytes. Where one that is kept has the same it serves again.
+/// The index of the pattern of these bytes. A cached pattern is reused.
 #[inline(never)]
 fn turn_further(
     alloc: Global,
@@ -136,8 +136,8 @@ fn turn_further(
     keep(kept, last, pattern)
 }
 
-/// The place of the pattern of a row. Where the row has the same text as the last one, which two
-/// views tell, that one's serves again.
+/// The index of a row's pattern. If the row has the same text as the last one, by their views, that
+/// pattern is reused.
 #[inline(always)]
 fn turn_to(
     alloc: Global,
@@ -165,7 +165,7 @@ fn turn_to(
     turn_further(alloc, kept, at, row.value_bytes(), options, ascii)
 }
 
-/// The pattern at a place.
+/// The pattern at an index.
 fn pattern_at(kept: &[CompiledPattern], at: usize) -> &CompiledPattern
     requires { at < length kept.now }
     ensures { HoldsAt (λ own. own ≡ result.now) kept.now at }
@@ -173,7 +173,7 @@ fn pattern_at(kept: &[CompiledPattern], at: usize) -> &CompiledPattern
     &kept[at]
 }
 
-/// What the pattern says of a text, turned over where negated.
+/// The result of the pattern for a text, negated if `negated`.
 fn said(own: &CompiledPattern, bytes: &[u8], negated: bool) -> bool
     requires utf8 { IsUtf8 bytes.now }
     requires ascii { IsTrue own.now.pattern.ascii_haystack → IsAscii bytes.now }
@@ -183,9 +183,9 @@ fn said(own: &CompiledPattern, bytes: &[u8], negated: bool) -> bool
     own.pattern.matches(bytes) != negated
 }
 
-/// What LIKE says of each text and the pattern beside it. A null row's pattern is not read, and of
-/// the row nothing is said. The last few patterns that were compiled serve again where their bytes
-/// come again.
+/// The result of LIKE for each text and its row's pattern. A null row's pattern is not read, and
+/// its result is arbitrary. The last few compiled patterns are reused where their bytes occur
+/// again.
 pub(crate) fn each_bits<R: RowTexts>(
     alloc: Global,
     columns: SideBySide<'_>,

@@ -9,7 +9,7 @@ ghost use Rattle.std.specs.Str.{chars};
 use crate::any_front::AnyFrontTest;
 use crate::column_test::said_by_any_front;
 use crate::each_pattern::{SideBySide, each_bits};
-use crate::form::{Shape, shape_of};
+use crate::form::{PatternShape, shape_of};
 use crate::form_test::tokens_test;
 use crate::options::LikeOptions;
 use crate::pattern::LikePattern;
@@ -18,7 +18,7 @@ use std::alloc::Global;
 use vortex_bits::{SameBit, collect_words};
 use vortex_columns::{BitBuffer, Column, ExecutionCtx, Scalar, VortexResult, both_valid};
 
-/// What LIKE says of a text and a pattern that is compiled for it alone.
+/// The result of LIKE for a text and a pattern that is compiled only for it.
 fn like_once(alloc: Global, text: &str, pattern: &str, options: LikeOptions) -> VortexResult<bool>
     ensures { AnswersUnlessMemory result (λ b. b ≡ like options text.now pattern.now) }
 {
@@ -26,7 +26,7 @@ fn like_once(alloc: Global, text: &str, pattern: &str, options: LikeOptions) -> 
     Ok(pattern.matches(text.as_bytes()) != options.negated)
 }
 
-/// LIKE of the same text and the same pattern in each row.
+/// LIKE for the same text and the same pattern in each row.
 fn like_of_constants(
     alloc: Global,
     input: &Column,
@@ -44,7 +44,7 @@ fn like_of_constants(
     Column::constant(alloc, Scalar::bool(found, nullability), input.len())
 }
 
-/// What ILIKE says of the texts of a column and a pattern that is this literal part and `%`.
+/// The results of ILIKE for the texts of a column and a pattern that is this literal part and `%`.
 fn front_bits(
     alloc: Global,
     column: &Column,
@@ -65,9 +65,9 @@ fn front_bits(
     said_by_any_front(alloc, column, texts, &test, options.negated)
 }
 
-/// What LIKE says of the texts of a column and one pattern, compiled once. Of what they begin with
-/// past case the texts answer by their first bytes; else past case it is asked whether all are
-/// ASCII, where the pattern has a form for such texts.
+/// The results of LIKE for the texts of a column and one pattern, compiled once. For a prefix,
+/// ignoring case, the texts' first bytes decide; other ILIKEs test whether all texts are ASCII, if
+/// the pattern has a form for such texts.
 fn one_pattern_bits(
     alloc: Global,
     column: &Column,
@@ -83,7 +83,7 @@ fn one_pattern_bits(
 {
     let shape = shape_of(pattern, options.escape);
     if options.case_insensitive {
-        if let Shape::Front(literal) = shape {
+        if let PatternShape::Front(literal) = shape {
             return front_bits(alloc, column, texts, (pattern, literal), options);
         }
     }
@@ -93,7 +93,7 @@ fn one_pattern_bits(
     pattern.matched_rows(alloc, column, texts, options.negated)
 }
 
-/// What LIKE says of the texts of a column, each beside a pattern of its own.
+/// The results of LIKE for the texts of a column, each with its own pattern.
 fn each_pattern_bits(
     alloc: Global,
     input: &Column,
@@ -117,7 +117,7 @@ fn each_pattern_bits(
     each_bits(alloc, columns, &texts, patterns)
 }
 
-/// What LIKE says of the texts of a column and a column of patterns. Where these all say the same,
+/// The results of LIKE for a column of texts and a column of patterns. If all patterns are equal,
 /// they are one pattern.
 fn pattern_column_bits(
     alloc: Global,
@@ -138,7 +138,7 @@ fn pattern_column_bits(
     each_pattern_bits(alloc, input, texts, pattern, patterns, options)
 }
 
-/// What LIKE says of the same text in each row beside a pattern of its own.
+/// The results of LIKE for one text in each row, each with its own pattern.
 fn one_text_bits(
     alloc: Global,
     input: &Column,
@@ -162,7 +162,7 @@ fn one_text_bits(
     each_bits(alloc, columns, &OneText { text: own }, patterns)
 }
 
-/// What LIKE says of each row, by how the two sides are read. Of a null row it says nothing.
+/// The results of LIKE for each row, by how the two sides are read. Arbitrary for a null row.
 fn like_bits(
     alloc: Global,
     input: &Column,
@@ -213,12 +213,12 @@ fn like_rows(
     Column::try_bool(alloc, bits, validity)
 }
 
-/// Whether the text in each row matches the pattern in that row, turned over where negated: SQL's
-/// LIKE with the options' escape, or none, and ILIKE by Unicode's simple case folding, one
+/// Whether the text in each row matches the pattern in that row, negated if `options.negated`:
+/// SQL's LIKE with the options' escape, or none, and ILIKE by Unicode's simple case folding, one
 /// character at a time. Null if either is null. A column of Bool of as many rows, nullable if
 /// either column is.
 ///
-/// Refuses for memory alone (E9).
+/// Fails only where memory runs out (E9).
 pub fn execute_like(
     input: &Column,
     pattern: &Column,

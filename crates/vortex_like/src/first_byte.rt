@@ -1,4 +1,4 @@
-//! Texts by their first byte: it tells of most that tokens do not match them.
+//! Texts filtered by their first byte: it excludes most texts that tokens do not match.
 ghost use Rattle.std.specs.Prelude.{◌≡◌, ◌<◌, ◌≤◌, ℕ, List, true, length};
 ghost use Rattle.std.specs.Prelude.{slice_index, slice_index_or};
 ghost use Rattle.vortex_errors.specs.Answers.{AnswersUnlessMemory};
@@ -9,7 +9,7 @@ use std::alloc::Global;
 use vortex_types::VortexResult;
 use vortex_views::{Row, ValueTest, WordsOfBytes};
 
-/// Whether the first of the tokens lets a text begin with that character.
+/// Whether the first of the tokens accepts a text that begins with that character.
 fn admits(tokens: &[LikeToken], c: char, case_insensitive: bool) -> bool
     ensures { result ≡ admits case_insensitive tokens.now c }
 {
@@ -20,8 +20,8 @@ fn admits(tokens: &[LikeToken], c: char, case_insensitive: bool) -> bool
     tokens[0].accepts(c, case_insensitive, &mut looks)
 }
 
-/// Whether a text may begin with that byte that tokens match. Of one that is no ASCII it is not
-/// told which character it begins, and so it may.
+/// Whether a text that tokens match may begin with that byte. True for a byte that is not ASCII,
+/// which may begin any character.
 fn may_begin(tokens: &[LikeToken], b: usize, case_insensitive: bool) -> bool
     ensures ascii { b < 128 → result ≡ admits case_insensitive tokens.now b }
     ensures others { 128 ≤ b → result ≡ true }
@@ -32,7 +32,7 @@ fn may_begin(tokens: &[LikeToken], b: usize, case_insensitive: bool) -> bool
     admits(tokens, char::from(b as u8), case_insensitive)
 }
 
-/// The same of each byte.
+/// The same for each byte.
 fn first_bytes(
     alloc: Global,
     tokens: &[LikeToken],
@@ -54,7 +54,8 @@ fn learn_bytes(bytes: &[u8])
     ensures { (i : ℕ) → slice_index bytes.now i < 256 }
 {}
 
-/// Whether tokens may match a text, by its first byte; an empty text is asked for as one of a zero.
+/// Whether tokens may match a text, by its first byte; an empty text counts as one with a zero
+/// byte.
 #[derive(Drop)]
 pub(crate) struct FirstByte {
     may: Vec<bool>,

@@ -1,4 +1,4 @@
-//! Tests of ASCII texts past case, by their bytes, one for each form with folding.
+//! Case-insensitive tests of ASCII texts, by their bytes, one for each form with folding.
 ghost use Rattle.std.specs.Prelude.{◌≡◌, ◌↔◌, ℕ, List, IsTrue, length, string_bytes};
 ghost use Rattle.std.specs.Str.{chars};
 ghost use Rattle.vortex_like.specs.Words.{AnswersUnlessMemory, AreAsciiFolds, folded};
@@ -12,7 +12,7 @@ use std::marker::Model;
 use unicode::case::simple_fold;
 use vortex_types::VortexResult;
 
-/// What each of the 128 characters of ASCII folds to.
+/// The folding of each of the 128 characters of ASCII.
 fn ascii_folds(alloc: Global) -> VortexResult<Vec<char>>
     ensures { AnswersUnlessMemory result (λ folds. AreAsciiFolds folds.items) }
 {
@@ -23,7 +23,7 @@ fn ascii_folds(alloc: Global) -> VortexResult<Vec<char>>
     Ok(folds)
 }
 
-/// What each character of a text folds to.
+/// The folding of each character of a text.
 fn folded_characters(alloc: Global, text: &str) -> VortexResult<Vec<char>>
     ensures { AnswersUnlessMemory result (λ own. own.items ≡ folded (chars text.now)) }
 {
@@ -36,8 +36,8 @@ fn folded_characters(alloc: Global, text: &str) -> VortexResult<Vec<char>>
     Ok(own)
 }
 
-/// Whether ASCII characters fold to these, one by one. Bytes that are no ASCII are read as others,
-/// so that none is refused.
+/// Whether ASCII characters fold to these, one by one. Bytes that are not ASCII are read as other
+/// characters, so any bytes are allowed.
 fn fold_to(folds: &[char], bytes: &[u8], own: &[char]) -> bool
     requires { AreAsciiFolds folds.now }
     ensures { IsTrue result ↔ (folded_bytes bytes.now ≡ own.now) }
@@ -53,7 +53,7 @@ fn fold_to(folds: &[char], bytes: &[u8], own: &[char]) -> bool
     true
 }
 
-/// A text to be compared past case with ASCII texts.
+/// A text to be compared with ASCII texts, ignoring case.
 #[derive(Drop)]
 pub(crate) struct FoldedText {
     text: String,
@@ -99,7 +99,7 @@ impl FoldedText {
     }
 }
 
-/// Whether an ASCII text is this one past case.
+/// Whether an ASCII text is this one, ignoring case.
 #[derive(Drop)]
 pub(crate) struct FoldedWholeTest {
     pub(crate) text: FoldedText,
@@ -115,7 +115,7 @@ impl TextTest for FoldedWholeTest {
     }
 }
 
-/// Whether an ASCII text begins with this one past case.
+/// Whether an ASCII text begins with this one, ignoring case.
 #[derive(Drop)]
 pub(crate) struct FoldedFrontTest {
     pub(crate) text: FoldedText,
@@ -135,7 +135,7 @@ impl TextTest for FoldedFrontTest {
     }
 }
 
-/// Whether an ASCII text ends with this one past case.
+/// Whether an ASCII text ends with this one, ignoring case.
 #[derive(Drop)]
 pub(crate) struct FoldedEndTest {
     pub(crate) text: FoldedText,

@@ -10,27 +10,27 @@ use crate::cuts::cut_at_special;
 /// first form that fits. A `%` that is the escape is no `%` of a form.
 #[derive(Clone, Copy, Debug, PartialEq, Eq)]
 pub enum LikeForm {
-    /// A literal part: that text alone.
+    /// A literal part: only that text.
     Eq,
-    /// A literal part and `%`: what begins with it.
+    /// A literal part and `%`: texts that begin with it.
     StartsWith,
-    /// `%` and a literal part: what ends with it.
+    /// `%` and a literal part: texts that end with it.
     EndsWith,
-    /// A literal part between two `%`: what holds it.
+    /// A literal part between two `%`: texts that contain it.
     Contains,
-    /// As `Eq`, past case: the pattern and each text to match are ASCII.
+    /// As `Eq`, ignoring case: the pattern and each text to match are ASCII.
     IEqAscii,
-    /// As `StartsWith`, past case: the pattern and each text to match are ASCII.
+    /// As `StartsWith`, ignoring case: the pattern and each text to match are ASCII.
     IStartsWithAscii,
-    /// As `EndsWith`, past case: the pattern and each text to match are ASCII.
+    /// As `EndsWith`, ignoring case: the pattern and each text to match are ASCII.
     IEndsWithAscii,
-    /// All else: token by token.
+    /// Everything else: token by token.
     Tokens,
 }
 
-/// A pattern, by its literal part where it has one.
+/// A pattern, by its literal part if it has one.
 #[derive(Clone, Copy)]
-pub(crate) enum Shape<'a> {
+pub(crate) enum PatternShape<'a> {
     Whole(&'a str),
     Front(&'a str),
     End(&'a str),
@@ -38,13 +38,13 @@ pub(crate) enum Shape<'a> {
     Other,
 }
 
-impl Shape<'_> {
+impl PatternShape<'_> {
     /// Whether the pattern has no literal part.
     pub(crate) fn is_other(&self) -> bool
-        ensures { IsTrue result ↔ (self.now ≡ Shape.Other) }
+        ensures { IsTrue result ↔ (self.now ≡ PatternShape.Other) }
     {
         match self {
-            Shape::Other => true,
+            PatternShape::Other => true,
             _ => false,
         }
     }
@@ -58,45 +58,45 @@ fn is_percent(escape: Option<char>, c: char) -> bool
 }
 
 /// The shape of a pattern that is a literal part, or one and `%`.
-fn front_shape(pattern: &str, escape: Option<char>) -> Shape<'_>
+fn front_shape(pattern: &str, escape: Option<char>) -> PatternShape<'_>
     ensures { IsFrontOf escape (chars pattern.now) result }
 {
     let cut = cut_at_special(pattern, escape);
     match split_first(cut.rest) {
-        None => Shape::Whole(cut.front),
+        None => PatternShape::Whole(cut.front),
         Some((c, behind)) => {
             if is_percent(escape, c) && behind.is_empty() {
-                Shape::Front(cut.front)
+                PatternShape::Front(cut.front)
             } else {
-                Shape::Other
+                PatternShape::Other
             }
         }
     }
 }
 
 /// The shape of a pattern that is `%` and a literal part, or that and `%`.
-fn percent_shape(pattern: &str, escape: Option<char>) -> Shape<'_>
+fn percent_shape(pattern: &str, escape: Option<char>) -> PatternShape<'_>
     ensures { IsPercentOf escape (chars pattern.now) result }
 {
     let Some((c, behind)) = split_first(pattern) else {
-        return Shape::Other;
+        return PatternShape::Other;
     };
     if !is_percent(escape, c) {
-        return Shape::Other;
+        return PatternShape::Other;
     }
     match front_shape(behind, escape) {
-        Shape::Whole(literal) => Shape::End(literal),
-        Shape::Front(literal) => Shape::Inside(literal),
-        _ => Shape::Other,
+        PatternShape::Whole(literal) => PatternShape::End(literal),
+        PatternShape::Front(literal) => PatternShape::Inside(literal),
+        _ => PatternShape::Other,
     }
 }
 
 /// The shape of a pattern: the first that fits.
-pub(crate) fn shape_of(pattern: &str, escape: Option<char>) -> Shape<'_>
+pub(crate) fn shape_of(pattern: &str, escape: Option<char>) -> PatternShape<'_>
     ensures { IsShapeOf escape (chars pattern.now) result }
 {
     match front_shape(pattern, escape) {
-        Shape::Other => percent_shape(pattern, escape),
+        PatternShape::Other => percent_shape(pattern, escape),
         shape => shape,
     }
 }

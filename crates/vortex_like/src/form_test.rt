@@ -9,7 +9,7 @@ ghost use Rattle.vortex_like.specs.Words.{IsNeeded, IsNeededEnd, tokens_of, insi
 
 use crate::cuts::cut_at_special;
 use crate::folded_tests::{FoldedEndTest, FoldedFrontTest, FoldedText, FoldedWholeTest};
-use crate::form::{LikeForm, Shape, shape_of};
+use crate::form::{LikeForm, PatternShape, shape_of};
 use crate::small_inside::{SmallInsideTest, folds_to_small};
 use crate::text_tests::{EndTest, FrontTest, InsideTest, TextTest, WholeTest};
 use crate::token::Looks;
@@ -18,7 +18,7 @@ use crate::token_test::TokenTest;
 use std::alloc::Global;
 use vortex_types::VortexResult;
 
-/// What a text is tested by, one variant for each form.
+/// The test for a text, one variant for each form.
 #[derive(Drop)]
 pub(crate) enum FormTest {
     Eq(WholeTest),
@@ -29,12 +29,12 @@ pub(crate) enum FormTest {
     IStartsWithAscii(FoldedFrontTest),
     IEndsWithAscii(FoldedEndTest),
     Tokens(TokenTest),
-    /// Tokens as well, of `Contains` past case.
+    /// Tokens, also for `Contains` ignoring case.
     SmallInside(SmallInsideTest),
 }
 
-/// What each text begins with that a pattern matches: its characters before the first that is
-/// special; of a pattern past case nothing.
+/// The prefix of each text that a pattern matches: its characters before the first special one;
+/// empty if case is ignored.
 fn needed_front(
     alloc: Global,
     pattern: &str,
@@ -51,8 +51,8 @@ fn needed_front(
     Ok(String::from_str(alloc, cut.front)?)
 }
 
-/// What each text ends with that a pattern matches: its characters behind the last that is special;
-/// of a pattern past case nothing.
+/// The suffix of each text that a pattern matches: its characters after the last special one; empty
+/// if case is ignored.
 fn needed_end(
     alloc: Global,
     pattern: &str,
@@ -100,7 +100,7 @@ fn token_test(
 }
 
 /// The test, with folding, of a pattern that is this literal part between two `%`: token by token,
-/// but in ASCII texts by small letters where these tell what folds alike.
+/// but for ASCII texts by lower case if that decides equal foldings.
 fn small_inside_test(
     alloc: Global,
     pattern: &str,
@@ -125,23 +125,23 @@ fn plain_test(alloc: Global, pattern: &str, escape: Option<char>) -> VortexResul
         (IsTestOf escape (chars pattern.now) false (plain_form escape (chars pattern.now))) }
 {
     match shape_of(pattern, escape) {
-        Shape::Whole(text) => {
+        PatternShape::Whole(text) => {
             let literal = String::from_str(alloc, text)?;
             Ok(FormTest::Eq(WholeTest { literal }))
         }
-        Shape::Front(text) => {
+        PatternShape::Front(text) => {
             let literal = String::from_str(alloc, text)?;
             Ok(FormTest::StartsWith(FrontTest { literal }))
         }
-        Shape::End(text) => {
+        PatternShape::End(text) => {
             let literal = String::from_str(alloc, text)?;
             Ok(FormTest::EndsWith(EndTest { literal }))
         }
-        Shape::Inside(text) => {
+        PatternShape::Inside(text) => {
             let literal = String::from_str(alloc, text)?;
             Ok(FormTest::Contains(InsideTest::new(literal)))
         }
-        Shape::Other => token_test(alloc, pattern, escape, false),
+        PatternShape::Other => token_test(alloc, pattern, escape, false),
     }
 }
 
@@ -152,20 +152,20 @@ fn folded_test(alloc: Global, pattern: &str, escape: Option<char>) -> VortexResu
         (folded_form (plain_form escape (chars pattern.now)))) }
 {
     match shape_of(pattern, escape) {
-        Shape::Whole(literal) => {
+        PatternShape::Whole(literal) => {
             let text = FoldedText::new(alloc, literal)?;
             Ok(FormTest::IEqAscii(FoldedWholeTest { text }))
         }
-        Shape::Front(literal) => {
+        PatternShape::Front(literal) => {
             let text = FoldedText::new(alloc, literal)?;
             Ok(FormTest::IStartsWithAscii(FoldedFrontTest { text }))
         }
-        Shape::End(literal) => {
+        PatternShape::End(literal) => {
             let text = FoldedText::new(alloc, literal)?;
             Ok(FormTest::IEndsWithAscii(FoldedEndTest { text }))
         }
-        Shape::Inside(literal) => small_inside_test(alloc, pattern, escape, literal),
-        Shape::Other => token_test(alloc, pattern, escape, true),
+        PatternShape::Inside(literal) => small_inside_test(alloc, pattern, escape, literal),
+        PatternShape::Other => token_test(alloc, pattern, escape, true),
     }
 }
 
@@ -207,7 +207,7 @@ impl FormTest {
         }
     }
 
-    /// What the test says of a text, by its bytes.
+    /// The test's result for a text, by its bytes.
     fn says(&self, haystack: &[u8]) -> bool
         requires { IsUtf8 haystack.now }
         ensures { result ≡ form_said self.now haystack.now }

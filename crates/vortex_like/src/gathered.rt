@@ -1,5 +1,4 @@
-//! Which texts hold a needle: they are gathered one behind another, so that one search goes over
-//! many.
+//! Which texts contain a needle: texts are concatenated, so that one search covers many.
 ghost use Rattle.std.specs.Prelude.{◌≡◌, ◌≤◌, ◌<◌, ◌+◌, ◌-◌, ◌↔◌, ℕ, length, slice_index, map};
 ghost use Rattle.std.specs.Prelude.{IsTrue};
 ghost use Rattle.std.specs.Vec.{vec_len, vec_capacity};
@@ -19,8 +18,8 @@ const ROOM: usize = 65_536;
 /// The most texts that are gathered at once.
 const MOST: usize = 4_096;
 
-/// Gathers the texts of a column from row `first` on, as many as there is room for, at least one,
-/// in place of what was gathered before.
+/// Gathers the texts of a column from row `first` on, as many as fit, at least one. Replaces the
+/// gathered ones.
 fn gather(
     texts: &Texts<'_>,
     first: usize,
@@ -45,8 +44,7 @@ fn gather(
     Ok(())
 }
 
-/// A needle that is sought in what was gathered: a text stands between each two places that follow
-/// one another.
+/// A needle to be searched in gathered texts; each text is between two consecutive offsets.
 #[derive(Clone, Copy)]
 struct Search<'a> {
     bytes: &'a [u8],
@@ -63,7 +61,7 @@ impl Search<'_> {
         self.places.len() - 1
     }
 
-    /// Where the needle stands next from a place on; behind the bytes where it stands nowhere.
+    /// Where the needle is next from an offset on; past the bytes where there is none.
     fn next_place(&self, from: usize) -> usize
         requires { from ≤ length self.now.bytes.now }
         ensures { IsNext self.now.bytes.now self.now.test.now.finder from result }
@@ -74,7 +72,7 @@ impl Search<'_> {
         }
     }
 
-    /// Whether a needle that stands at that place ends where this text does, or before.
+    /// Whether a needle at that offset ends within this text.
     fn ends_by(&self, place: usize, text: usize) -> bool
         requires { text + 1 < length self.now.places.now }
         ensures { IsTrue result ↔ (place + length self.now.test.now.finder
@@ -85,8 +83,8 @@ impl Search<'_> {
         count <= end && place <= end - count
     }
 
-    /// Notes of the next texts that they do not hold the needle, up to the first in which it may
-    /// end that stands at that place.
+    /// Records that the next texts do not contain the needle, up to the first in which a needle at
+    /// that offset may end.
     fn pass_over(&self, place: usize, held: &mut Vec<bool>)
         requires places { ArePlaces self.now.bytes.now self.now.places.now }
         requires room { length self.now.places.now ≤ vec_capacity held.old + 1 }
@@ -111,7 +109,7 @@ impl Search<'_> {
         }
     }
 
-    /// Notes of each text whether it holds the needle.
+    /// Records for each text whether it contains the needle.
     fn run(&self, held: &mut Vec<bool>)
         requires places { ArePlaces self.now.bytes.now self.now.places.now }
         requires none { length held.old.items ≡ 0 }
@@ -131,7 +129,7 @@ impl Search<'_> {
     }
 }
 
-/// Turns ASCII letters to small ones, where these are asked for.
+/// Turns ASCII letters to lower case if requested.
 fn turn_small(bytes: &mut Vec<u8>, in_small: bool)
     ensures { bytes.new.items ≡ cased in_small bytes.old.items }
 {
@@ -140,7 +138,7 @@ fn turn_small(bytes: &mut Vec<u8>, in_small: bool)
     }
 }
 
-/// Whether each text holds the needle, or whether its small letters do.
+/// Whether each text, or its lower case, contains the needle.
 pub(crate) fn held_rows(
     alloc: Global,
     texts: &Texts<'_>,

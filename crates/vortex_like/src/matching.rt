@@ -1,4 +1,4 @@
-//! Tokens beside a text: the matcher.
+//! The matcher of tokens and text.
 ghost use Rattle.std.specs.Prelude.{◌≡◌, ◌+◌, ◌*◌, ◌<◌, ◌≤◌, ◌↔◌, ◌^◌, ◌-◌, true, IsTrue, length};
 ghost use Rattle.std.specs.Prelude.{◌≢◌, [], drop, MatchOption};
 ghost use Rattle.std.specs.Str.{chars};
@@ -8,14 +8,14 @@ ghost use Rattle.vortex_like.specs.Words.{IsFurther};
 use crate::characters::split_first;
 use crate::token::{LikeToken, Looks};
 
-/// A place in the tokens, beside what is left of the text.
+/// A position in the tokens, and the rest of the text.
 #[derive(Clone, Copy)]
 struct Place<'a> {
     at: usize,
     text: &'a str,
 }
 
-/// Whether the token at a place is any sequence.
+/// Whether the token at an index is any sequence.
 fn begins_with_any(tokens: &[LikeToken], at: usize) -> bool
     ensures { result ≡ begins_with_any (drop at tokens.now) }
 {
@@ -25,7 +25,7 @@ fn begins_with_any(tokens: &[LikeToken], at: usize) -> bool
     }
 }
 
-/// Whether there is a token at a place, and it accepts the character.
+/// Whether there is a token at an index, and it accepts the character.
 fn first_accepts(
     tokens: &[LikeToken],
     at: usize,
@@ -45,7 +45,7 @@ fn first_accepts(
     }
 }
 
-/// The same place, one character further on.
+/// The same position, one character later.
 fn one_further(back: Option<Place<'_>>) -> Option<Place<'_>>
     ensures { MatchOption result (IsLast back.entry) (IsFurther back.entry) }
 {
@@ -54,9 +54,9 @@ fn one_further(back: Option<Place<'_>>) -> Option<Place<'_>>
     Some(Place { at: place.at, text })
 }
 
-/// Whether the tokens match the text, and how often a token was compared with a character. It goes
-/// over the text once, and goes back to the last `%` alone, to try one character further on. A `%`
-/// at the end matches what is left at once.
+/// Whether the tokens match the text, and how often a token was compared with a character. Walks
+/// over the text once, and backtracks only to the last `%`, one character later each time. A `%` at
+/// the end matches the rest at once.
 pub(crate) fn match_tokens(
     tokens: &[LikeToken],
     text: &str,

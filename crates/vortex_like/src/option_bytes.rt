@@ -1,5 +1,4 @@
-//! The bytes that options are written as and from which they are read; no other byte string is
-//! read.
+//! The bytes that options are written as and read from. No other byte string is read.
 ghost use Rattle.std.specs.Prelude.{◌≡◌, ◌+◌, ◌∷◌, ◌++◌, []};
 ghost use Rattle.vortex_like.specs.Words.{AnswersUnlessMemory};
 ghost use Rattle.vortex_like.specs.OptionBytes.{like_bytes, like_read, with_bits, escape_read};
@@ -10,8 +9,7 @@ use crate::options::LikeOptions;
 use std::alloc::Global;
 use vortex_types::VortexResult;
 
-/// The options of two bits: bit 0 where negated, bit 1 where case insensitive. Of a greater number
-/// there are none.
+/// The options of two bits: bit 0 if negated, bit 1 if case insensitive. None for a greater number.
 fn with_bits(bits: u8, escape: Option<char>) -> Option<LikeOptions>
     ensures { result ≡ with_bits bits escape }
 {
@@ -29,7 +27,7 @@ fn with_bits(bits: u8, escape: Option<char>) -> Option<LikeOptions>
     })
 }
 
-/// The escape that four bytes say, the greatest first: a character, unless it is the backslash.
+/// The escape of four bytes, big-endian: a character, unless it is the backslash.
 fn escape_of(number: [u8; 4]) -> Option<char>
     ensures { result ≡ escape_read number }
 {
@@ -48,7 +46,7 @@ fn one_byte(alloc: Global, byte: u8) -> VortexResult<Vec<u8>>
     Ok(bytes)
 }
 
-/// A byte, and a character behind it as four bytes.
+/// A byte, and a character after it as four bytes.
 fn byte_and_character(alloc: Global, byte: u8, c: char) -> VortexResult<Vec<u8>>
     ensures { AnswersUnlessMemory result (λ bytes. bytes.items ≡ byte ∷ to_be_bytes w32 c) }
 {
@@ -59,7 +57,7 @@ fn byte_and_character(alloc: Global, byte: u8, c: char) -> VortexResult<Vec<u8>>
 }
 
 impl LikeOptions {
-    /// Bit 0 where negated, bit 1 where case insensitive.
+    /// Bit 0 if negated, bit 1 if case insensitive.
     fn bits(&self) -> u8
         ensures { result ≡ two_bits self.now.negated self.now.case_insensitive }
     {
@@ -71,9 +69,9 @@ impl LikeOptions {
         }
     }
 
-    /// The bytes that they are written as: one byte, bit 0 where negated, bit 1 where case
-    /// insensitive. For another escape than the backslash bit 2 too, and behind it the character as
-    /// four bytes, the greatest first; for none bit 3 too. Refuses for memory alone (E9).
+    /// The bytes of the options: one byte, bit 0 if negated, bit 1 if case insensitive. An escape
+    /// other than the backslash sets bit 2 and follows as four bytes, big-endian; no escape sets
+    /// bit 3. Fails only where memory runs out (E9).
     pub fn to_bytes(&self, alloc: Global) -> VortexResult<Vec<u8>>
         ensures { AnswersUnlessMemory result (λ bytes. bytes.items ≡ like_bytes self.now) }
     {
@@ -85,7 +83,7 @@ impl LikeOptions {
         }
     }
 
-    /// The options that are written as these bytes, where there are some.
+    /// The options with these bytes, if there are any.
     pub fn from_bytes(bytes: &[u8]) -> Option<LikeOptions>
         ensures { result ≡ like_read bytes.now }
     {

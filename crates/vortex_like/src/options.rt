@@ -1,9 +1,9 @@
-//! What a LIKE asks.
+//! The options of a LIKE.
 
 use std::fmt;
 
-/// Whether a LIKE is turned over, whether it looks past case, and which character escapes the one
-/// behind it in a pattern, if any does. By default neither, and the backslash.
+/// Whether a LIKE is negated, whether it ignores case, and the escape of its patterns, if there is
+/// one. By default neither, and the backslash.
 #[derive(Clone, Copy, Debug, PartialEq, Eq, Hash)]
 pub struct LikeOptions {
     pub negated: bool,
@@ -26,8 +26,8 @@ impl Default for LikeOptions {
     }
 }
 
-/// `LIKE`, `NOT LIKE`, `ILIKE` or `NOT ILIKE`; where another escape than the backslash is chosen `
-/// ESCAPE '!'` behind it, with that character as it stands, and where there is none ` ESCAPE ''`.
+/// `LIKE`, `NOT LIKE`, `ILIKE` or `NOT ILIKE`; then ` ESCAPE '!'` for an escape other than the
+/// backslash, with that character unchanged, or ` ESCAPE ''` for none.
 impl fmt::Display for LikeOptions {
     ghost use Rattle.std.specs.Prelude.{Some};
     ghost use Rattle.vortex_like.specs.Options.{options_text};

@@ -1,4 +1,4 @@
-//! A pattern, read once, and the texts that it matches.
+//! A pattern, compiled once, and the texts that it matches.
 ghost use Rattle.std.specs.Prelude.{◌≡◌, ◌≢◌, ◌+◌, ◌*◌, ◌<◌, ◌≤◌, ◌↔◌, [], Some, length};
 ghost use Rattle.std.specs.Prelude.{IsTrue, IsUtf8};
 ghost use Rattle.std.specs.Str.{chars, IsAscii};
@@ -47,11 +47,11 @@ impl LikePattern {
     /// backslash and a character that character, a backslash at the end itself, and every other
     /// character itself.
     ///
-    /// With `case_insensitive` a character stands for each with the same simple case folding.
+    /// With `case_insensitive` a character matches each one with the same simple case folding.
     /// `ascii_haystack` promises that every text to match is ASCII. The pattern has the first form
     /// that fits: without folding Eq, StartsWith, EndsWith, Contains or Tokens; with folding, where
     /// it and every text to match are ASCII, IEqAscii, IStartsWithAscii, IEndsWithAscii or Tokens,
-    /// and else Tokens. Refuses for memory alone (E9).
+    /// and else Tokens. Fails only where memory runs out (E9).
     pub fn compile(
         alloc: Global,
         pattern: &str,
@@ -69,11 +69,11 @@ impl LikePattern {
         LikePattern::compile_with(alloc, pattern, options, ascii_haystack)
     }
 
-    /// The same with the escape of the options in the backslash's place, or with none, and with
-    /// folding where they look past case. The escape may be `%` or `_`, and is then no wildcard; it
-    /// is compared as it stands, past case too. A form's literal part holds no escape, and of an
-    /// escape `%` only Eq, IEqAscii and Tokens are made. Whether the options turn the LIKE over
-    /// does not matter to a pattern. Refuses for memory alone (E9).
+    /// The same with the escape of the options instead of the backslash, or with none, and with
+    /// folding if they ignore case. If the escape is `%` or `_`, that is no wildcard; it is
+    /// compared unchanged, even ignoring case. A form's literal part has no escape, and an escape
+    /// `%` gives only Eq, IEqAscii and Tokens. Negation does not matter for a pattern. Fails only
+    /// where memory runs out (E9).
     pub fn compile_with(
         alloc: Global,
         pattern: &str,
@@ -91,14 +91,14 @@ impl LikePattern {
         })
     }
 
-    /// How the pattern is matched.
+    /// The form of the pattern.
     pub fn form(&self) -> LikeForm
         ensures { result ≡ self.now.form }
     {
         self.test.form()
     }
 
-    /// Whether the pattern matches a text, whole, by the text's UTF-8 bytes. Takes no memory.
+    /// Whether the pattern matches a text, whole, by the text's UTF-8 bytes. Allocates nothing.
     pub fn matches(&self, haystack: &[u8]) -> bool
         requires utf8 { IsUtf8 haystack.now }
         requires ascii { IsTrue self.now.ascii_haystack → IsAscii haystack.now }
@@ -110,10 +110,10 @@ impl LikePattern {
         self.test.passes(haystack)
     }
 
-    /// The same, and how often a token was compared with a character: at most as often as the text
-    /// has characters, and once more, for each token and once more. A form other than Tokens
-    /// compares none. Tokens compares each token but `%` at least once where it matches, and one of
-    /// them where it does not, if there is one and the text is not empty.
+    /// The same, and how often a token was compared with a character: at most (characters + 1)
+    /// times (tokens + 1). Forms other than Tokens compare none. Tokens compares each token but `%`
+    /// at least once where it matches, and one of them where it does not, if there is one and the
+    /// text is not empty.
     pub fn matches_counted(&self, haystack: &[u8]) -> (bool, Looks)
         requires utf8 { IsUtf8 haystack.now }
         requires ascii { IsTrue self.now.ascii_haystack → IsAscii haystack.now }
@@ -132,8 +132,7 @@ impl LikePattern {
         self.test.passes_counted(haystack)
     }
 
-    /// Whether it matches each text of a column, turned over where negated. Of a null row it says
-    /// nothing.
+    /// Whether it matches each text of a column, negated if `negated`. Arbitrary for a null row.
     pub(crate) fn matched_rows(
         &self,
         alloc: Global,

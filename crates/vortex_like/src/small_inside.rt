@@ -1,5 +1,5 @@
-//! Texts that hold a literal part past case, where all is ASCII: what folds alike has the same
-//! small letters.
+//! Texts that contain a literal part, ignoring case, for ASCII: characters fold alike exactly where
+//! they have the same lower case.
 ghost use Rattle.std.specs.Prelude.{◌≡◌, ◌<◌, ℕ, List, true, IsTrue};
 ghost use Rattle.std.specs.Str.{chars, IsAscii};
 ghost use Rattle.vortex_errors.specs.Answers.{AnswersUnlessMemory};
@@ -14,7 +14,7 @@ use std::alloc::Global;
 use unicode::case::simple_fold;
 use vortex_types::VortexResult;
 
-/// Whether each ASCII character folds to its small letter, or to itself where it is no letter.
+/// Whether each ASCII character folds to its lower-case letter, or to itself if it is no letter.
 pub(crate) fn folds_to_small() -> bool
     ensures { IsTrue result → FoldsToSmall }
 {
@@ -26,8 +26,8 @@ pub(crate) fn folds_to_small() -> bool
     true
 }
 
-/// Tokens that ask for a literal part past case, and a search that answers in their place where a
-/// text is ASCII: for the literal's small letters in those of the text.
+/// Tokens that ask for a literal part, ignoring case, and a search that replaces them for an ASCII
+/// text: for the literal's lower case in that of the text.
 #[derive(Drop)]
 pub(crate) struct SmallInsideTest {
     pub(crate) tokens: TokenTest,

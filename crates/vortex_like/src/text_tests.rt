@@ -8,12 +8,12 @@ ghost use Rattle.vortex_like.specs.ByteTests.{holds_inside};
 use memchr::memmem::{Finder, FinderBuilder};
 use vortex_views::{Row, ValueTest, WordsOfBytes};
 
-/// A test of texts, by their bytes, that takes no memory.
+/// A test of texts, by their bytes, that allocates nothing.
 pub(crate) trait TextTest {
     /// The bytes that may be read.
     ghost can_read: { Self → List ℕ → Type 0 };
 
-    /// What it says of them, be they a text or not, as may lie under a null.
+    /// The result for them, text or not (as may be under a null).
     ghost said: { Self → List ℕ → Bool };
 
     fn passes(&self, haystack: &[u8]) -> bool
@@ -21,7 +21,7 @@ pub(crate) trait TextTest {
         ensures { result ≡ said self.now haystack.now };
 }
 
-/// The same test of a row's text, by its bytes.
+/// The same test for a row's text, by its bytes.
 #[derive(Clone, Copy)]
 pub(crate) struct ByBytes<'a, T: TextTest> {
     pub(crate) test: &'a T,
@@ -86,7 +86,7 @@ impl TextTest for EndTest {
     }
 }
 
-/// Whether a text holds this one. The search is made once.
+/// Whether a text contains this one. The searcher is built once.
 #[derive(Drop)]
 pub(crate) struct InsideTest {
     finder: Finder<'static>,
@@ -109,7 +109,7 @@ impl InsideTest {
         self.finder.needle().len()
     }
 
-    /// Where it first stands in these bytes.
+    /// Its first position in these bytes.
     pub(crate) fn find(&self, haystack: &[u8]) -> Option<usize>
         ensures { FindsNeedle haystack.now self.now.finder 0 result }
     {

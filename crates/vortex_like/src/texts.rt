@@ -12,7 +12,7 @@ ghost use Rattle.vortex_views.specs.ViewBytes.{view_bytes, inlined_value, IsInli
 use vortex_columns::{Cell, Column, ResolvedViews, VortexResult};
 use vortex_views::{BinaryView, Row, equal};
 
-/// The texts of a column that is no constant, each where it lies. Under a null lie any bytes.
+/// The texts of a column that is not constant, in place. Bytes under a null are arbitrary.
 #[derive(Clone, Copy)]
 pub(crate) struct Texts<'a> {
     rows: ResolvedViews<'a>,
@@ -28,7 +28,7 @@ pub(crate) enum TextColumn<'a> {
     Null,
 }
 
-/// How the rows of a column of texts are read. Takes no memory.
+/// How the rows of a column of texts are read. Allocates nothing.
 pub(crate) fn text_column(column: &Column) -> TextColumn<'_>
     requires { is_text_type column.now.dtype ≡ true }
     ensures { IsTextColumn column.now result }
@@ -53,7 +53,7 @@ fn learn_bytes(bytes: &[u8])
     ensures { (i : ℕ) → slice_index bytes.now i < 256 }
 {}
 
-/// Whether there is room for twelve bytes more.
+/// Whether there is capacity for twelve more bytes.
 #[inline(always)]
 fn has_room(bytes: &Vec<u8>) -> bool
     ensures { IsTrue result → vec_len bytes.now + 12 ≤ vec_capacity bytes.now }
@@ -61,7 +61,7 @@ fn has_room(bytes: &Vec<u8>) -> bool
     bytes.len() < bytes.capacity() && bytes.capacity() - bytes.len() >= 12
 }
 
-/// Adds four bytes, for which there is room.
+/// Adds four bytes, within the capacity.
 #[inline(always)]
 fn push_four(bytes: &mut Vec<u8>, part: [u8; 4])
     requires { vec_len bytes.old + 4 ≤ vec_capacity bytes.old }
@@ -76,7 +76,7 @@ fn push_four(bytes: &mut Vec<u8>, part: [u8; 4])
     bytes.push_reserved(d);
 }
 
-/// Adds the eight bytes of a number, the lowest first, for which there is room.
+/// Adds the eight bytes of a number, little-endian, within the capacity.
 #[inline(always)]
 fn push_eight(bytes: &mut Vec<u8>, number: u64)
     requires { vec_len bytes.old + 8 ≤ vec_capacity bytes.old }
@@ -93,8 +93,8 @@ fn push_eight(bytes: &mut Vec<u8>, number: u64)
     bytes.push_reserved(b7);
 }
 
-/// Adds a text that lies in its view, for which there is room: the view's last twelve bytes, of
-/// which those behind the text go again.
+/// Adds an inlined text, within the capacity: the view's last twelve bytes, then truncates to the
+/// text.
 #[inline(always)]
 fn push_inlined(bytes: &mut Vec<u8>, view: &BinaryView)
     requires inlined { IsInlined (view_bytes view.now) }
@@ -173,7 +173,7 @@ impl<'a> Texts<'a> {
         self.rows.view(i).len() as usize
     }
 
-    /// Adds the text of a row behind other bytes.
+    /// Adds the text of a row after other bytes.
     #[inline(always)]
     pub(crate) fn append(&self, i: usize, bytes: &mut Vec<u8>) -> VortexResult<()>
         requires { i < length (texts_of self.now) }
@@ -204,8 +204,8 @@ impl<'a> Texts<'a> {
         None
     }
 
-    /// The text that each row has which is not null, if these all have the same and there are some.
-    /// Takes no memory.
+    /// The text of all rows that are not null, if they have the same and there are some. Allocates
+    /// nothing.
     pub(crate) fn repeated(&self, column: &Column) -> Option<&'a str>
         requires { AreTexts column.now (texts_of self.now) }
         ensures { IfSome result (λ chars. IsRepeated chars.now column.now) }
@@ -246,8 +246,8 @@ impl<'a> Texts<'a> {
         true
     }
 
-    /// Whether letters are to match past case, and each text that is not null is ASCII: then the
-    /// ASCII forms serve. The texts are not read where letters match as they stand.
+    /// Whether case is ignored and each text that is not null is ASCII: then the ASCII forms apply.
+    /// The texts are not read if case is not ignored.
     pub(crate) fn fold_as_ascii(&self, column: &Column, case_insensitive: bool) -> bool
         requires { AreTexts column.now (texts_of self.now) }
         ensures { result ≡ true → AreAscii column.now (texts_of self.now) }

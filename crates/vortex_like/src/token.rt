@@ -5,8 +5,8 @@ ghost use Rattle.vortex_like.specs.Words.{any, one, character, is_any, accepts};
 use std::marker::Model;
 use unicode::case::simple_fold;
 
-/// What a pattern asks of a text at one place: any sequence of characters, one character, or that
-/// character.
+/// What a pattern asks for at one position of a text: any sequence of characters, one character, or
+/// that character.
 #[derive(Drop)]
 pub struct LikeToken {
     kind: Kind,
@@ -44,7 +44,7 @@ impl Model for Looks {
 }
 
 impl Looks {
-    /// No look so far.
+    /// No looks so far.
     pub fn new() -> Looks
         ensures { result ≡ 0 }
     {
@@ -60,14 +60,14 @@ impl Looks {
 }
 
 impl LikeToken {
-    /// Any sequence of characters, also none.
+    /// Any sequence of characters, even an empty one.
     pub fn any() -> LikeToken
         ensures { result ≡ any }
     {
         LikeToken { kind: Kind::Any }
     }
 
-    /// One character, whichever.
+    /// Any one character.
     pub fn one() -> LikeToken
         ensures { result ≡ one }
     {
@@ -93,8 +93,8 @@ impl LikeToken {
         }
     }
 
-    /// Whether a text of this one character has what the token asks. It is the one place where a
-    /// token is compared with a character, and counts as one look.
+    /// Whether the token accepts a text of this one character. Only here is a token compared with a
+    /// character; it counts as one look.
     pub fn accepts(&self, c: char, case_insensitive: bool, looks: &mut Looks) -> bool
         requires { looks.old < 2 ^ 128 - 1 }
         ensures answer { result ≡ accepts case_insensitive self.now c }

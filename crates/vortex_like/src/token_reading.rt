@@ -9,7 +9,7 @@ use crate::token::LikeToken;
 use std::alloc::Global;
 use vortex_types::VortexResult;
 
-/// The token of a character that is not escaped and escapes none.
+/// The token of a character that is not escaped and is not the escape.
 fn plain_token(c: char) -> LikeToken
     ensures { result ≡ plain_token c }
 {
@@ -20,7 +20,7 @@ fn plain_token(c: char) -> LikeToken
     }
 }
 
-/// The first token of a pattern, and the pattern behind it.
+/// The first token of a pattern, and the pattern after it.
 fn first_token(pattern: &str, escape: Option<char>) -> Option<(LikeToken, &str)>
     ensures token { MatchOption result (chars pattern.now ≡ [])
         (λ parts. tokens_of escape (chars pattern.now)
@@ -54,7 +54,7 @@ pub(crate) fn tokens_of(
     Ok(tokens)
 }
 
-/// What stands behind the last special character of a pattern.
+/// The part of a pattern after its last special character.
 pub(crate) fn last_part(pattern: &str, escape: Option<char>) -> &str
     ensures { IsLastPart escape (chars pattern.now) (chars result.now) }
 {

@@ -10,15 +10,15 @@ use crate::matching::match_tokens;
 use crate::text_tests::TextTest;
 use crate::token::{LikeToken, Looks};
 
-/// Whether tokens match a text. It reads characters, and so no bytes that are no text.
+/// Whether tokens match a text. Reads characters, so only valid texts.
 #[derive(Drop)]
 pub(crate) struct TokenTest {
     pub(crate) tokens: Vec<LikeToken>,
     pub(crate) case_insensitive: bool,
-    /// What each text that passes begins with.
+    /// A prefix of each text that passes.
     pub(crate) front: String,
     ghost needed: { IsNeeded case_insensitive tokens.items (string_bytes front) },
-    /// What each text that passes ends with.
+    /// A suffix of each text that passes.
     pub(crate) end: String,
     ghost needed_end: { IsNeededEnd case_insensitive tokens.items (string_bytes end) },
 }

@@ -11,24 +11,24 @@ use std::alloc::Global;
 use std::borrow::CowStr;
 use vortex_types::VortexResult;
 
-/// A pattern that one text alone matches, or what every text that matches it begins with. Two are
-/// equal by form and text, borrowed or owned.
+/// A pattern that only one text matches, or a prefix of every text that matches it. Two are equal
+/// by form and text, borrowed or owned.
 #[derive(Debug, Drop, PartialEq)]
 pub enum LikeVariant<'a> {
     /// The pattern has no wildcard.
     Exact(CowStr<'a>),
-    /// What stands before the first wildcard.
+    /// The text before the first wildcard.
     Prefix(CowStr<'a>),
 }
 
-/// What a text without escapes is read from a pattern, up to its first wildcard or its end.
+/// A text without escapes, read from a pattern up to its first wildcard or its end.
 #[derive(Drop)]
 struct Unescaped {
     text: String,
     at_wildcard: bool,
 }
 
-/// The character that stands for itself, unless it is a wildcard.
+/// The ordinary character, unless it is a wildcard.
 fn literal(symbol: Symbol) -> Option<char>
     ensures { MatchOption result (is_wildcard (symbol_token symbol) ≡ true)
         (λ c. symbol_token symbol ≡ character c) }
@@ -41,7 +41,7 @@ fn literal(symbol: Symbol) -> Option<char>
     }
 }
 
-/// The text before the first wildcard, without its escapes, or of the whole pattern.
+/// The text before the first wildcard, or of the whole pattern, without its escapes.
 fn without_escapes(alloc: Global, pattern: &str, escape: Option<char>) -> VortexResult<Unescaped>
     ensures { AnswersUnlessMemory result (IsUnescaped escape (chars pattern.now)) }
 {
@@ -104,12 +104,12 @@ fn variant_of(
 }
 
 impl<'a> LikeVariant<'a> {
-    /// The simple shape of a pattern of LIKE: the text that it is where it has no wildcard, or what
-    /// stands before its first one, each without its escapes. None exactly where it begins with a
-    /// wildcard that is not escaped.
+    /// The simple shape of a pattern of LIKE: its text if it has no wildcard, or the text before
+    /// its first one, each without its escapes. None exactly if it begins with a wildcard that is
+    /// not escaped.
     ///
-    /// The text is borrowed where no escape was met before that point, a backslash at the end among
-    /// them. Refuses for memory alone (E9).
+    /// The text is borrowed if there is no escape before that point (a backslash at the end is
+    /// one). Fails only where memory runs out (E9).
     pub fn from_str(alloc: Global, pattern: &'a str) -> VortexResult<Option<LikeVariant<'a>>>
         ensures variant { AnswersUnlessMemory result
             (IsVariantOf (Some backslash) (chars pattern.now)) }
@@ -119,8 +119,8 @@ impl<'a> LikeVariant<'a> {
         LikeVariant::from_str_with(alloc, pattern, Some('\\'))
     }
 
-    /// The same with that escape in the backslash's place, or with none. A wildcard that is the
-    /// escape is no wildcard. Refuses for memory alone (E9).
+    /// The same with that escape instead of the backslash, or with none. If a wildcard is the
+    /// escape, it is no wildcard. Fails only where memory runs out (E9).
     pub fn from_str_with(
         alloc: Global,
         pattern: &'a str,

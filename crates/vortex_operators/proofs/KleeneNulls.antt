@@ -1,4 +1,4 @@
--- Kleene's tables answer nothing only where a side allows null.
+-- Kleene's tables give null only where a side allows null.
 use Rattle.std.proofs.Common.{◌≡◌, Bool, true, false, Option, Some, None, refl}
 use Rattle.std.specs.Prelude.{IsTrue, ◌||◌}
 use Rattle.vortex_types.specs.LogicalTypes.{bool_type}
@@ -9,7 +9,7 @@ use Rattle.vortex_operators.specs.declared.operators.Operator.TheVariants.{And, 
 use Rattle.vortex_operators.specs.Operators.{is_boolean}
 use Rattle.vortex_operators.specs.Kleene.{kleene, kleene_and, kleene_or, kleene_not, Allows}
 
--- a value of Bool is nothing only where null is allowed
+-- a value of Bool is null only where null is allowed
 pub allowed : (n : Bool) (v : Value) → HasType (bool_type n) v → Allows n (truth_of v)
 allowed n null h = h
 allowed n (truth b) h = tt
@@ -46,7 +46,7 @@ or_allowed n m None (Some false) h k = or_left n m h
 or_allowed n m (Some false) None h k = or_right n m k
 or_allowed n m (Some false) (Some false) h k = tt
 
--- the answer is nothing only where a side's null is allowed
+-- the result is null only where a side allows null
 pub kleene_allowed : (op : Operator) (n m : Bool) (a b : Option Bool) → is_boolean op ≡ true
     → Allows n a → Allows m b → Allows (n || m) (kleene op a b)
 kleene_allowed And n m a b e h k = and_allowed n m a b h k

@@ -11,7 +11,7 @@ use Rattle.vortex_types.specs.Values.{Value, null, number}
 use Rattle.vortex_operators.specs.declared.operators.Operator.{Operator}
 use Rattle.vortex_operators.specs.declared.operators.Operator.TheVariants.{Add, Sub, Mul, Div}
 
--- the whole number that is the result: a quotient is truncated toward zero, and there is none by
+-- the whole number that is the result: a quotient is truncated toward zero; none for division by
 -- zero
 abbrev pub exact_result : NumericOperator → ℤ → ℤ → Option ℤ
 exact_result numeric.Add a b = Some (a +ℤ b)
@@ -25,7 +25,7 @@ held p None = None
 held p (Some z) = if is_outside (least_of p) (greatest_of p) z then None else Some (number z)
 
 -- null where either operand is null, else the exact result; none is a fault: the type does not hold
--- it
+-- the result
 abbrev pub arithmetic_value : NumericOperator → PType → Value → Value → Option Value
 arithmetic_value op p (number a) (number b) = held p (exact_result op a b)
 arithmetic_value op p v w = Some null

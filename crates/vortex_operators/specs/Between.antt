@@ -1,4 +1,4 @@
--- A value between two bounds, each meant strictly or not.
+-- A value between two bounds, each strict or not.
 use Rattle.std.specs.Prelude.{◌++◌, ◌||◌, ℕ, List, Bool, true, false, codes}
 use Rattle.vortex_types.specs.LogicalTypes.{LogicalType, bool_type, is_nullable}
 use Rattle.vortex_types.specs.Values.{Value}

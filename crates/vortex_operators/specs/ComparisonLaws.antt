@@ -1,4 +1,4 @@
--- A comparison, its inverse, and the same with its sides swapped.
+-- A comparison, its inverse, and its swap.
 use Rattle.std.specs.Prelude.{◌≡◌, Bool, true, false, not, ◌||◌, refl, if◌then◌else◌}
 use Rattle.std.proofs.Common.{ap, ◌∙◌}
 use Rattle.std.specs.declared.cmp.Ordering.{Ordering}
@@ -14,7 +14,7 @@ use Rattle.vortex_operators.specs.Operators.{compare_inverse, compare_swap}
 use Rattle.vortex_operators.specs.OperatorValues.{not_value}
 use Rattle.vortex_operators.specs.OperatorValues.{holds, comparison_value}
 
--- not (a op b) is a inverse b, for all values, nulls among them
+-- not (a op b) is a inverse b, for all values, nulls included
 abbrev pub AreInverse : CompareOperator → CompareOperator → Type 0
 AreInverse op inverse = (v w : Value)
     → not_value (comparison_value op v w) ≡ comparison_value inverse v w

@@ -1,4 +1,4 @@
--- Kleene's strong three-valued logic, over a truth value or nothing, which stands for null.
+-- Kleene's strong three-valued logic, over a truth value or none, which is null.
 use Rattle.std.specs.Prelude.{◌≡◌, Bool, true, false, not, Option, Some, None, IsTrue, refl}
 use Rattle.vortex_operators.specs.declared.operators.Operator.{Operator}
 use Rattle.vortex_operators.specs.declared.operators.Operator.TheVariants.{And, Or}
@@ -23,19 +23,20 @@ abbrev pub kleene_not : Option Bool → Option Bool
 kleene_not None = None
 kleene_not (Some b) = Some (not b)
 
--- the table of And or Or; no other operator has one
+-- the table of And or Or; other operators have none
 abbrev pub kleene : Operator → Option Bool → Option Bool → Option Bool
 kleene And a b = kleene_and a b
 kleene Or a b = kleene_or a b
 kleene o a b = None
 
 -- false decides And, and true decides Or, whatever the other operand; no other operator is decided
+-- by one operand
 abbrev pub decides : Operator → Bool → Bool
 decides And b = not b
 decides Or b = b
 decides op b = false
 
--- nothing only where null is allowed
+-- null only where null is allowed
 abbrev pub Allows : Bool → Option Bool → Type 0
 Allows n None = IsTrue n
 Allows n (Some b) = Unit {0}

@@ -1,5 +1,4 @@
--- What an operator says of two values: And, Or and Not by Kleene's tables, comparisons by the order
--- of values.
+-- Operators on two values: And, Or and Not by Kleene's tables, comparisons by the order of values.
 use Rattle.std.specs.Prelude.{◌||◌, Bool, Option, Some, None, if◌then◌else◌}
 use Rattle.std.specs.declared.cmp.Ordering.{Ordering}
 use Rattle.std.specs.Ordering.{is_eq, is_ne, is_lt, is_le, is_gt, is_ge}
@@ -19,7 +18,7 @@ boolean_value op v w = truth_or_null (kleene op (truth_of v) (truth_of w))
 abbrev pub not_value : Value → Value
 not_value v = truth_or_null (kleene_not (truth_of v))
 
--- which orders of left and right the comparison says yes to
+-- the orders of left and right for which the comparison is true
 abbrev pub holds : CompareOperator → Ordering → Bool
 holds Eq = is_eq
 holds NotEq = is_ne
@@ -28,7 +27,7 @@ holds Gte = is_ge
 holds Lt = is_lt
 holds Lte = is_le
 
--- null exactly where a top value is null; a null within a value is a value as others are
+-- null exactly where a top value is null; a null within a value is an ordinary value
 abbrev pub comparison_value : CompareOperator → Value → Value → Value
 comparison_value op v w =
     if is_null v || is_null w then null else truth (holds op (compare_values v w))

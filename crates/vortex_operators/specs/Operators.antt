@@ -1,4 +1,4 @@
--- The operators' table: texts, inverses, operands swapped.
+-- The operators' table: texts, inverses, swaps.
 use Rattle.std.specs.Prelude.{◌≡◌, ℕ, List, [], ◌∷◌, Bool, true, false, Option, Some, None}
 use Rattle.std.specs.Prelude.{find}
 use Rattle.std.specs.Str.{bytes_eq}
@@ -15,7 +15,7 @@ use Rattle.vortex_operators.specs.declared.operators.Operator.TheVariants.{Mul, 
 use Rattle.vortex_operators.specs.declared.operators.CompareOperator.{CompareOperator}
 use Rattle.vortex_operators.specs.declared.operators.CompareOperator.TheVariants as compare
 
--- the operator by its text, as refusals carry it
+-- the operator by its text, as errors carry it
 abbrev pub as_text : Operator → OperatorText
 as_text Eq = text.Eq
 as_text NotEq = text.NotEq
@@ -38,7 +38,7 @@ abbrev pub all_operators : List Operator
 all_operators =
     Eq ∷ NotEq ∷ Gt ∷ Gte ∷ Lt ∷ Lte ∷ And ∷ Or ∷ Add ∷ Sub ∷ Mul ∷ Div ∷ []
 
--- the operator of a text
+-- the operator with a text
 abbrev pub operator_named : List ℕ → Option Operator
 operator_named text = find (λ operator. bytes_eq (text_of operator) text) all_operators
 
@@ -69,7 +69,7 @@ compare_inverse compare.Gte = compare.Lt
 compare_inverse compare.Lt = compare.Gte
 compare_inverse compare.Lte = compare.Gt
 
--- the comparison of the operands the other way round
+-- the comparison with its operands swapped
 abbrev pub compare_swap : CompareOperator → CompareOperator
 compare_swap compare.Eq = compare.Eq
 compare_swap compare.NotEq = compare.NotEq
@@ -119,7 +119,7 @@ is_boolean And = true
 is_boolean Or = true
 is_boolean o = false
 
--- the refusal of an operator that is neither And nor Or, and of one that is no comparison, by its
+-- the errors for an operator that is neither And nor Or, and for one that is no comparison, by its
 -- text
 abbrev pub IsNotBoolean : Operator → VortexError → Type 0
 IsNotBoolean o (NotBooleanOperator s) = operator_text s ≡ text_of o

@@ -1,5 +1,4 @@
--- The bytes that the options of Binary and Between are written as, and what byte strings are read
--- as.
+-- The bytes of the options of Binary and Between, and what byte strings are read as.
 use Rattle.std.specs.Prelude.{ℕ, List, [], ◌∷◌, Option}
 use Rattle.vortex_errors.specs.OptionBytes.{read_among, two_bits}
 use Rattle.vortex_operators.specs.declared.operators.Operator.{Operator}
@@ -10,7 +9,7 @@ use Rattle.vortex_operators.specs.Operators.{all_operators}
 use Rattle.vortex_operators.specs.Places.{place_of}
 use Rattle.vortex_operators.specs.Between.{is_strict}
 
--- one byte: the operator's place in the table
+-- one byte: the operator's index in the table
 abbrev pub operator_bytes : Operator → List ℕ
 operator_bytes operator = place_of operator ∷ []
 

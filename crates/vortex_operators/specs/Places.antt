@@ -1,4 +1,4 @@
--- The place of an operator in the table: comparisons, then And and Or, then arithmetic.
+-- The index of an operator in the table: comparisons, then And and Or, then arithmetic.
 use Rattle.std.specs.Prelude.{ℕ}
 use Rattle.vortex_operators.specs.declared.operators.Operator.{Operator}
 use Rattle.vortex_operators.specs.declared.operators.Operator.TheVariants.{Eq, NotEq, Gt, Gte, Lt}

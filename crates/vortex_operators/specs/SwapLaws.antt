@@ -1,4 +1,4 @@
--- An operator, and the one of its operands the other way round.
+-- An operator, and its swap.
 use Rattle.std.specs.Prelude.{◌≡◌, ℤ, Bool, true, false, Option, Some, None, refl}
 use Rattle.std.proofs.Common.{ap, sym, subst}
 use Rattle.std.proofs.Math.IntN.{+ℤ_comm, *ℤ_comm}
@@ -20,13 +20,13 @@ use Rattle.vortex_operators.specs.Kleene.{kleene_and, kleene_or}
 use Rattle.vortex_operators.specs.OperatorValues.{operator_value}
 use Rattle.vortex_operators.specs.ComparisonLaws.{are_swapped}
 
--- the exact result of an operator of arithmetic, and none of another operator
+-- the exact result of an operator of arithmetic; none for others
 abbrev pub result_by : Option NumericOperator → PType → Value → Value → Option Value
 result_by None p v w = None
 result_by (Some o) p v w = arithmetic_value o p v w
 
--- a op b is b swapped a, for all values, nulls among them: of And, Or and the comparisons one
--- value, of arithmetic one exact result in every type, or none on both sides
+-- a op b is b swapped a, for all values, nulls included: the same value for And, Or and the
+-- comparisons; for arithmetic the same exact result in every type, or none on both sides
 pub record AreTurned (op swapped : Operator) : Type 0 where
   pub values : (v w : Value) → operator_value op v w ≡ operator_value swapped w v
   pub results : (p : PType) (v w : Value)

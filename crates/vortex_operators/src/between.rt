@@ -1,10 +1,10 @@
-//! How strictly each bound is meant where a value is to lie between two.
+//! Strictness of the bounds of BETWEEN.
 ghost use Rattle.std.specs.Prelude.{◌≡◌};
 
 use crate::operators::{CompareOperator, Operator};
 use std::fmt;
 
-/// Whether a bound itself is left out.
+/// Whether a bound excludes the bound itself.
 #[derive(Clone, Copy, Debug, PartialEq, Eq, Hash)]
 pub enum StrictComparison {
     /// `<`
@@ -17,7 +17,7 @@ impl StrictComparison {
     ghost use Rattle.vortex_operators.specs.Operators.{operator_of};
     ghost use Rattle.vortex_operators.specs.Between.{bound_operator, is_strict};
 
-    /// The comparison: Lt where it is strict, else Lte.
+    /// The comparison: Lt if strict, else Lte.
     pub fn to_compare_operator(&self) -> CompareOperator
         ensures { result ≡ bound_operator self.now }
     {
@@ -48,14 +48,14 @@ impl StrictComparison {
     }
 }
 
-/// How strictly the lower and the upper bound are meant: `lower op x and x op upper`.
+/// The strictness of the lower and the upper bound: `lower op x and x op upper`.
 #[derive(Clone, Debug, PartialEq, Eq, Hash, Drop)]
 pub struct BetweenOptions {
     pub lower_strict: StrictComparison,
     pub upper_strict: StrictComparison,
 }
 
-/// `lower_strict: <, upper_strict: <=`, each as chosen.
+/// `lower_strict: <, upper_strict: <=`, as chosen.
 impl fmt::Display for BetweenOptions {
     ghost use Rattle.std.specs.Prelude.{Some};
     ghost use Rattle.vortex_operators.specs.Between.{between_options_text};

@@ -60,7 +60,7 @@ impl Operator {
     ghost use Rattle.std.specs.Prelude.{is_some};
     ghost use Rattle.vortex_operators.specs.SwapLaws.{AreTurned};
 
-    /// The operator by its text, as refusals carry it.
+    /// The operator by its text, as errors carry it.
     pub fn as_text(&self) -> OperatorText
         ensures { result ≡ as_text self.now }
     {
@@ -87,7 +87,7 @@ impl Operator {
         self.as_text().as_str()
     }
 
-    /// The operator of a text.
+    /// The operator with a text.
     pub fn from_text(text: &str) -> Option<Operator>
         ensures { result ≡ operator_named text.now }
     {
@@ -122,8 +122,8 @@ impl Operator {
         }
     }
 
-    /// The operator of the operands the other way round, where there is one: `a op b` is `b swap a`
-    /// for all values.
+    /// The operator with its operands swapped, if there is one: `a op b` is `b swap a` for all
+    /// values.
     pub fn swap(&self) -> Option<Operator>
         ensures table { result ≡ swap_of self.now }
         ensures turns { IfSome result (AreTurned self.now) }
@@ -168,8 +168,8 @@ impl Operator {
         }
     }
 
-    /// Whether that truth value of one operand is the answer, whatever the other operand: false is
-    /// And's, and true Or's.
+    /// Whether this truth value of one operand decides the result, whatever the other operand:
+    /// false decides And, true decides Or.
     pub fn is_decided_by(&self, value: bool) -> bool
         ensures { result ≡ decides self.now value }
     {
@@ -187,7 +187,7 @@ impl Operator {
         self.to_compare_operator().is_some()
     }
 
-    /// The comparison, of an operator that is one; it undoes `Operator::from`.
+    /// The comparison, if the operator is one; the inverse of `Operator::from`.
     pub fn to_compare_operator(&self) -> Option<CompareOperator>
         ensures table { result ≡ compare_operator_of self.now }
         ensures undone { IfSome result (λ compare. operator_of compare ≡ self.now) }
@@ -203,7 +203,7 @@ impl Operator {
         }
     }
 
-    /// The operator of arithmetic, of an operator that is one.
+    /// The operator of arithmetic, if the operator is one.
     pub fn to_numeric_operator(&self) -> Option<NumericOperator>
         ensures { result ≡ numeric_operator_of self.now }
     {
@@ -233,7 +233,7 @@ impl CompareOperator {
     ghost use Rattle.vortex_operators.specs.ComparisonLaws.{AreInverse, AreSwapped};
 
     /// The comparison that holds where this one does not: `not (a op b)` is `a inverse b` for all
-    /// values, nulls among them. It undoes itself.
+    /// values, nulls included. Its own inverse.
     pub fn inverse(&self) -> CompareOperator
         ensures table { result ≡ compare_inverse self.now }
         ensures undone { compare_inverse result ≡ self.now }
@@ -249,8 +249,8 @@ impl CompareOperator {
         }
     }
 
-    /// The comparison of the operands the other way round: `a op b` is `b swap a` for all values.
-    /// It undoes itself.
+    /// The comparison with its operands swapped: `a op b` is `b swap a` for all values. Its own
+    /// inverse.
     pub fn swap(&self) -> CompareOperator
         ensures table { result ≡ compare_swap self.now }
         ensures undone { compare_swap result ≡ self.now }
@@ -266,7 +266,7 @@ impl CompareOperator {
         }
     }
 
-    /// Whether the comparison says yes to that order of left and right.
+    /// Whether the comparison is true for that order of left and right.
     pub fn holds(&self, order: Ordering) -> bool
         ensures { result ≡ holds self.now order }
     {

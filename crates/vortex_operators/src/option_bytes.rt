@@ -1,4 +1,4 @@
-//! The byte that options are written as and from which they are read; no other byte string is read.
+//! The byte that options are written as and read from. No other byte string is read.
 ghost use Rattle.std.specs.Prelude.{◌≡◌, [], ◌∷◌};
 ghost use Rattle.vortex_operators.specs.OptionBytes.{operator_bytes, operator_read};
 ghost use Rattle.vortex_operators.specs.OptionBytes.{between_bytes, between_read};
@@ -7,7 +7,7 @@ use crate::between::{BetweenOptions, StrictComparison};
 use crate::operators::Operator;
 
 impl Operator {
-    /// The byte that it is written as: its place in the table, 0 for Eq to 11 for Div.
+    /// The byte of the operator: its index in the table, 0 for Eq to 11 for Div.
     pub fn to_byte(&self) -> u8
         ensures { operator_bytes self.now ≡ result ∷ [] }
     {
@@ -27,7 +27,7 @@ impl Operator {
         }
     }
 
-    /// The operator that is written as these bytes, where there is one.
+    /// The operator with these bytes, if there is one.
     pub fn from_bytes(bytes: &[u8]) -> Option<Operator>
         ensures { result ≡ operator_read bytes.now }
     {
@@ -50,8 +50,7 @@ impl Operator {
 }
 
 impl BetweenOptions {
-    /// The byte that they are written as: bit 0 where the lower bound is strict, bit 1 where the
-    /// upper is.
+    /// The byte of the options: bit 0 where the lower bound is strict, bit 1 where the upper is.
     pub fn to_byte(&self) -> u8
         ensures { between_bytes self.now ≡ result ∷ [] }
     {
@@ -60,7 +59,7 @@ impl BetweenOptions {
         lower + upper
     }
 
-    /// The options that are written as these bytes, where there are some.
+    /// The options with these bytes, if there are any.
     pub fn from_bytes(bytes: &[u8]) -> Option<BetweenOptions>
         ensures { result ≡ between_read bytes.now }
     {

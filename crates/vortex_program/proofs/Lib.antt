@@ -1,9 +1,14 @@
+pub mod Agreeing
 pub mod Answered
+pub mod BitRuns
+pub mod Decided
 pub mod Faulty
+pub mod Faultless
 pub mod Keeping
 pub mod NamedTrees
 pub mod Flattened
 pub mod Optimized
 pub mod Parsing
+pub mod ReadColumns
 pub mod SomeRows
 pub mod TakenRows

@@ -13,7 +13,7 @@ use Rattle.vortex_interface.specs.Execution.{Executes, RefusesColumns, RefusesEx
 use Rattle.vortex_functions.specs.Executing.{Fits}
 use Rattle.vortex_functions.specs.Walks.{AllMean}
 
--- a tree faults in row i, which the refusal tells
+-- a tree faults in row i, with that error
 pub record FaultsAt {V O : Type 0} (m : Meaning V O) (cs : List ColumnView) (i : ℕ) (t : Tree V O)
     (e : VortexError) : Type 0 where
   pub fault : Fault

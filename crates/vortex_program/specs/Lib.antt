@@ -1,7 +1,9 @@
+pub mod Deciding
 pub mod Executing
 pub mod Names
 pub mod Naming
 pub mod Programs
+pub mod Reads
 pub mod Rows
 pub mod Running
 pub mod Texts

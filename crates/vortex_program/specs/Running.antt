@@ -8,12 +8,14 @@ use Rattle.vortex_interface.specs.Execution.{LeavesFit, other_length}
 use Rattle.vortex_interface.specs.Running.{KeepsRows}
 use Rattle.vortex_functions.specs.Walks.{AllMean}
 use Rattle.vortex_expressions.specs.Items.{Tree, meaning}
+use Rattle.vortex_interface.specs.Rewrites.{Rewrites}
 use Rattle.vortex_program.specs.Executing.{AllGive, FaultsAt, RefusesColumnsFirst}
+use Rattle.vortex_program.specs.Reads.{Agree}
 use Rattle.vortex_program.specs.declared.running.RunError.{RunError}
 use Rattle.vortex_program.specs.declared.running.RunError.TheVariants as run
 
 module _ (cs : List ColumnView) (n : ℕ) where
-  -- the column has the type of the tree, so many rows, and the tree's value in each row in which the
+  -- the column has the type of the tree, n rows, and the tree's value in each row in which the
   -- tree has one
   pub record AnswersTree (t : Tree) (c : ColumnView) : Type 0 where
     pub fit : LeavesFit cs t
@@ -54,3 +56,14 @@ RefusesTrees cs n written optimized (run.Fault row k e) = FaultsFirstThere cs n 
 RefusesTrees cs n written optimized (run.Refused e) =
     UnlessMemory (RefusesColumnsFirst cs n written) e
 RefusesTrees cs n written optimized run.OutOfMemory = ⊤
+
+-- what trees return over columns they return over those that agree with them where trees as written
+-- read them, and they fail so
+abbrev pub UnreadColumnsChangeNothing : Type 0
+UnreadColumnsChangeNothing =
+    (n : ℕ) (written optimized : List Tree) (cs ds : List ColumnView)
+    → AllMean (Rewrites meaning) written optimized → Agree n written cs ds
+    → ((answers : List ColumnView) → AnswersTrees ds n written answers
+    → AnswersTrees cs n written answers)
+    × ((e : RunError) → RefusesTrees ds n written optimized e
+    → RefusesTrees cs n written optimized e)

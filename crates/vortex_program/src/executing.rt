@@ -4,6 +4,7 @@ ghost use Rattle.vortex_program.specs.Programs.{trees_of};
 ghost use Rattle.vortex_program.specs.Executing.{AnswersAll};
 
 use crate::answer::Answer;
+use crate::deciding::execute_deciding;
 use std::alloc::Global;
 use vortex_columns::{Column, ExecutionCtx, VortexResult};
 
@@ -35,8 +36,8 @@ pub(crate) fn execute_all(
 {
     let mut executed = Vec::new(alloc);
     for answer in answers {
-        let column = answer.tree.execute(columns, row_count, ctx)?;
-        executed.push(column.into_owned()?)?;
+        let column = execute_deciding(&answer.tree, columns, row_count, ctx)?;
+        executed.push(column)?;
     }
     Ok(executed)
 }

@@ -8,13 +8,14 @@ ghost use Rattle.vortex_interface.specs.Execution.{other_length};
 ghost use Rattle.vortex_functions.specs.Fixed.{fixed_meaning};
 ghost use Rattle.vortex_rewriting.specs.Keeping.{RewritesKeepRows};
 ghost use Rattle.vortex_program.specs.Programs.{trees_of};
+ghost use Rattle.vortex_program.specs.Reads.{AreRead};
 ghost use Rattle.vortex_program.specs.Executing.{AllFit, AllGive, AllGiveWithin};
 ghost use Rattle.vortex_program.specs.Executing.{AnswersFirstFault, RefusesColumnsFirst};
 ghost use Rattle.vortex_program.specs.Executing.{IsSuspect};
 ghost use Rattle.vortex_program.specs.Running.{FaultsThere, FaultsFirstThere};
 
 use crate::answer::Answer;
-use crate::executing::execute_all;
+use crate::reads::columns_read;
 use crate::rows::{NUMBERED, rows_of};
 use std::alloc::Global;
 use vortex_columns::{Column, ExecutionCtx, VortexError, VortexResult};
@@ -65,18 +66,20 @@ fn but_for_memory(error: VortexError) -> VortexResult<VortexError>
     }
 }
 
-/// Whether an answer faults in one of so many rows, from the first on. E9 where an allocation
+/// Whether an answer faults in one of `count` rows from the first on. E9 where an allocation
 /// fails.
 fn faults_within(
     alloc: Global,
     answers: &[Answer],
     columns: &[Column],
+    read: &[bool],
     row_count: usize,
     first: usize,
     count: usize,
 ) -> VortexResult<bool>
     requires numbered { (count ≡ 1) ⊎ (first + count ≤ 2 ^ 32) }
     requires within { first + count ≤ row_count }
+    requires read { AreRead (trees_of answers.now) (length columns.now) read.now }
     requires even { other_length row_count columns.now ≡ None }
     requires bound { All IsBound (trees_of answers.now) }
     requires fit { AllFit columns.now row_count (trees_of answers.now) }
@@ -87,14 +90,17 @@ fn faults_within(
         (trees_of answers.now)) }
 {
     let mut ctx = ExecutionCtx::new(alloc);
-    let taken = rows_of(alloc, columns, first, count, &mut ctx)?;
-    match execute_all(alloc, answers, &taken, count, &mut ctx) {
-        Ok(_) => Ok(false),
-        Err(error) => {
-            but_for_memory(error)?;
-            Ok(true)
+    let taken = rows_of(alloc, columns, read, first, count, &mut ctx)?;
+    for answer in answers {
+        match answer.tree.execute_fitting(&taken, count, &mut ctx) {
+            Ok(_) => {}
+            Err(error) => {
+                but_for_memory(error)?;
+                return Ok(true);
+            }
         }
     }
+    Ok(false)
 }
 
 /// The first answer that faults in that row, and its fault; none where none does. E9 where an
@@ -103,10 +109,12 @@ fn faulty_answer(
     alloc: Global,
     answers: &[Answer],
     columns: &[Column],
+    read: &[bool],
     row_count: usize,
     row: usize,
 ) -> VortexResult<Option<(usize, VortexError)>>
     requires within { row < row_count }
+    requires read { AreRead (trees_of answers.now) (length columns.now) read.now }
     requires even { other_length row_count columns.now ≡ None }
     requires fit { AllFit columns.now row_count (trees_of answers.now) }
     ensures { AnswersUnlessMemory result (λ found. MatchOption found
@@ -114,10 +122,10 @@ fn faulty_answer(
         (λ p. FaultsThere columns.now row (trees_of answers.now) p.0 p.1)) }
 {
     let mut ctx = ExecutionCtx::new(alloc);
-    let taken = rows_of(alloc, columns, row, 1, &mut ctx)?;
+    let taken = rows_of(alloc, columns, read, row, 1, &mut ctx)?;
     for (k, answer) in answers.iter().enumerate() {
         let _typed = answer.tree.dtype();
-        match answer.tree.execute(&taken, 1, &mut ctx) {
+        match answer.tree.execute_fitting(&taken, 1, &mut ctx) {
             Ok(_) => {}
             Err(error) => return Ok(Some((k, but_for_memory(error)?))),
         }
@@ -125,7 +133,7 @@ fn faulty_answer(
     Ok(None)
 }
 
-/// A row between the two: so many rows after the first, or half the way where that is less.
+/// A row between the two: `count` rows after the first, or half the way where that is less.
 fn row_between(from: usize, to: usize, count: usize) -> usize
     requires { from + 1 < to }
     ensures after { from < result }
@@ -150,9 +158,11 @@ fn suspect_row(
     alloc: Global,
     answers: &[Answer],
     columns: &[Column],
+    read: &[bool],
     row_count: usize,
 ) -> VortexResult<usize>
     requires some { 0 < row_count }
+    requires read { AreRead (trees_of answers.now) (length columns.now) read.now }
     requires even { other_length row_count columns.now ≡ None }
     requires bound { All IsBound (trees_of answers.now) }
     requires fit { AllFit columns.now row_count (trees_of answers.now) }
@@ -164,7 +174,7 @@ fn suspect_row(
     let mut count = FIRST_PART;
     'parts: while to - from > 1 {
         let end = row_between(from, to, count);
-        if faults_within(alloc, answers, columns, row_count, from, end - from)? {
+        if faults_within(alloc, answers, columns, read, row_count, from, end - from)? {
             to = end;
         } else {
             from = end;
@@ -192,8 +202,9 @@ pub(crate) fn first_row_fault(
     if row_count == 0 || answers.is_empty() {
         return Ok(None);
     }
-    let row = suspect_row(alloc, answers, columns, row_count)?;
-    match faulty_answer(alloc, answers, columns, row_count, row)? {
+    let read = columns_read(alloc, answers, columns.len())?;
+    let row = suspect_row(alloc, answers, columns, &read, row_count)?;
+    match faulty_answer(alloc, answers, columns, &read, row_count, row)? {
         Some((answer, error)) => Ok(Some(RowFault { row, answer, error })),
         None => Ok(None),
     }

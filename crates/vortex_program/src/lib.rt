@@ -2,15 +2,19 @@
 #![tactic(auto)]
 
 pub mod answer;
+mod deciding;
 pub mod executing;
 pub mod faults;
 pub mod form;
+mod infallible;
 mod names;
 mod naming;
 pub mod parsed;
 pub mod program;
+pub mod reads;
 mod rows;
 pub mod running;
+mod truths;
 
 pub use answer::Answer;
 pub use executing::execute_answers;
@@ -18,4 +22,5 @@ pub use faults::first_fault;
 pub use form::Form;
 pub use parsed::{Parsed, parse_answers, parse_condition};
 pub use program::Program;
+pub use reads::{columns_read, unread_columns_change_nothing};
 pub use running::RunError;

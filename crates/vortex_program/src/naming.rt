@@ -41,7 +41,7 @@ fn name_of(
     }
 }
 
-/// An answer with its name: the one behind its `as`, else that of the field which it is, else its
+/// An answer with its name: the one after its `as`, else that of the field which it is, else its
 /// text. E9 where memory is refused.
 fn named(
     alloc: Global,

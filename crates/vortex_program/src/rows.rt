@@ -1,9 +1,8 @@
 //! Some rows of columns.
-ghost use Rattle.std.specs.Prelude.{◌≡◌, ◌+◌, ◌^◌, ◌<◌, ◌≤◌, ◌⊎◌, All, length, map};
+ghost use Rattle.std.specs.Prelude.{◌≡◌, ◌+◌, ◌^◌, ◌≤◌, ◌⊎◌, All, length};
 ghost use Rattle.std.specs.List.{range_with_len};
 ghost use Rattle.vortex_errors.specs.Answers.{AnswersUnlessMemory};
-ghost use Rattle.vortex_columns.specs.Taken.{AreRowsOf};
-ghost use Rattle.vortex_program.specs.Rows.{AreTaken, HaveRows, row_column};
+ghost use Rattle.vortex_program.specs.Rows.{HasRows, HaveRows, IsMarked, IsPart};
 
 use std::alloc::Global;
 use vortex_columns::{Column, ExecutionCtx, VortexResult};
@@ -11,7 +10,7 @@ use vortex_columns::{Column, ExecutionCtx, VortexResult};
 /// How many rows have numbers by which they are taken.
 pub(crate) const NUMBERED: usize = 1 << 32;
 
-/// The numbers of so many rows from the first on.
+/// The numbers of `count` rows from the first on.
 fn row_numbers(alloc: Global, first: usize, count: usize) -> VortexResult<Vec<u32>>
     requires { first + count ≤ 2 ^ 32 }
     ensures { AnswersUnlessMemory result (λ numbers. numbers.items ≡ range_with_len first count) }
@@ -23,53 +22,79 @@ fn row_numbers(alloc: Global, first: usize, count: usize) -> VortexResult<Vec<u3
     Ok(numbers)
 }
 
-/// The rows of these numbers, of each column.
-fn taken_rows(
+/// The numbers of `count` rows from the first on, of which a single row needs none.
+fn taken_numbers(alloc: Global, first: usize, count: usize) -> VortexResult<Vec<u32>>
+    requires { (count ≡ 1) ⊎ (first + count ≤ 2 ^ 32) }
+    ensures { AnswersUnlessMemory result
+        (λ numbers. (count ≡ 1) ⊎ (numbers.items ≡ range_with_len first count)) }
+{
+    if count == 1 {
+        return Ok(Vec::new(alloc));
+    }
+    row_numbers(alloc, first, count)
+}
+
+/// So many rows of a column, from the first on, which have these numbers; a single row as a
+/// constant.
+fn column_rows(
     alloc: Global,
-    columns: &[Column],
+    column: &Column,
+    first: usize,
+    count: usize,
     numbers: &[u32],
     ctx: &mut ExecutionCtx,
-) -> VortexResult<Vec<Column>>
-    requires { All (λ c. AreRowsOf c numbers.now) columns.now }
-    ensures { AnswersUnlessMemory result (λ taken. AreTaken numbers.now columns.now taken.items) }
+) -> VortexResult<Column>
+    requires numbered { (count ≡ 1) ⊎ (numbers.now ≡ range_with_len first count) }
+    requires within { first + count ≤ length column.now.rows }
+    ensures { AnswersUnlessMemory result (HasRows first count column.now) }
 {
-    let mut taken = Vec::new(alloc);
-    for column in columns {
-        taken.push(column.take(numbers, ctx)?)?;
+    if count == 1 {
+        let scalar = column.scalar_at(alloc, first)?;
+        return Column::constant(alloc, scalar, 1);
     }
-    Ok(taken)
+    column.take(numbers, ctx)
 }
 
-/// One row of each column, as a constant.
-fn one_row(alloc: Global, columns: &[Column], row: usize) -> VortexResult<Vec<Column>>
-    requires { All (λ c. row < length c.rows) columns.now }
-    ensures { AnswersUnlessMemory result
-        (λ taken. taken.items ≡ map (row_column row) columns.now) }
+/// The same where the column is read; of any other as many nulls.
+fn column_part(
+    alloc: Global,
+    column: &Column,
+    read: bool,
+    first: usize,
+    count: usize,
+    numbers: &[u32],
+    ctx: &mut ExecutionCtx,
+) -> VortexResult<Column>
+    requires numbered { (count ≡ 1) ⊎ (numbers.now ≡ range_with_len first count) }
+    requires within { first + count ≤ length column.now.rows }
+    ensures { AnswersUnlessMemory result (IsPart read first count column.now) }
 {
-    let mut taken = Vec::new(alloc);
-    for column in columns {
-        let scalar = column.scalar_at(alloc, row)?;
-        taken.push(Column::constant(alloc, scalar, 1)?)?;
+    if read {
+        return column_rows(alloc, column, first, count, numbers, ctx);
     }
-    Ok(taken)
+    Ok(Column::null(count))
 }
 
-/// So many rows of each column, from the first on. E9 where an allocation fails.
+/// So many rows, from the first on, of each column that is read; in the place of each other as many
+/// nulls. E9 where an allocation fails.
 pub(crate) fn rows_of(
     alloc: Global,
     columns: &[Column],
+    read: &[bool],
     first: usize,
     count: usize,
     ctx: &mut ExecutionCtx,
 ) -> VortexResult<Vec<Column>>
     requires numbered { (count ≡ 1) ⊎ (first + count ≤ 2 ^ 32) }
+    requires read { length read.now ≡ length columns.now }
     requires within { All (λ c. first + count ≤ length c.rows) columns.now }
     ensures { AnswersUnlessMemory result
-        (λ taken. HaveRows first count columns.now taken.items) }
+        (λ taken. HaveRows (IsMarked read.now columns.now) first count columns.now taken.items) }
 {
-    if count == 1 {
-        return one_row(alloc, columns, first);
+    let numbers = taken_numbers(alloc, first, count)?;
+    let mut taken = Vec::new(alloc);
+    for (k, column) in columns.iter().enumerate() {
+        taken.push(column_part(alloc, column, read[k], first, count, &numbers, ctx)?)?;
     }
-    let numbers = row_numbers(alloc, first, count)?;
-    taken_rows(alloc, columns, &numbers, ctx)
+    Ok(taken)
 }

@@ -1,7 +1,10 @@
 //! A program run over a batch of columns.
 ghost use Rattle.std.specs.Prelude.{MatchResult};
 ghost use Rattle.vortex_interface.specs.Bound.{IsBound};
-ghost use Rattle.std.specs.Prelude.{All};
+ghost use Rattle.std.specs.Prelude.{All, IfOk};
+ghost use Rattle.vortex_functions.specs.Fixed.{fixed_meaning};
+ghost use Rattle.vortex_functions.specs.Walks.{AllMean};
+ghost use Rattle.vortex_interface.specs.Execution.{Executes};
 ghost use Rattle.vortex_program.specs.Executing.{AllFit};
 ghost use Rattle.vortex_program.specs.Programs.{trees_of, AreRewrites};
 ghost use Rattle.vortex_program.specs.Running.{AnswersTrees, IsFault, RefusesTrees};
@@ -48,7 +51,7 @@ fn fault_of(alloc: Global, answers: &[Answer], columns: &[Column], rows: usize) 
 }
 
 impl Program {
-    /// What the program answers over columns of so many rows: a column for each answer, which has
+    /// What the program returns over columns of `rows` rows: a column for each answer, which has
     /// its value in each row in which it has one. So says each program that is made by `of`: the
     /// trees that run are rewrites of those that were written.
     ///
@@ -68,6 +71,27 @@ impl Program {
             answers.items)
             (RefusesTrees columns.now rows (trees_of self.now.written.items)
             (trees_of self.now.optimized.items)) }
+    {
+        self.run_rows(alloc, columns, rows)
+    }
+
+    /// The same, which says too what runs: where there are answers, they are the rows of the trees
+    /// that run, of which none faults.
+    pub fn run_rows(
+        &self,
+        alloc: Global,
+        columns: &[Column],
+        rows: usize,
+    ) -> Result<Vec<Column>, RunError>
+        ensures answer { AreRewrites self.now.written.items self.now.optimized.items
+            → MatchResult result
+            (λ answers. AnswersTrees columns.now rows (trees_of self.now.written.items)
+            answers.items)
+            (RefusesTrees columns.now rows (trees_of self.now.written.items)
+            (trees_of self.now.optimized.items)) }
+        ensures executed { IfOk result (λ answers. AllMean
+            (Executes fixed_meaning columns.now rows) (trees_of self.now.optimized.items)
+            answers.items) }
     {
         if let Err(error) = check_answers(alloc, &self.written, columns, rows) {
             return Err(RunError::Refused(error));

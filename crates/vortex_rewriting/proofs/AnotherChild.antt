@@ -1,4 +1,4 @@
--- Children with another one among them.
+-- Children with one of them replaced.
 use Rattle.std.proofs.Common.{◌≡◌, ◌<◌, ℕ, zero, suc, List, [], ◌∷◌, Some, refl, ap, length, arith}
 use Rattle.std.specs.Prelude.{slice_get, slice_set}
 use Rattle.vortex_interface.specs.Meaning.{Meaning}
@@ -6,7 +6,7 @@ use Rattle.vortex_interface.specs.Trees.{Tree, trees_of}
 use Rattle.vortex_interface.specs.Eval.{tree_type, tree_types, with_type}
 
 module _ {V O : Type 0} where
-  -- another child of the old one's type keeps the types
+  -- replacing a child by one of its type keeps the types
   pub other_types : (m : Meaning V O) (ts : List (Tree V O)) (k : ℕ) (u : Tree V O)
       → k < length ts → ((x : Tree V O) → slice_get ts k ≡ Some x → tree_type m u ≡ tree_type m x)
       → tree_types m (trees_of (slice_set ts k u)) ≡ tree_types m (trees_of ts)

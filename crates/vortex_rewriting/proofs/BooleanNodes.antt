@@ -1,4 +1,4 @@
--- A well-typed node of And or Or: its two operands, and what Reduce makes of it.
+-- A well-typed node of And or Or: its two operands, and the result of Reduce.
 use Rattle.std.proofs.Common.{◌≡◌, Bool, true, length, Option, Some, refl, sym, ap, ◌∙◌, arith}
 use Rattle.std.specs.Prelude.{slice_get, Result}
 use borrow.Author.Tests.{eqb-true}
@@ -47,7 +47,7 @@ module _ {V O : Type 0} (m : Meaning V O) where
       λ j. call (function j) (tree (left j) (tree (right j) no_trees))
   operated_by (call f (tree a (tree b (tree d ts)))) op x y c n h k = absurd (omega arith)
 
-  -- the node, by its operands
+  -- the node, from its operands
   pub is_operated : (t : Tree V O) (op : Operator) (x y : Tree V O) (k : LogicalType)
       → called t ≡ Some (ours (Binary op)) → tree_type m t ≡ Some k
       → slice_get (children_of t) 0 ≡ Some x → slice_get (children_of t) 1 ≡ Some y
@@ -76,7 +76,7 @@ module _ {V O : Type 0} (m : Meaning V O) where
   table r Or x y b = refl
   table r op x y b = cc
 
-  -- what Reduce makes of the node, by the constants among its operands
+  -- the result of Reduce for the node, from the constants among its operands
   pub reduced : {N B : Type 0} (seen : N → InContext V O B) (s l : InContext V O B) {x y : Tree V O}
       {op : Operator} {k : LogicalType} {n : Bool} (answer : Result (Option N) VortexError)
       → l.context ≡ s.context → is_boolean op ≡ true → s.tree ≡ operated op x y

@@ -9,7 +9,7 @@ use Rattle.vortex_interface.specs.Eval.{tree_type, tree_types}
 use Rattle.vortex_interface.proofs.TypedCalls.{types_parts, typed_call}
 
 module _ {V O : Type 0} (m : Meaning V O) where
-  -- each tree of a typed row has a type
+  -- each tree of a typed list has a type
   as_many : (ts : Trees V O) (ks : List LogicalType) → tree_types m ts ≡ Some ks
       → length (list_of ts) ≡ length ks
   as_many no_trees ks h = let is : [] ≡ ks = cc in ap length is

@@ -1,4 +1,4 @@
--- The default validity of a call, by its children's types made non-nullable.
+-- The default validity of a call, from its children's types made non-nullable.
 use Rattle.std.proofs.Common.{◌≡◌, ℕ, zero, suc, ◌+◌, Bool, true, false, not, List, [], ◌∷◌, ◌++◌}
 use Rattle.std.proofs.Common.{length, map, take, Option, Some, None, refl, sym, ap, ◌∙◌, add-one}
 use Rattle.std.specs.Prelude.{slice_get, ◌||◌, if◌then◌else◌}
@@ -21,7 +21,7 @@ use Rattle.vortex_interface.specs.ValidityRules.{default_validity}
 use Rattle.vortex_functions.proofs.Bound.{type_count}
 use Rattle.vortex_rewriting.proofs.Calls.{children_fit}
 
--- a mark that is seen to hold
+-- a mark that is known to hold
 pub holds_where : (b c : Bool) → b ≡ c → not b ≡ false → c ≡ true
 holds_where true c e h = sym e
 holds_where false c e h = cc
@@ -91,7 +91,7 @@ module _ {V O : Type 0} (m : Meaning V O) where
       (p.1 ++ with_nullability k false ∷ []) p.2 (types_more xs p.1 i t k p.3 l e)
       ∙ ap (λ js. Some (js ++ with_nullability k false ∷ [])) p.4
 
-  -- the same of types as they are listed
+  -- the same for types as they are listed
   pub one_more_dtype : (ts : List (Tree V O)) (i : ℕ) (t : Tree V O) (k : LogicalType)
       (dtypes : List DType) (dtype : DType) (after : List DType)
       → option_map without_null (tree_types m (trees_of (take i ts))) ≡ Some (map type_of dtypes)
@@ -118,8 +118,8 @@ module _ {V O : Type 0} (m : Meaning V O) where
       let here = sym (length-map ds type_of) ∙ ap length (sym p.2) ∙ mapped ∙ many in
       ap (fits (function_arity m f)) here ∙ children_fit m t f k c h
 
-  -- the default validity of a call of a strict function, by its children's types, of which each
-  -- was made non-nullable
+  -- the default validity of a call of a strict function, from its children's types, each
+  -- made non-nullable
   module _ (f : Function V O) (ts : Trees V O) (ds : List DType)
       (strict : function_strict m f ≡ true)
       (typed : option_map without_null (tree_types m ts) ≡ Some (map type_of ds)) where

@@ -1,4 +1,4 @@
--- By which code goes down a tree, and up again.
+-- How code goes down a tree, and up again.
 use Rattle.std.proofs.Common.{◌≡◌, ℕ, List, [], ◌∷◌, ◌++◌, map}
 use Rattle.std.proofs.Common.{Option, Some, None, refl, sym, ap, ◌∙◌, subst}
 use Rattle.std.proofs.lemmas.List.{map-append}
@@ -12,37 +12,37 @@ use Rattle.vortex_interface.specs.Places.{with_child, rewritten}
 use Rattle.vortex_interface.proofs.DriverSteps.{child_at}
 use Rattle.vortex_interface.proofs.StepPlaces.{same_trees}
 use Rattle.vortex_interface.proofs.TypedCalls.{types_with}
-use Rattle.vortex_rewriting.specs.Ways.{IsWay, with_parents, LeadsOn}
+use Rattle.vortex_rewriting.specs.Parents.{IsPath, with_parents, LeadsOn}
 
 pub popped : {A B : Type 0} (f : A → B) (items rest : List A) (p : A) → items ≡ rest ++ p ∷ []
     → map f items ≡ map f rest ++ f p ∷ []
 popped f items rest p e = ap (map f) e ∙ map-append f rest (p ∷ [])
 
 module _ {V O : Type 0} where
-  pub way_push : (ps : List (Tree V O × ℕ)) (t x y : Tree V O) (k : ℕ) → IsWay ps t x
-      → slice_get (children_of x) k ≡ Some y → IsWay (ps ++ (x, k) ∷ []) t y
+  pub way_push : (ps : List (Tree V O × ℕ)) (t x y : Tree V O) (k : ℕ) → IsPath ps t x
+      → slice_get (children_of x) k ≡ Some y → IsPath (ps ++ (x, k) ∷ []) t y
   way_push [] t x y k h g = (h, y, g, refl)
   way_push (p ∷ ps) t x y k h g = (h.0, h.1, h.2, way_push ps h.1 x y k h.3 g)
 
   pub way_pop : (ps : List (Tree V O × ℕ)) (p : Tree V O × ℕ) (t x : Tree V O)
-      → IsWay (ps ++ p ∷ []) t x
-      → IsWay ps t p.0 × (slice_get (children_of p.0) p.1 ≡ Some x)
+      → IsPath (ps ++ p ∷ []) t x
+      → IsPath ps t p.0 × (slice_get (children_of p.0) p.1 ≡ Some x)
   way_pop [] p t x h = (h.0, h.2 ∙ ap Some h.3)
   way_pop (q ∷ ps) p t x h =
       let r = way_pop ps p h.1 x h.3 in ((h.0, h.1, h.2, r.0), r.1)
 
   pub way_above : {A : Type 0} (f : A → Tree V O × ℕ) (items rest : List A) (p : A)
-      (t x : Tree V O) → items ≡ rest ++ p ∷ [] → IsWay (map f items) t x
-      → IsWay (map f rest) t (f p).0 × (slice_get (children_of (f p).0) (f p).1 ≡ Some x)
+      (t x : Tree V O) → items ≡ rest ++ p ∷ [] → IsPath (map f items) t x
+      → IsPath (map f rest) t (f p).0 × (slice_get (children_of (f p).0) (f p).1 ≡ Some x)
   way_above f items rest p t x e h =
-      way_pop (map f rest) (f p) t x (subst (λ z. IsWay z t x) (popped f items rest p e) h)
+      way_pop (map f rest) (f p) t x (subst (λ z. IsPath z t x) (popped f items rest p e) h)
 
   pub with_last : (ps : List (Tree V O × ℕ)) (p : Tree V O × ℕ) (u : Tree V O)
       → with_parents (ps ++ p ∷ []) u ≡ with_parents ps (with_child p.0 p.1 u)
   with_last [] p u = refl
   with_last (q ∷ ps) p u = ap (with_child q.0 q.1) (with_last ps p u)
 
-  -- another child of the old one's type keeps the type
+  -- replacing a child by one of its type keeps the type
   pub with_child_typed : (m : Meaning V O) (t x u : Tree V O) (k : ℕ)
       → slice_get (children_of t) k ≡ Some x → tree_type m u ≡ tree_type m x
       → tree_type m (with_child t k u) ≡ tree_type m t

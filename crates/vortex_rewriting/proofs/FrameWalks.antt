@@ -1,4 +1,4 @@
--- How a walk below frames goes on, and how much of it is left.
+-- How a walk below frames continues, and how much of it is left.
 use Rattle.std.proofs.Common.{◌≡◌, ℕ, zero, suc, ◌+◌, ◌*◌, ◌<◌, ◌≤◌, List, [], ◌∷◌, ◌++◌, length}
 use Rattle.std.proofs.Common.{drop, Option, Some, None, refl, sym, ap, subst, ◌∙◌, arith}
 use Rattle.std.specs.Prelude.{slice_get, IsSome}
@@ -35,7 +35,7 @@ some_is None a e = cc
 some_is (Some x) a e = refl
 
 module _ {V O : Type 0} where
-  -- before any child is done a node is as it was
+  -- before any child is done a node is unchanged
   pub partly_none : (t : Tree V O) → partly t [] ≡ t
   partly_none (leaf l) = refl
   partly_none (constant s) = refl
@@ -46,7 +46,7 @@ module _ {V O : Type 0} where
   partly_empty t [] h = sym (partly_none t)
   partly_empty t (x ∷ xs) h = absurd (omega (arith, h))
 
-  -- the next child as it was is no change
+  -- an unchanged next child is no change
   pub partly_next : (t : Tree V O) (done : List (Tree V O)) (x : Tree V O)
       → slice_get (children_of t) (length done) ≡ Some x
       → partly t (done ++ x ∷ []) ≡ partly t done
@@ -54,7 +54,7 @@ module _ {V O : Type 0} where
       partly_more t done x
       ∙ ap (λ xs. with_children t (done ++ xs)) (sym (drop_at (children_of t) (length done) x e))
 
-  -- where all children are done none is left as it was
+  -- after all children none is unchanged
   pub partly_all : (t : Tree V O) (done : List (Tree V O))
       → length (children_of t) ≤ length done → partly t done ≡ with_children t done
   partly_all t done h =
@@ -90,7 +90,7 @@ module _ {V O : Type 0} where
     settled_children (constant s) done h = tt
     settled_children (call f ts) done h = subst (AreSettled rule) (sym (list_of-trees_of done)) h
 
-    -- the step of a node on settled children is what the rule makes of it
+    -- the step of a node whose children are in normal form is the rule's result for it
     pub step_when_done : (t : Tree V O) (done : List (Tree V O)) → AreSettled rule done
         → length (children_of t) ≤ length done → step rule (partly t done) ≡ rule (partly t done)
     step_when_done t done h le =
@@ -111,7 +111,7 @@ module _ {V O : Type 0} where
           (get_next before x after) in
           some_is (tree_type m x) typed.0 typed.1
 
-      -- what stands below frames in a well-typed tree is well typed
+      -- what is below frames in a well-typed tree is well typed
       pub below_typed : (fs : List (Tree V O × List (Tree V O))) (t : Tree V O)
           → AreFrames rule fs → IsSome (tree_type m (plug fs t)) → IsSome (tree_type m t)
       below_typed [] t h typed = typed

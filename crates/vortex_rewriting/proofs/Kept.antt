@@ -1,4 +1,4 @@
--- What a rule answers keeps the tree's type and its values.
+-- A rule's result keeps the tree's type and its values.
 use Rattle.std.proofs.Common.{◌≡◌, Option, Some, None, sym}
 use Rattle.std.specs.Prelude.{IfSome, Result}
 use Rattle.vortex_errors.specs.declared.error.VortexError.{VortexError}

@@ -1,4 +1,4 @@
--- What the table of rules has for the call of a function, by the list of functions.
+-- The table of rules for the call of a function, by the list of functions.
 use Rattle.std.proofs.Common.{◌≡◌, Option, Some, None, refl, sym, ap, ◌∙◌}
 use Rattle.std.specs.Prelude.{ℕ, MatchOption, Result}
 use Rattle.std.specs.Option.{option_map}
@@ -45,7 +45,7 @@ module _ {V O : Type 0} (m : Meaning V O) (r : Rules V O) where
   not_callers (ref.Custom f) n g o e = cc
   not_callers f n g o e = cc
 
-  -- so it is for a reference to any function but a caller's
+  -- and so for a reference to any function but a caller's
   pub listed_validity : (f : ScalarFnRef V O) (t : Tree V O) → instance_in f ≡ None
       → called t ≡ Some (function_of f)
       → default_validity m (function_of f) (trees_of (children_of t)) ≡ validity m r t
@@ -61,7 +61,7 @@ module _ {V O : Type 0} (m : Meaning V O) (r : Rules V O) where
   no_validity (call f ts) at l c h = cc
 
 module _ {V O : Type 0} (m : Meaning V O) where
-  -- the default validity of a caller's function is its own, where it has no rule
+  -- the default validity of a caller's function is its validity, if it has no rule
   own_validity : (t : Tree V O) (f : V) (o : O) → called t ≡ Some (custom f o)
       → default_validity m (custom f o) (trees_of (children_of t)) ≡ validity m (default_rules m) t
   own_validity (leaf l) f o c = cc
@@ -71,7 +71,7 @@ module _ {V O : Type 0} (m : Meaning V O) where
       ap (default_validity m (custom f o)) (same_trees ts)
       ∙ ap (λ h. validity m (default_rules m) (call h ts)) (sym is)
 
-  -- so what the default validity answers of a reference to a copy of it is an answer of its own
+  -- so the default validity of a reference to a copy of it is its validity
   pub own_answer : {N B : Type 0} (seen : N → InContext V O B) (s : InContext V O B)
       (f : ScalarFnRef V O) (v w : V) (o p : O) (answer : Result (ReduceNodeValidity N) VortexError)
       → f ≡ ref.Custom (record { vtable = v; options = o }) → v ≡ w → o ≡ p

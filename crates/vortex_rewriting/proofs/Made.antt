@@ -1,4 +1,4 @@
--- What is known of a node that stands for a tree in a context.
+-- A node that represents a tree in a context.
 use Rattle.std.proofs.Common.{◌≡◌, Option, Some, None, refl, ap, ◌∙◌}
 use Rattle.std.specs.Prelude.{IfSome}
 use Rattle.std.specs.Option.{option_map}
@@ -6,7 +6,7 @@ use Rattle.vortex_interface.specs.Trees.{Tree}
 use Rattle.vortex_rewriting.specs.Contexts.{InContext, tree_by, with_tree, IsMade}
 
 module _ {V O B N : Type 0} (seen : N → InContext V O B) (s : InContext V O B) where
-  -- the tree alone
+  -- the tree only
   pub made_tree : (o : Option (Tree V O)) (answer : Option N) → IsMade s seen o answer
       → option_map (tree_by seen) answer ≡ o
   made_tree None None e = refl
@@ -16,7 +16,7 @@ module _ {V O B N : Type 0} (seen : N → InContext V O B) (s : InContext V O B)
       let is : seen node ≡ with_tree s t = cc in
       ap (λ p. Some p.tree) is
 
-  -- and the context alone
+  -- and the context only
   pub made_context : (o : Option (Tree V O)) (answer : Option N) → IsMade s seen o answer
       → IfSome answer (λ node. (seen node).context ≡ s.context)
   made_context o None e = tt
@@ -32,7 +32,7 @@ module _ {V O B N : Type 0} (seen : N → InContext V O B) (s : InContext V O B)
       (λ j. Some (record { tree = (seen node).tree; context = same j }))
       ∙ ap (option_map (with_tree s)) is
 
-  -- the same said by another tree of the context
+  -- the same for another tree of the context
   pub made_as : (l : InContext V O B) → l.context ≡ s.context → (o p : Option (Tree V O)) → o ≡ p
       → (answer : Option N) → IsMade l seen o answer → IsMade s seen p answer
   made_as l same o p is answer e =

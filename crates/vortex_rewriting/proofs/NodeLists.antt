@@ -1,4 +1,4 @@
--- What nodes stand for, and copies of it.
+-- The trees of nodes, and copies of them.
 use Rattle.std.proofs.Common.{◌≡◌, List, map, ap, subst, ◌∙◌}
 use Rattle.std.specs.Cow.{cow_value}
 use Rattle.std.proofs.lemmas.Simd.{map-map}
@@ -16,7 +16,7 @@ pub trees_of_copies : {A B : Type 0} (tree : A → B) (nodes : List (TreeReduceN
 trees_of_copies tree nodes copies is =
     ap (map tree) is ∙ map-map tree (λ n. cow_value n.tree) nodes
 
--- a call on the copies is refused as one on what the nodes stand for
+-- a call on the copies fails like one on the nodes' trees
 pub refused_as_copies : {V O A : Type 0} (m : Meaning V O) (f : Function V O) (tree : A → Tree V O)
     (nodes : List (TreeReduceNode A)) (copies : List A) (e : VortexError)
     → copies ≡ map (λ n. cow_value n.tree) nodes

@@ -1,4 +1,4 @@
--- A call that is well typed is not refused.
+-- A well-typed call never fails.
 use Rattle.std.proofs.Common.{◌≡◌, true, List, length, Some, sym, ap, ◌∙◌}
 use Rattle.vortex_errors.specs.declared.error.VortexError.{VortexError}
 use Rattle.vortex_types.specs.LogicalTypes.{LogicalType}

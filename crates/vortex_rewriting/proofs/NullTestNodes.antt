@@ -1,4 +1,4 @@
--- A well-typed null test: its operand, and what Reduce makes of the test.
+-- A well-typed null test: its operand, and the result of Reduce for the test.
 use Rattle.std.proofs.Common.{◌≡◌, Bool, true, false, length, Option, Some, None, refl, sym, ap}
 use Rattle.std.proofs.Common.{◌∙◌, arith}
 use Rattle.std.specs.Prelude.{slice_get, if◌then◌else◌}
@@ -47,15 +47,15 @@ module _ {V O : Type 0} (m : Meaning V O) where
       λ j. call (function j) (tree (operand j) no_trees)
   tested_by f (call g (tree a (tree b ts))) x c n h = absurd (omega arith)
 
-  -- the node, by its operand
+  -- the node, from its operand
   pub is_tested : (which : NullTest) (t x : Tree V O) (k : LogicalType)
       → called t ≡ Some (ours (test_function which)) → tree_type m t ≡ Some k
       → slice_get (children_of t) 0 ≡ Some x → t ≡ tested which x
   is_tested which t x k c h operand =
       tested_by (ours (test_function which)) t x c (has_operand which t k c h) operand
 
-  -- what Reduce makes of the test, by whether null is a value of the operand's type, by the
-  -- operand's validity, and by what it says within the operand
+  -- the result of Reduce for the test, from whether null is a value of the operand's type, the
+  -- operand's validity, and the result within the operand
   abbrev pub by_operand : NullTest → Bool → Option (Tree V O) → Option (Tree V O)
       → Option (Tree V O)
   by_operand which n valid inside =
@@ -76,7 +76,7 @@ module _ {V O : Type 0} (m : Meaning V O) where
         by true None = refl
         by true (Some v) = refl
 
-    -- the same of the node
+    -- the same for the node
     pub reduce_node : (which : NullTest) (t x : Tree V O) (k : LogicalType) (n : Bool)
         (v : Option (Tree V O)) → t ≡ tested which x → tree_type m x ≡ Some k
         → n ≡ is_nullable k → v ≡ validity m r x
@@ -111,7 +111,7 @@ module _ {V O : Type 0} (m : Meaning V O) where
   boolean_node (call f ts) op e =
       let p = boolean_function f op e in (ap Some p.0, p.1)
 
-  -- what a test says within it, by its operands
+  -- the result of a test within it, from its operands
   operands_within : (which : NullTest) (op : Operator) (x y : Tree V O) → is_boolean op ≡ true
       → within_operands m which op x y ≡ within m which (operated op x y)
   operands_within test.IsNull And x y b = refl

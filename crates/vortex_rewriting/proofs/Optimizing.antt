@@ -1,5 +1,5 @@
--- The rule of the driver is sound and makes trees lighter, so a run of its steps is a rewrite, and
--- of fewer steps than the weight of the tree.
+-- The driver's rule is sound and makes trees lighter, so a run of its steps is a rewrite, and has
+-- fewer steps than the weight of the tree.
 use Rattle.std.proofs.Common.{◌≡◌, ℕ, ◌<◌, Option, Some, ◌∙◌, subst, sym}
 use Rattle.std.specs.Prelude.{IsSome}
 use Rattle.vortex_types.specs.LogicalTypes.{LogicalType}

@@ -1,4 +1,4 @@
--- The same call on other children, on which it is well typed, is not refused.
+-- The same call on other children, on which it is well typed, does not fail.
 use Rattle.std.proofs.Common.{◌≡◌, List, Some, refl, ap, ◌∙◌}
 use Rattle.std.specs.Prelude.{Result, IsSome}
 use Rattle.std.specs.Option.{option_and_then}

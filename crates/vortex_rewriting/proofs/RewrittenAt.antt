@@ -1,4 +1,4 @@
--- What is kept by what a rule makes of a tree at a place.
+-- A property that a rule's result at a place keeps.
 use Rattle.std.proofs.Common.{◌≡◌, ℕ, ◌<◌, List, Option, Some, None, Ok, Err, IfOk}
 use Rattle.std.specs.Prelude.{Result, IfSome}
 use Rattle.vortex_errors.specs.declared.error.VortexError.{VortexError}

@@ -1,4 +1,4 @@
--- By which code goes through its steps, paths with rules.
+-- How code walks its steps, paths with rules.
 use Rattle.std.proofs.Common.{◌≡◌, ◌<◌, ◌≤◌, ℕ, ◌+◌, List, length, get_or, take, Option, Some, None}
 use Rattle.std.proofs.Common.{ap, ◌∙◌, arith, Bor}
 use Rattle.std.specs.Prelude.{slice_get}
@@ -30,7 +30,7 @@ module _ {V O A : Type 0} (apply : A → Tree V O → Option (Tree V O))
     there = slice_get-map rule_at steps k ∙ ap (option_map rule_at)
         (slice_get-get_or steps k d within)
 
-    -- what refuses the next one refuses them all
+    -- an error of the next one is an error of all
     pub next_refused : (e : VortexError)
         → UnlessMemory
         (λ e. (e ≡ NoSuchPlace) × (rewritten (apply next.1) next.0.now x ≡ None)) e

@@ -1,4 +1,4 @@
--- How runs end, and what executing after them answers.
+-- How runs end, and the result of executing after them.
 use Rattle.std.proofs.Common.{◌≡◌, ◌↔◌, ℕ, ◌≤◌, Bool, true, false, IsTrue, Option, Some, None, refl}
 use Rattle.std.proofs.Common.{inl, inr, subst, Ok, Err}
 use Rattle.std.specs.Cow.{cow_value}
@@ -24,7 +24,7 @@ use Rattle.vortex_rewriting.specs.Rules.{expression_rule, expression_sound, arra
 use Rattle.vortex_rewriting.specs.Runs.{expression_step, array_step, AnswersRun}
 use Rattle.vortex_rewriting.proofs.Optimizing.{first_rule_sound}
 
--- a run whose end is told by a flag
+-- a run whose end is given by a flag
 pub runs_to : {V O : Type 0} (rule : Tree V O → Option (Tree V O)) (limit n : ℕ) (t u : Tree V O)
     (done : Bool) → Runs rule n t u → n ≤ limit → (IsTrue done ↔ (step rule u ≡ None))
     → (done ≡ false → n ≡ limit) → RunsTo rule limit t u

@@ -1,4 +1,4 @@
--- What Simplify makes of a node of an operator, by its operands.
+-- The result of Simplify for a node of an operator, from its operands.
 use Rattle.std.proofs.Common.{◌≡◌, Bool, true, Option, Some, refl, sym, ap, ◌∙◌}
 use Rattle.std.specs.Prelude.{Result}
 use Rattle.std.specs.Option.{is_some}
@@ -39,7 +39,7 @@ module _ {V O : Type 0} (m : Meaning V O) where
   comparison r Lte x y b = refl
   comparison r op x y b = cc
 
-  -- what Simplify makes of the node, by its operator
+  -- the result of Simplify for the node, from its operator
   module _ {N B : Type 0} (seen : N → InContext V O B) (s l : InContext V O B)
       (here : l.context ≡ s.context) {x y : Tree V O} {op : Operator}
       (is : s.tree ≡ operated op x y) (answer : Result (Option N) VortexError) where

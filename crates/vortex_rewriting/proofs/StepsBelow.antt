@@ -1,4 +1,5 @@
--- Where all before a place is settled, the step of the whole tree is the step at the place.
+-- If everything before a place is in normal form, the step of the whole tree is the step at the
+-- place.
 use Rattle.std.proofs.Common.{◌≡◌, ℕ, suc, ◌<◌, List, [], ◌∷◌, ◌++◌, length, drop, Option, Some}
 use Rattle.std.proofs.Common.{None, refl, sym, ap, ◌∙◌, arith}
 use Rattle.std.specs.Option.{option_map, option_or}
@@ -19,7 +20,7 @@ length_next [] x = refl
 length_next (z ∷ zs) x = ap suc (length_next zs x)
 
 module _ {V O : Type 0} where
-  -- a node on some first children, one more, and the others as they were
+  -- a node on some first children, one more, and the others unchanged
   pub partly_more : (t : Tree V O) (done : List (Tree V O)) (u : Tree V O)
       → partly t (done ++ u ∷ [])
       ≡ with_children t (done ++ u ∷ drop (suc (length done)) (children_of t))
@@ -29,7 +30,7 @@ module _ {V O : Type 0} where
       ∙ append_next done u (drop (suc (length done)) (children_of t)))
 
   module _ (rule : Tree V O → Option (Tree V O)) where
-    -- of a row whose first trees are settled the step is that of the next tree
+    -- in a list whose first trees are in normal form, the step is that of the next tree
     step_in_next : (before : List (Tree V O)) (t u : Tree V O) (after : List (Tree V O))
         → AreSettled rule before → step rule t ≡ Some u
         → step_in rule (trees_of (before ++ t ∷ after)) ≡ Some (trees_of (before ++ u ∷ after))
@@ -40,7 +41,7 @@ module _ {V O : Type 0} where
         (λ j. option_or (option_map (λ v. tree v (trees_of (xs ++ t ∷ after))) (h.0 j))
         (option_map (tree x) (step_in_next xs t u after h.1 e j)))
 
-    -- a settled row has none
+    -- a list in normal form has none
     none_in_settled : (ts : List (Tree V O)) → AreSettled rule ts
         → step_in rule (trees_of ts) ≡ None
     none_in_settled [] h = refl
@@ -48,7 +49,7 @@ module _ {V O : Type 0} where
         (λ j. option_or (option_map (λ u. tree u (trees_of ts)) (h.0 j))
         (option_map (tree t) (none_in_settled ts h.1 j)))
 
-    -- the step of a tree whose children are settled is what the rule makes of it
+    -- the step of a tree whose children are in normal form is the rule's result for it
     pub step_at_root : (t : Tree V O) → AreSettled rule (children_of t) → step rule t ≡ rule t
     step_at_root (leaf l) h = refl
     step_at_root (constant s) h = refl
@@ -82,7 +83,7 @@ module _ {V O : Type 0} where
     step_plug (f ∷ fs) t u h e =
         step_over f.0 f.1 (plug fs t) (plug fs u) h.0 h.1 (step_plug fs t u h.2 e)
 
-    -- a run, and one step more below frames
+    -- a run, and one more step below frames
     pub run_on : (n : ℕ) (root whole t u : Tree V O) (fs : List (Tree V O × List (Tree V O)))
         → Runs rule n root whole → whole ≡ plug fs t → AreFrames rule fs → step rule t ≡ Some u
         → Runs rule (suc n) root (plug fs u)

@@ -96,7 +96,7 @@ module _ {V O : Type 0} where
       ap (λ n. pairs_of (take n (a ∷ b ∷ ts))) here
       ∙ ap (λ us. operated And a b ∷ us) (pairs_all k ts (omega arith))
 
-  -- nodes that stand for trees
+  -- nodes that represent trees
   module _ {N : Type 0} (of_node : N → Tree V O) where
     pub all_pairs : (nodes joined : List N) (i : ℕ) → length nodes ≤ i + i + 1
         → map of_node joined ≡ pairs_of (take (i + i) (map of_node nodes))
@@ -140,7 +140,7 @@ next_two nodes i =
     λ j. take (two j) (drop (twice j) nodes)
 
 module _ {V O : Type 0} (m : Meaning V O) where
-  -- the null test of a child that is nullable, and none of another
+  -- the null test of a nullable child, and none for others
   abbrev pub null_test_of : Bool → Tree V O → List (Tree V O)
   null_test_of true t = is_not_null_of t ∷ []
   null_test_of false t = []
@@ -188,7 +188,7 @@ module _ {V O : Type 0} (m : Meaning V O) where
       and_typed (seen a).tree (seen b).tree (h 0 a (omega arith)).0 (h 1 a (omega arith)).0
   pair_typed seen n (a ∷ b ∷ c ∷ ns) e h = absurd (omega arith)
 
-  -- nodes that stand for trees in that context
+  -- nodes that represent trees in that context
   module _ {N B : Type 0} (seen : N → InContext V O B) (n : B) where
     abbrev of_node : N → Tree V O
     of_node = tree_by seen
@@ -282,7 +282,7 @@ module _ {V O : Type 0} (m : Meaning V O) where
               (All-push IsTruth joined node so_far.1 (both, here)),
         )
 
-    -- the last node, taken off
+    -- the last node, removed
     pub last_truth : (nodes rest : List N) (last : N) → nodes ≡ rest ++ last ∷ []
         → AreTruths m seen n nodes → IsTruth last
     last_truth nodes rest last e truths = (All-pop IsTruth nodes rest (Some last) e truths).1
@@ -297,7 +297,7 @@ module _ {V O : Type 0} (m : Meaning V O) where
         (map of_node after ≡ joined_last (map of_node nodes) (of_node last))
         × AreTruths m seen n after
 
-    -- beside the last
+    -- with the last
     pub joined_beside : (nodes rest after : List N) (left right pushed last : N)
         → nodes ≡ rest ++ left ∷ [] → after ≡ rest ++ pushed ∷ [] → pushed ≡ right
         → of_node right ≡ operated And (of_node left) (of_node last)
@@ -319,7 +319,7 @@ module _ {V O : Type 0} (m : Meaning V O) where
               (All-push IsTruth rest right (rest_truths nodes rest left e truths) (both, here)),
         )
 
-    -- alone
+    -- or alone
     pub joined_alone : (nodes rest after : List N) (pushed last : N) → nodes ≡ [] → rest ≡ []
         → after ≡ rest ++ pushed ∷ [] → pushed ≡ last → IsTruth last → JoinsLast nodes last after
     joined_alone nodes rest after pushed last e none push same truth =

@@ -1,4 +1,4 @@
--- The walk of the driver, over nodes that stand for trees.
+-- The driver's walk, over nodes that represent trees.
 use Rattle.std.proofs.Common.{◌≡◌, ℕ, suc, ◌+◌, ◌<◌, ◌≤◌, List, [], ◌∷◌, ◌++◌, length, map, All}
 use Rattle.std.proofs.Common.{Option, Some, None, refl, sym, ap, subst, ◌∙◌, arith}
 use Rattle.std.specs.Prelude.{slice_get, IsSome, IfSome}
@@ -10,7 +10,7 @@ use Rattle.vortex_interface.specs.Trees.{Tree, children_of}
 use Rattle.vortex_interface.specs.Driver.{step}
 use Rattle.vortex_interface.specs.Meaning.{Meaning}
 use Rattle.vortex_interface.specs.Eval.{tree_type}
-use Rattle.vortex_rewriting.specs.declared.frames.Frame.{Frame}
+use Rattle.vortex_rewriting.specs.declared.frames.Opened.{Opened}
 use Rattle.vortex_rewriting.specs.Frames.{partly, plug, AreSettled, AreFrames, IsNext, frames_in}
 use Rattle.vortex_rewriting.specs.Frames.{HaveRows}
 use Rattle.vortex_rewriting.proofs.StepsBelow.{length_next}
@@ -23,27 +23,28 @@ pub map_push : {A B : Type 0} (f : A → B) (more done : List A) (a : A) → mor
     → map f more ≡ map f done ++ f a ∷ []
 map_push f more done a e = ap (map f) e ∙ map-append f done (a ∷ [])
 
--- what holds of what is there
+-- a property of what is present
 pub of_some : {A : Type 0} (P : A → Type 0) (o : Option A) (a : A) → IfSome o P → o ≡ Some a → P a
 of_some {A} P o a h e = subst (λ (x : Option A). IfSome x P) e h
 
--- one more beside which that stands
+-- one more with that context
 pub rows_push : {T B : Type 0} (rows : T → B) (n : B) (more done : List T) (t : T)
     → All (λ u. rows u ≡ n) done → rows t ≡ n → more ≡ done ++ t ∷ [] → All (λ u. rows u ≡ n) more
 rows_push rows n more done t h same m =
     subst (All (λ u. rows u ≡ n)) (sym m) (All-push (λ u. rows u ≡ n) done t h same)
 
 -- the rows of the frames above, and of the last one
-pub rows_above : {T B : Type 0} (rows : T → B) (n : B) (all rest : List (Frame T)) (f : Frame T)
+pub rows_above : {T B : Type 0} (rows : T → B) (n : B) (all rest : List (Opened T)) (f : Opened T)
     → all ≡ rest ++ f ∷ [] → HaveRows rows n all
     → HaveRows rows n rest × (rows f.node ≡ n) × All (λ t. rows t ≡ n) f.done.items
 rows_above {T} {B} rows n all rest f e h =
-    let here = All-pop (λ (g : Frame T). (rows g.node ≡ n) × All (λ t. rows t ≡ n) g.done.items)
+    let here = All-pop (λ (g : Opened T).
+    (rows g.node ≡ n) × All (λ t. rows t ≡ n) g.done.items)
     all rest (Some f) e h in
     (here.0, here.1.0, here.1.1)
 
 module _ {T V O : Type 0} (tree : T → Tree V O) where
-  abbrev seen : Frame T → Tree V O × List (Tree V O)
+  abbrev seen : Opened T → Tree V O × List (Tree V O)
   seen f = (tree f.node, map tree f.done.items)
 
   next_at : (t : Tree V O) (done : List T) (o : Option T) (child : T)
@@ -52,7 +53,7 @@ module _ {T V O : Type 0} (tree : T → Tree V O) where
   next_at t done o child h e =
       subst (λ (x : Option T). IsNext t (map tree done) (option_map tree x)) e h
 
-  -- the next child stands behind those that are done
+  -- the next child is after those that are done
   pub next_is : (t : Tree V O) (done now : List T) (o : Option T) (child : T) → now ≡ done
       → IsNext t (map tree now) (option_map tree o) → o ≡ Some child
       → slice_get (children_of t) (length (map tree done)) ≡ Some (tree child)
@@ -60,7 +61,7 @@ module _ {T V O : Type 0} (tree : T → Tree V O) where
       next_at t done o child
       (subst (λ xs. IsNext t (map tree xs) (option_map tree o)) same h) e
 
-  -- where there is none all are done
+  -- if there is none, all are done
   pub all_done : (t : Tree V O) (done now : List T) (o : Option T) → now ≡ done
       → IsNext t (map tree now) (option_map tree o) → o ≡ None
       → length (children_of t) ≤ length (map tree done)
@@ -68,8 +69,8 @@ module _ {T V O : Type 0} (tree : T → Tree V O) where
       subst (λ (x : Option T). IsNext t (map tree done) (option_map tree x)) e
       (subst (λ xs. IsNext t (map tree xs) (option_map tree o)) same h)
 
-  -- a frame that is closed is a node of the whole tree
-  pub goes_up : (all rest : List (Frame T)) (f : Frame T) (t : T) (more : List T)
+  -- a closed frame is a node of the whole tree
+  pub goes_up : (all rest : List (Opened T)) (f : Opened T) (t : T) (more : List T)
       → all ≡ rest ++ f ∷ [] → more ≡ f.done.items ++ t ∷ []
       → plug (frames_in tree rest) (partly (tree f.node) (map tree more))
       ≡ plug (frames_in tree all) (tree t)
@@ -80,10 +81,10 @@ module _ {T V O : Type 0} (tree : T → Tree V O) where
       ∙ ap (λ fs. plug fs (tree t)) (sym (map_push seen all rest f e))
 
   -- the steps of a walk that are left
-  abbrev pub steps_left : List (Frame T) → T → ℕ → ℕ
+  abbrev pub steps_left : List (Opened T) → T → ℕ → ℕ
   steps_left fs node k = left_above (frames_in tree fs) + left_from (tree node) k
 
-  pub passes_fewer : (fs : List (Frame T)) (node : T) (done more : List T) (child : T)
+  pub passes_fewer : (fs : List (Opened T)) (node : T) (done more : List T) (child : T)
       → slice_get (children_of (tree node)) (length (map tree done)) ≡ Some (tree child)
       → more ≡ done ++ child ∷ []
       → steps_left fs node (length more) < steps_left fs node (length done)
@@ -95,7 +96,7 @@ module _ {T V O : Type 0} (tree : T → Tree V O) where
       let later = ap (λ k. left_from (tree node) (suc k)) (length-map done tree) in
       omega (arith, fewer, here, now, later)
 
-  pub descends_fewer : (fs all : List (Frame T)) (f : Frame T) (child : T) (fresh : List T)
+  pub descends_fewer : (fs all : List (Opened T)) (f : Opened T) (child : T) (fresh : List T)
       → slice_get (children_of (tree f.node)) (length (map tree f.done.items)) ≡ Some (tree child)
       → all ≡ fs ++ f ∷ [] → fresh ≡ []
       → steps_left all child (length fresh) < steps_left fs f.node (length f.done.items)
@@ -106,7 +107,8 @@ module _ {T V O : Type 0} (tree : T → Tree V O) where
       let below = ap (λ xs. left_from (tree child) (length xs)) n in
       omega (arith, fewer, above, here, below)
 
-  pub rises_fewer : (all rest : List (Frame T)) (f : Frame T) (node t : T) (k : ℕ) (more : List T)
+  pub rises_fewer : (all rest : List (Opened T)) (f : Opened T) (node t : T) (k : ℕ)
+      (more : List T)
       → all ≡ rest ++ f ∷ [] → more ≡ f.done.items ++ t ∷ []
       → steps_left rest f.node (length more) < steps_left all node k
   rises_fewer all rest f node t k more e m =
@@ -119,7 +121,7 @@ module _ {T V O : Type 0} (tree : T → Tree V O) where
       omega (arith, fewer, above, now, later)
 
   module _ (rule : Tree V O → Option (Tree V O)) where
-    pub frames_above : (all rest : List (Frame T)) (f : Frame T) → all ≡ rest ++ f ∷ []
+    pub frames_above : (all rest : List (Opened T)) (f : Opened T) → all ≡ rest ++ f ∷ []
         → AreFrames rule (frames_in tree all)
         → AreFrames rule (frames_in tree rest) × AreSettled rule (map tree f.done.items)
     frames_above all rest f e h =
@@ -127,8 +129,8 @@ module _ {T V O : Type 0} (tree : T → Tree V O) where
         (subst (AreFrames rule) (map_push seen all rest f e) h) in
         (r.0, r.1)
 
-    -- the node of the frame on one more child is well typed, where the whole tree is
-    pub over_typed : (m : Meaning V O) (all rest : List (Frame T)) (f : Frame T) (t : T)
+    -- the node of the frame on one more child is well typed if the whole tree is
+    pub over_typed : (m : Meaning V O) (all rest : List (Opened T)) (f : Opened T) (t : T)
         (more : List T) → all ≡ rest ++ f ∷ [] → more ≡ f.done.items ++ t ∷ []
         → AreFrames rule (frames_in tree all)
         → IsSome (tree_type m (plug (frames_in tree all) (tree t)))
@@ -138,9 +140,9 @@ module _ {T V O : Type 0} (tree : T → Tree V O) where
         (frames_above all rest f e h).0
         (subst (λ u. IsSome (tree_type m u)) (sym (goes_up all rest f t more e p)) typed)
 
-    module _ {B : Type 0} (rows : T → B) (above : List (Frame T)) (root : T) where
-      -- the whole tree is as it was, over the same rows, and what is done is settled
-      pub record IsWalk (fs : List (Frame T)) (node : T) (done : List T) : Type 0 where
+    module _ {B : Type 0} (rows : T → B) (above : List (Opened T)) (root : T) where
+      -- the whole tree is unchanged, over the same rows, and what is done is in normal form
+      pub record IsWalk (fs : List (Opened T)) (node : T) (done : List T) : Type 0 where
         pub frames : AreFrames rule (frames_in tree fs)
         pub settled : AreSettled rule (map tree done)
         pub same : plug (frames_in tree fs) (partly (tree node) (map tree done))
@@ -162,8 +164,8 @@ module _ {T V O : Type 0} (tree : T → Tree V O) where
         rows_node = refl;
       }
 
-      -- past a child that is settled
-      pub passes : (fs : List (Frame T)) (node : T) (done more : List T) (child : T)
+      -- past a child in normal form
+      pub passes : (fs : List (Opened T)) (node : T) (done more : List T) (child : T)
           → IsWalk fs node done
           → slice_get (children_of (tree node)) (length (map tree done)) ≡ Some (tree child)
           → step rule (tree child) ≡ None → rows child ≡ rows node → more ≡ done ++ child ∷ []
@@ -185,7 +187,7 @@ module _ {T V O : Type 0} (tree : T → Tree V O) where
       }
 
       -- down to a child
-      pub descends : (fs all : List (Frame T)) (f : Frame T) (child : T) (fresh : List T)
+      pub descends : (fs all : List (Opened T)) (f : Opened T) (child : T) (fresh : List T)
           → IsWalk fs f.node f.done.items
           → slice_get (children_of (tree f.node)) (length (map tree f.done.items))
           ≡ Some (tree child)
@@ -207,15 +209,15 @@ module _ {T V O : Type 0} (tree : T → Tree V O) where
             ∙ w.same;
         rows_above =
             subst (HaveRows rows (rows root)) (sym e)
-            (All-push (λ (g : Frame T). (rows g.node ≡ rows root)
+            (All-push (λ (g : Opened T). (rows g.node ≡ rows root)
             × All (λ t. rows t ≡ rows root) g.done.items) fs f w.rows_above
             (w.rows_node, w.rows_done));
         rows_done = subst (All (λ t. rows t ≡ rows root)) (sym n) (All-nil _);
         rows_node = same ∙ w.rows_node;
       }
 
-      -- up with a node that is settled
-      pub rises : (all rest : List (Frame T)) (f : Frame T) (node whole : T) (done more : List T)
+      -- up with a node in normal form
+      pub rises : (all rest : List (Opened T)) (f : Opened T) (node whole : T) (done more : List T)
           → IsWalk all node done → tree whole ≡ partly (tree node) (map tree done)
           → step rule (tree whole) ≡ None → rows whole ≡ rows node → all ≡ rest ++ f ∷ []
           → more ≡ f.done.items ++ whole ∷ [] → IsWalk rest f.node more
@@ -238,8 +240,8 @@ module _ {T V O : Type 0} (tree : T → Tree V O) where
             rows_node = here.1;
           }
 
-      -- the step of a node on its children, all of which are done, is what the rule makes of it
-      pub step_made : (fs : List (Frame T)) (node whole : T) (done : List T) (o made : Option T)
+      -- the step of a node on its children, all done, is the rule's result for it
+      pub step_made : (fs : List (Opened T)) (node whole : T) (done : List T) (o made : Option T)
           → IsWalk fs node done → tree whole ≡ partly (tree node) (map tree done)
           → length (children_of (tree node)) ≤ length (map tree done)
           → option_map tree o ≡ rule (tree whole) → o ≡ made
@@ -252,7 +254,7 @@ module _ {T V O : Type 0} (tree : T → Tree V O) where
           ∙ ap (option_map tree) found
 
       -- at the root the walk ends
-      pub ends : (fs : List (Frame T)) (node whole : T) (done : List T) → IsWalk fs node done
+      pub ends : (fs : List (Opened T)) (node whole : T) (done : List T) → IsWalk fs node done
           → length fs ≡ 0 → tree whole ≡ partly (tree node) (map tree done)
           → step rule (tree whole) ≡ None
           → (plug (frames_in tree above) (tree root) ≡ tree whole)
@@ -262,7 +264,7 @@ module _ {T V O : Type 0} (tree : T → Tree V O) where
           (same, ap (step rule) same ∙ settled)
       ends (f ∷ fs) node whole done w n is settled = absurd (omega (arith, n))
 
-      pub node_typed : (m : Meaning V O) (fs : List (Frame T)) (node : T) (done : List T)
+      pub node_typed : (m : Meaning V O) (fs : List (Opened T)) (node : T) (done : List T)
           → IsWalk fs node done
           → IsSome (tree_type m (plug (frames_in tree above) (tree root)))
           → IsSome (tree_type m (partly (tree node) (map tree done)))

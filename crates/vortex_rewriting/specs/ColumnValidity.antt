@@ -1,4 +1,4 @@
--- A column's validity as a column: where it is no list of bits, a constant one.
+-- A column's validity as a column: constant unless it is a list of bits.
 use Rattle.std.specs.Prelude.{Bool, true, false, length}
 use Rattle.vortex_types.specs.LogicalTypes.{bool_type}
 use Rattle.vortex_types.specs.Values.{truth}

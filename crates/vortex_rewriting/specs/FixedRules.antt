@@ -1,4 +1,4 @@
--- The function without arguments that answers false has the default validity and no rules.
+-- The function without arguments that returns false has the default validity and no rules.
 use Rattle.std.specs.Prelude.{◌≡◌, codes, get_or}
 use Rattle.std.proofs.Common.{ap, ◌∙◌, arith}
 use Rattle.vortex_interface.specs.Rewrites.{LawfulRules}

@@ -1,4 +1,4 @@
--- What a search for the next place comes to.
+-- The result of a search for the next place.
 use Rattle.std.specs.Prelude.{◌≡◌, Option, Some, None}
 use Rattle.vortex_rewriting.specs.declared.driver.Found.{Found}
 use Rattle.vortex_rewriting.specs.declared.driver.Found.TheVariants.{Settled, Place}
@@ -6,7 +6,7 @@ use Rattle.vortex_interface.specs.Trees.{Tree}
 use Rattle.vortex_interface.specs.Driver.{step}
 use Rattle.vortex_rewriting.specs.Frames.{plug, AreFrames, frames_in, HaveRows}
 
--- the tree is settled, or its step is that at the place
+-- the tree is in normal form, or its step is that at the place
 abbrev pub IsFound : {T V O : Type 0} → (Tree V O → Option (Tree V O)) → (T → Tree V O) → Tree V O
     → Found T → Type 0
 IsFound rule tree t (Settled whole) = (t ≡ tree whole) × (step rule t ≡ None)

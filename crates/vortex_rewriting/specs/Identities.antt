@@ -2,7 +2,7 @@
 use Rattle.std.specs.Prelude.{◌≡◌, ◌≢◌, ℕ, List, get_or, refl, true, false}
 use Rattle.vortex_interface.specs.Shipped.{Shipped, Binary, NullTest, shipped_id}
 
--- the identity of no shipped function
+-- not the identity of a shipped function
 abbrev pub IsOwnIdentity : List ℕ → Type 0
 IsOwnIdentity id = (s : Shipped) → id ≢ shipped_id s
 

@@ -18,7 +18,7 @@ module _ {V O : Type 0} (m : Meaning V O) where
     pub no_new_fault : (i : ℕ) (y : Fault) → i < n → eval m cs u i ≡ faults y
         → (x : Fault) × (eval m cs t i ≡ faults x)
 
-  -- over columns that serve the tree, each of n rows, so does every rewrite of it
+  -- over columns that match the tree, each of n rows, so does every rewrite of it
   abbrev pub RewritesKeepRows : List ColumnView → ℕ → Tree V O → Type 0
   RewritesKeepRows cs n t = (u : Tree V O) → Rewrites m t u → LeavesFit cs t
       → other_length n cs ≡ None → KeepsRows cs n t u

@@ -1,4 +1,4 @@
--- Where a leaf is not null.
+-- The validity of a leaf.
 use Rattle.std.specs.Prelude.{◌≡◌, Option, None}
 use Rattle.std.specs.Option.{option_map}
 use Rattle.vortex_interface.specs.Meaning.{Meaning}
@@ -6,7 +6,7 @@ use Rattle.vortex_interface.specs.Trees.{Tree, called, literal}
 use Rattle.vortex_interface.specs.Rules.{Rules}
 use Rattle.vortex_interface.specs.ValidityRules.{validity}
 
--- of a leaf that is no constant the answer is its validity, whatever a caller's rules are
+-- for a leaf that is no constant the result is its validity, whatever a caller's rules are
 abbrev pub IsLeafValidity : {V O N : Type 0} → Meaning V O → (N → Tree V O) → Tree V O → Option N
     → Type 0
 IsLeafValidity {V} {O} m tree t answer =

@@ -2,7 +2,7 @@ pub mod Driving
 pub mod Places
 pub mod Rewriting
 pub mod Rules
-pub mod Ways
+pub mod Parents
 pub mod Frames
 pub mod Found
 pub mod Runs

@@ -1,4 +1,4 @@
--- What a node stands for, borrowed or its own.
+-- The tree of a node, borrowed or owned.
 use Rattle.std.specs.Prelude.{ℕ, ⊤}
 use Rattle.std.specs.Cow.{cow_value}
 use Rattle.vortex_interface.specs.Trees.{Tree}
@@ -12,14 +12,14 @@ module _ {V O : Type 0} where
       → InContext V O B
   node_seen tree_of rows_of node = in_context tree_of rows_of (cow_value node.tree)
 
-  -- of an expression
+  -- for an expression
   abbrev pub expression_of : TreeReduceNode (Tree V O) → Tree V O
   expression_of node = cow_value node.tree
 
   abbrev pub expression_seen : TreeReduceNode (Tree V O) → InContext V O ⊤
   expression_seen = node_seen (λ t. t) (λ t. tt)
 
-  -- of an array tree
+  -- for an array tree
   abbrev pub array_of : TreeReduceNode (Array V O) → Array V O
   array_of node = cow_value node.tree
 

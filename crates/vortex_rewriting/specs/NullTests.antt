@@ -1,4 +1,4 @@
--- The two null tests side by side, and what And or Or with one nullable operand makes of them.
+-- The two null tests, and their results for And or Or with one nullable operand.
 use Rattle.std.specs.Prelude.{Option, Some, None, Bool, true, false}
 use Rattle.std.specs.Option.{option_and_then, option_map}
 use Rattle.vortex_operators.specs.declared.operators.Operator.{Operator}
@@ -16,7 +16,7 @@ abbrev pub test_function : NullTest → Shipped
 test_function test.IsNull = IsNull
 test_function test.IsNotNull = IsNotNull
 
--- what the test says of a value that is not null
+-- the test's result for a value that is not null
 abbrev pub of_no_null : NullTest → Bool
 of_no_null test.IsNull = false
 of_no_null test.IsNotNull = true
@@ -39,19 +39,19 @@ module _ {V O : Type 0} where
   abbrev pub tested : NullTest → Tree V O → Tree V O
   tested which x = call (ours (test_function which)) (tree x no_trees)
 
-  -- what a node's validity says of the test
+  -- the result of the test from a node's validity
   abbrev pub by_validity : NullTest → Tree V O → Tree V O
   by_validity test.IsNull valid = negated valid
   by_validity test.IsNotNull valid = valid
 
-  -- the other operand as it is beside its own operator, and negated beside the other one
+  -- the other operand, unchanged with its own operator, and negated with the other one
   abbrev pub beside_test : NullTest → Operator → Tree V O → Tree V O
   beside_test test.IsNull And y = y
   beside_test test.IsNull op y = negated y
   beside_test test.IsNotNull Or y = y
   beside_test test.IsNotNull op y = negated y
 
-  -- the test of And or Or, by its nullable operand and the other one
+  -- the test of And or Or, from its nullable operand and the other one
   abbrev pub split : NullTest → Operator → Tree V O → Tree V O → Tree V O
   split which op x y = operated (joined_by which) (tested which x) (beside_test which op y)
 
@@ -60,6 +60,6 @@ module _ {V O : Type 0} where
     within test.IsNull t = is_null_within m t
     within test.IsNotNull t = is_not_null_within m t
 
-    -- the same by the operands
+    -- the same from the operands
     abbrev pub within_operands : NullTest → Operator → Tree V O → Tree V O → Option (Tree V O)
     within_operands which op x y = option_map (λ p. split which op p.0 p.1) (by_nullability m x y)

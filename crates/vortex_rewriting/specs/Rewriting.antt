@@ -1,4 +1,4 @@
--- What rewriting at places answers.
+-- Results of rewriting at places.
 use Rattle.std.specs.Prelude.{◌≡◌, ℕ, List, Option, Some, None, Result, map}
 use Rattle.std.specs.Borrow.{Bor}
 use Rattle.std.specs.Option.{option_map}
@@ -8,8 +8,8 @@ use Rattle.vortex_errors.specs.declared.error.VortexError.TheVariants.{NoSuchPla
 use Rattle.vortex_interface.specs.Trees.{Tree}
 use Rattle.vortex_interface.specs.Places.{rewritten}
 
--- what the rule makes of the tree at the place that the path leads to, refused where the path
--- leaves the tree; or memory ran out
+-- the rule's result for the tree at the place of the path, or an error if the path leaves the tree;
+-- or memory ran out
 abbrev pub AnswersRewritten : {V O T : Type 0} → (T → Tree V O) → (Tree V O → Option (Tree V O))
     → List ℕ → Tree V O → Result (Option T) VortexError → Type 0
 AnswersRewritten tree_in rule path t result =

@@ -1,4 +1,4 @@
--- What a rule makes of a tree of either kind at its root, and what that keeps.
+-- The result of a rule for a tree of either kind at its root, and what it keeps.
 use Rattle.std.specs.Prelude.{Option, None}
 use Rattle.vortex_interface.specs.Meaning.{Meaning, Lawful}
 use Rattle.vortex_interface.specs.Trees.{Tree}

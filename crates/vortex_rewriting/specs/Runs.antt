@@ -1,4 +1,4 @@
--- What executing after a run of rules answers.
+-- Results of executing after a run of rules.
 use Rattle.std.specs.Prelude.{ℕ, List, [], Option, Result}
 use Rattle.std.specs.Cow.{cow_value}
 use Rattle.std.specs.declared.borrow.Cow.{Cow}
@@ -23,20 +23,20 @@ module _ {V O : Type 0} (m : Meaning V O) (r : Rules V O) where
   array_step = first_rule (array_rule m r)
 
   module _ (limit : ℕ) where
-    -- the column, which may be borrowed, has the rows of the tree that a run leads to; where that tree
+    -- the column, which may be borrowed, has the rows of the tree that a run leads to; if that tree
     -- is a lone leaf it is the leaf's column, borrowed
     pub record IsRunAnswer (cs : List ColumnView) (n : ℕ) (t : Tree V O) (c : Cow ColumnView)
         : Type 0 where
       pub executes : ExecutesAfter m cs n expression_step limit t (cow_value c)
       pub lent : IsLeaf executes.rows.last → IsLentLeaf cs executes.rows.last c
 
-    -- over columns, each of so many rows
+    -- over columns, each of that many rows
     abbrev pub AnswersRun : List ColumnView → ℕ → Tree V O → Result (Cow ColumnView) VortexError
         → Type 0
     AnswersRun cs n t result =
         Answers result (IsRunAnswer cs n t) (RefusesAfter m cs n expression_step limit t)
 
-    -- no column stands outside an array tree
+    -- all columns of an array tree are in it
     abbrev pub AnswersRunOfArray : Array V O → Result ColumnView VortexError → Type 0
     AnswersRunOfArray a result =
         Answers result (HasRowsAfter m [] (rows_in a) array_step limit (tree_in a))

@@ -1,4 +1,4 @@
--- What is told of a node's validity, in terms of the table of rules.
+-- The validity node, in terms of the table of rules.
 use Rattle.std.specs.Prelude.{Option, Some, None}
 use Rattle.vortex_interface.specs.Trees.{Tree}
 use Rattle.vortex_rewriting.specs.declared.node.ReduceNodeValidity.{ReduceNodeValidity}
@@ -6,13 +6,13 @@ use Rattle.vortex_rewriting.specs.declared.node.ReduceNodeValidity.TheVariants.{
 use Rattle.vortex_rewriting.specs.declared.node.ReduceNodeValidity.TheVariants.{Irreducible}
 use Rattle.vortex_rewriting.specs.Contexts.{InContext, IsMade}
 
--- the node that is told, if one is
+-- the validity node, if there is one
 abbrev pub told_node : {N : Type 0} → ReduceNodeValidity N → Option N
 told_node (Reduced node) = Some node
 told_node Irreducible = None
 
--- the node that is told stands for the table's answer, in that context, and there is none exactly
--- where the table has none
+-- the validity node represents the table's result, in that context; none exactly where the table
+-- has none
 abbrev pub IsTold : {V O B N : Type 0} → InContext V O B → (N → InContext V O B)
     → Option (Tree V O) → ReduceNodeValidity N → Type 0
 IsTold s seen answer told = IsMade s seen answer (told_node told)

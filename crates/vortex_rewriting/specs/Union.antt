@@ -21,7 +21,7 @@ pairs_of [] = []
 pairs_of (t ∷ []) = []
 pairs_of (t ∷ u ∷ ts) = operated And t u ∷ pairs_of ts
 
--- one more tree, as the right operand beside the last; alone where there is none
+-- one more tree, as the right operand with the last; or alone if there is none
 abbrev pub joined_last : {V O : Type 0} → List (Tree V O) → Tree V O → List (Tree V O)
 joined_last [] last = last ∷ []
 joined_last (t ∷ []) last = operated And t last ∷ []

@@ -1,4 +1,4 @@
-//! The leaves of array trees, as rules ask of them. Array trees are rewritten by Reduce alone.
+//! The leaves of array trees, as rules see them. Array trees are rewritten only by Reduce.
 ghost use Rattle.std.specs.Prelude.{◌≡◌, refl};
 ghost use Rattle.vortex_functions.specs.Words.{AnswersUnlessMemory};
 ghost use Rattle.vortex_rewriting.specs.ColumnValidity.{validity_as_column};
@@ -13,8 +13,8 @@ use vortex_functions::ArrayRef;
 use vortex_functions::array::ArrayLeaf;
 use vortex_interface::ScalarFnVTable;
 
-/// Whether each row of a column is not null: a constant column where the form of the validity tells
-/// it of all rows, and the bits themselves where it lists them.
+/// Whether each row of a column is not null: a constant column if the form of the validity is the
+/// same for all rows, else its bits.
 fn column_validity(alloc: Global, column: &Column) -> VortexResult<Column>
     ensures { AnswersUnlessMemory result (λ valid. valid ≡ validity_as_column column.now) }
 {
@@ -40,7 +40,7 @@ impl<C: ScalarFnVTable> RuleLeaf<C> for ArrayLeaf {
         Ok(array)
     }
 
-    /// A column stands for its own rows, so a column says it.
+    /// A column has its own rows, so its validity is a column.
     fn leaf_validity(alloc: Global, tree: &ArrayRef<C>) -> VortexResult<Option<ArrayRef<C>>> {
         match tree.as_column() {
             Some(column) => {

@@ -1,4 +1,4 @@
-//! The rule of And and of Or beside a constant.
+//! The rule of And and of Or with a constant.
 ghost use Rattle.std.specs.Prelude.{◌≡◌, IsTrue, Some, true};
 ghost use Rattle.vortex_types.specs.TypeOf.{allows_null};
 ghost use Rattle.vortex_types.specs.LogicalTypes.{bool_type};
@@ -30,7 +30,7 @@ pub(crate) fn constant_truth<C: ScalarFnVTable, T: ReduceTree<C>>(node: &T) -> O
     }
 }
 
-/// What And or Or says of two truth values.
+/// The result of And or Or for two truth values.
 fn of_both(operator: Operator, left: bool, right: bool) -> bool
     requires { IsTrue (is_boolean operator) }
     ensures { kleene operator (Some left) (Some right) ≡ Some result }
@@ -54,7 +54,7 @@ pub(crate) fn truth_node<C: ScalarFnVTable, T: ReduceTree<C>>(
     node.new_constant(alloc, Scalar::bool(value, nullability))
 }
 
-/// An operand in place of the node, cast where only the node is nullable.
+/// An operand in place of the node, cast if only the node is nullable.
 fn widened<C: ScalarFnVTable, T: ReduceTree<C>>(
     alloc: Global,
     nullability: Nullability,
@@ -73,7 +73,7 @@ fn widened<C: ScalarFnVTable, T: ReduceTree<C>>(
     call_on_one(alloc, ScalarFnRef::Cast, operand)
 }
 
-/// The node where one operand is a constant of that value: it decides, or the other operand stays.
+/// The node if one operand is a constant of that value: it decides, or the other operand stays.
 pub(crate) fn beside_constant<C: ScalarFnVTable, T: ReduceTree<C>>(
     alloc: Global,
     operator: Operator,
@@ -93,7 +93,7 @@ pub(crate) fn beside_constant<C: ScalarFnVTable, T: ReduceTree<C>>(
     }
 }
 
-/// The node by the constants among its operands, which have one context.
+/// The node from the constants among its operands, which have one context.
 fn of_constants<C: ScalarFnVTable, T: ReduceTree<C>>(
     alloc: Global,
     operator: Operator,
@@ -132,8 +132,8 @@ fn of_constants<C: ScalarFnVTable, T: ReduceTree<C>>(
 }
 
 /// Reduce of a call of And or Or: two constants give the table's value, one that decides gives its
-/// own, and beside one that does not the other operand stays, cast where only the node is nullable.
-/// None where neither operand is a constant of a truth value. E9 where memory is refused.
+/// own, and for one that does not the other operand stays, cast if only the node is nullable. None
+/// if neither operand is a constant truth value. E9 where an allocation fails.
 pub fn reduce_boolean<C: ScalarFnVTable, T: ReduceTree<C>>(
     alloc: Global,
     operator: Operator,

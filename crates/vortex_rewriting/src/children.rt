@@ -10,8 +10,8 @@ use vortex_columns::VortexResult;
 use vortex_functions::{Leaf, Tree};
 use vortex_interface::ScalarFnVTable;
 
-/// The same call on other children of its context, on which it is well typed. E9 where memory is
-/// refused.
+/// The same call on other children of its context, on which it is well typed. E9 where an
+/// allocation fails.
 pub(crate) fn with_children<C: ScalarFnVTable, L: Leaf<C, C::Options>>(
     alloc: Global,
     tree: &Tree<C, L>,
@@ -32,7 +32,7 @@ pub(crate) fn with_children<C: ScalarFnVTable, L: Leaf<C, C::Options>>(
     }
 }
 
-/// Copies of the children, with another one in the place of that index. E9 where memory is refused.
+/// Copies of the children, with that of the index replaced. E9 where an allocation fails.
 fn children_with<C: ScalarFnVTable, L: Leaf<C, C::Options>>(
     alloc: Global,
     parent: &Tree<C, L>,
@@ -54,8 +54,8 @@ fn children_with<C: ScalarFnVTable, L: Leaf<C, C::Options>>(
     Ok(copies)
 }
 
-/// A copy of a call with another child, of the old one's type and the call's row count, in the
-/// place of that index. E9 where memory is refused.
+/// A copy of a call with the child of that index replaced by one of its type and row count. E9
+/// where an allocation fails.
 pub(crate) fn with_child<C: ScalarFnVTable, L: Leaf<C, C::Options>>(
     alloc: Global,
     parent: &Tree<C, L>,

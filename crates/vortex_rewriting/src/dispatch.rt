@@ -1,4 +1,4 @@
-//! The list of functions by their rules.
+//! Dispatch from functions to their rules.
 ghost use Rattle.std.specs.Prelude.{◌≡◌, Some};
 ghost use Rattle.vortex_interface.specs.Shipped.{Binary};
 ghost use Rattle.vortex_functions.specs.Words.{ours, called, function_of, AnswersUnlessMemory};
@@ -17,7 +17,7 @@ use vortex_columns::VortexResult;
 use vortex_functions::{BoundExpression, ScalarFnRef};
 use vortex_operators::Operator;
 
-/// Reduce of a call of an operator: And and Or alone have a rule.
+/// Reduce of a call of an operator: only And and Or have a rule.
 fn reduce_operator<C: ScalarFnRules, T: ReduceTree<C>>(
     alloc: Global,
     operator: Operator,
@@ -34,8 +34,8 @@ fn reduce_operator<C: ScalarFnRules, T: ReduceTree<C>>(
     }
 }
 
-/// Reduce of a call of that function: the node that a rule makes of it, or none where none applies.
-/// E9 where memory is refused.
+/// Reduce of a call of that function: the resulting node, or none if no rule applies. E9 where an
+/// allocation fails.
 pub fn reduce_call<C: ScalarFnRules, T: ReduceNode<C>>(
     alloc: Global,
     function: &ScalarFnRef<C>,
@@ -54,8 +54,8 @@ pub fn reduce_call<C: ScalarFnRules, T: ReduceNode<C>>(
     }
 }
 
-/// Validity of a call of that function: a node that says where the call is not null, if a tree says
-/// it. E9 where memory is refused.
+/// Validity of a call of that function: a node that is true where the call is not null, if there is
+/// one. E9 where an allocation fails.
 pub fn validity_call<C: ScalarFnRules, T: ReduceTree<C>>(
     alloc: Global,
     function: &ScalarFnRef<C>,
@@ -91,8 +91,8 @@ fn simplify_binary<C: ScalarFnRules>(
     }
 }
 
-/// Simplify of a call of that function in an expression: what a rule makes of it, or none where
-/// none applies. E9 where memory is refused.
+/// Simplify of a call of that function in an expression: the result, or none if no rule applies. E9
+/// where an allocation fails.
 pub fn simplify_call<C: ScalarFnRules>(
     alloc: Global,
     function: &ScalarFnRef<C>,

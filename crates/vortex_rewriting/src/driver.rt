@@ -1,4 +1,4 @@
-//! The driver: rules at the first place at which one applies, again and again.
+//! The driver: rules at the first place where one applies, repeatedly.
 ghost use Rattle.std.specs.Prelude.{◌≡◌, ◌≤◌, ◌↔◌, IfOk, IfSome, IsSome, IsTrue, None, false};
 ghost use Rattle.std.specs.Option.{option_map};
 ghost use Rattle.vortex_interface.specs.Driver.{step, Runs};
@@ -6,7 +6,7 @@ ghost use Rattle.vortex_functions.specs.Words.{tree_type, AnswersUnlessMemory};
 ghost use Rattle.vortex_rewriting.specs.Frames.{plug, frames_in, AreFrames, HaveRows};
 ghost use Rattle.vortex_rewriting.specs.Found.{IsFound, FoundHasRows};
 
-use crate::frames::{Frame, next_child, over_children, whole_tree};
+use crate::frames::{Opened, next_child, over_children, whole_tree};
 use crate::leaf::RewriteLeaf;
 use crate::rule::Rule;
 use crate::rules::ScalarFnRules;
@@ -14,7 +14,7 @@ use std::alloc::Global;
 use vortex_columns::VortexResult;
 use vortex_functions::Tree;
 
-/// What Simplify makes of the tree at its root, or else what Reduce makes of it.
+/// The result of Simplify for the tree at its root, or else that of Reduce.
 fn apply_first<C: ScalarFnRules, L: RewriteLeaf<C>>(
     alloc: Global,
     tree: &Tree<C, L>,
@@ -29,20 +29,20 @@ fn apply_first<C: ScalarFnRules, L: RewriteLeaf<C>>(
     }
 }
 
-/// What a search for the next place comes to.
+/// The result of a search for the next place.
 #[derive(Drop)]
 enum Found<T> {
     /// There is none, and this is the whole tree.
     Settled(T),
-    /// The frames above the place, the tree there, and what a rule makes of it.
-    Place(Vec<Frame<T>>, T, T),
+    /// The frames above the place, the tree there, and the rule's result for it.
+    Place(Vec<Opened<T>>, T, T),
 }
 
-/// Goes on from a tree below frames to the next place at which a rule applies. What is settled on
-/// the way is marked, and what is marked is passed over.
+/// Continues from a tree below frames to the next place where a rule applies. Marks trees in normal
+/// form on the path, and skips marked ones.
 fn seek<C: ScalarFnRules, L: RewriteLeaf<C>>(
     alloc: Global,
-    above: Vec<Frame<Tree<C, L>>>,
+    above: Vec<Opened<Tree<C, L>>>,
     node: Tree<C, L>,
 ) -> VortexResult<Found<Tree<C, L>>>
     requires frames { AreFrames L.rule (frames_in L.tree_of above.items) }
@@ -62,7 +62,7 @@ fn seek<C: ScalarFnRules, L: RewriteLeaf<C>>(
                 if child.is_settled() {
                     done.push(child)?;
                 } else {
-                    above.push(Frame { node, done })?;
+                    above.push(Opened { node, done })?;
                     node = child;
                     done = Vec::new(alloc);
                 }
@@ -87,16 +87,16 @@ fn seek<C: ScalarFnRules, L: RewriteLeaf<C>>(
 /// A tree after a run of steps.
 #[derive(Drop)]
 pub struct Optimized<T: Drop> {
-    /// The tree that the run made.
+    /// The last tree of the run.
     pub tree: T,
     /// How many steps it took.
     pub steps: u64,
-    /// Whether no rule applies at any place of it.
+    /// Whether no rule applies anywhere in it.
     pub done: bool,
 }
 
-/// At most `limit` steps from a tree. After one it goes on within what the rule made there. E9
-/// where memory is refused.
+/// At most `limit` steps from a tree. After a step it continues within the rule's result. E9 where
+/// an allocation fails.
 pub(crate) fn take_steps<C: ScalarFnRules, L: RewriteLeaf<C>>(
     alloc: Global,
     tree: &Tree<C, L>,

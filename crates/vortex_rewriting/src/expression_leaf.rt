@@ -1,4 +1,4 @@
-//! The leaves of expressions, as rules ask of them. Expressions are rewritten by Simplify and by
+//! The leaves of expressions, as rules see them. Expressions are rewritten by Simplify and by
 //! Reduce.
 ghost use Rattle.std.specs.Prelude.{refl};
 ghost use Rattle.vortex_rewriting.specs.Rules.{expression_rule, expression_sound};
@@ -27,7 +27,7 @@ impl<C: ScalarFnVTable> RuleLeaf<C> for ExpressionLeaf {
         Ok(BoundExpression::lit(alloc, scalar))
     }
 
-    /// A place in a scope holds no column, so no tree says it.
+    /// A place in a scope holds no column, so its validity is no tree.
     fn leaf_validity(
         _alloc: Global,
         tree: &BoundExpression<C>,

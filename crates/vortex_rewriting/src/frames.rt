@@ -13,12 +13,12 @@ use vortex_interface::ScalarFnVTable;
 
 /// A node above, and its first children as they are now.
 #[derive(Drop)]
-pub(crate) struct Frame<T> {
+pub(crate) struct Opened<T> {
     pub node: T,
     pub done: Vec<T>,
 }
 
-/// A copy of the child after those that are done; none where all are.
+/// A copy of the child after those that are done; none if all are.
 pub(crate) fn next_child<C: ScalarFnVTable, L: Leaf<C, C::Options>>(
     alloc: Global,
     node: &Tree<C, L>,
@@ -36,8 +36,8 @@ pub(crate) fn next_child<C: ScalarFnVTable, L: Leaf<C, C::Options>>(
     }
 }
 
-/// The node on its children as they are now, all of which are done. It is made anew even where they
-/// are as they were: only a call that no one else holds can be marked.
+/// The node on its children as they are now, all done. It is rebuilt even if they are unchanged:
+/// only a call with one handle can be marked.
 pub(crate) fn over_children<C: ScalarFnVTable, L: Leaf<C, C::Options>>(
     alloc: Global,
     node: Tree<C, L>,
@@ -57,10 +57,10 @@ pub(crate) fn over_children<C: ScalarFnVTable, L: Leaf<C, C::Options>>(
     with_children(alloc, &node, done)
 }
 
-/// The node on its first children as they are now, and the others as they were.
+/// The node on its first children as they are now, and the others unchanged.
 fn closed<C: ScalarFnVTable, L: Leaf<C, C::Options>>(
     alloc: Global,
-    frame: Frame<Tree<C, L>>,
+    frame: Opened<Tree<C, L>>,
 ) -> VortexResult<Tree<C, L>>
     requires typed { IsSome (tree_type C.meaning
         (partly (L.tree_of frame.node) (map L.tree_of frame.done.items))) }
@@ -70,7 +70,7 @@ fn closed<C: ScalarFnVTable, L: Leaf<C, C::Options>>(
         (L.tree_of made ≡ partly (L.tree_of frame.node) (map L.tree_of frame.done.items))
         × (L.context_of made ≡ L.context_of frame.node)) }
 {
-    let Frame { node, mut done } = frame;
+    let Opened { node, mut done } = frame;
     while let Some(child) = next_child(alloc, &node, &done)? {
         done.push(child)?;
     }
@@ -80,7 +80,7 @@ fn closed<C: ScalarFnVTable, L: Leaf<C, C::Options>>(
 /// The whole tree, with that tree below the frames.
 pub(crate) fn whole_tree<C: ScalarFnVTable, L: Leaf<C, C::Options>>(
     alloc: Global,
-    above: Vec<Frame<Tree<C, L>>>,
+    above: Vec<Opened<Tree<C, L>>>,
     place: Tree<C, L>,
 ) -> VortexResult<Tree<C, L>>
     requires frames { AreFrames L.rule (frames_in L.tree_of above.items) }

@@ -1,4 +1,4 @@
-//! What rewriting keeps. These functions do nothing: their contracts are proved.
+//! Laws of rewriting. The functions are empty: their contracts are the laws, proved.
 ghost use Rattle.std.specs.Prelude.{All};
 ghost use Rattle.vortex_functions.specs.Words.{AreTyped};
 ghost use Rattle.vortex_rewriting.specs.Keeping.{RewritesKeepRows, RewritesKeepRowsOfArray};
@@ -16,7 +16,7 @@ fn tell_types(columns: &[Column])
     }
 }
 
-/// Over columns that serve an expression, each of `row_count` rows, every rewrite of it (clause
+/// Over columns that match an expression, each of `row_count` rows, every rewrite of it (clause
 /// `kept` of what rewrites) has its value in each row in which it has one, and faults only where it
 /// faults.
 pub fn rewrites_keep_rows<C: ScalarFnVTable>(

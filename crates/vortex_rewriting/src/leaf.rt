@@ -1,4 +1,4 @@
-//! What rules and rewriting ask of a kind of leaf.
+//! The interface of leaves for rules and rewriting.
 ghost use Rattle.std.specs.Prelude.{◌≡◌, IfSome, Option};
 ghost use Rattle.std.specs.Option.{option_copied, option_map};
 ghost use Rattle.vortex_interface.specs.Trees.{Tree};
@@ -18,11 +18,11 @@ use vortex_interface::ScalarFnVTable;
 
 /// A kind of leaf over whose trees rules run: of an expression, or of an array tree.
 pub trait RuleLeaf<C: ScalarFnVTable>: Leaf<C, C::Options> {
-    /// The scalar of a constant; none of any other tree.
+    /// The scalar of a constant; none for any other tree.
     fn as_constant(tree: &Tree<C, Self>) -> Option<&Scalar>
         ensures { option_copied result ≡ literal (Self.tree_of tree.now) };
 
-    /// The constant of that scalar, in that context. E9 where memory is refused.
+    /// The constant of that scalar, in that context. E9 where an allocation fails.
     fn new_constant(
         alloc: Global,
         scalar: Scalar,
@@ -31,27 +31,27 @@ pub trait RuleLeaf<C: ScalarFnVTable>: Leaf<C, C::Options> {
         ensures { AnswersUnlessMemory result (λ made.
             (Self.tree_of made ≡ constant scalar) × (Self.context_of made ≡ context)) };
 
-    /// Where a leaf that is no constant is not null, if a tree of its context says it. E9 where
-    /// memory is refused.
+    /// The validity of a leaf that is no constant, if it is a tree of its context. E9 where an
+    /// allocation fails.
     fn leaf_validity(alloc: Global, tree: &Tree<C, Self>) -> VortexResult<Option<Tree<C, Self>>>
         ensures { AnswersUnlessMemory result (λ answer.
             IsLeafValidity C.meaning Self.tree_of (Self.tree_of tree.now) answer
             × IfSome answer (λ made. Self.context_of made ≡ Self.context_of tree.now)) };
 }
 
-/// A kind of leaf whose trees are rewritten: what rules make of one at its root.
+/// A kind of leaf whose trees are rewritten: rules for one at its root.
 pub trait RewriteLeaf<C: ScalarFnRules>: RuleLeaf<C> {
-    /// What a rule makes of a tree of this kind at its root.
+    /// The result of a rule for a tree of this kind at its root.
     ghost applied: { Rule → Tree C C.Options → Option (Tree C C.Options) };
 
-    /// What a rule makes of the tree at its root; None where it does not apply. E9 where memory is
-    /// refused.
+    /// The result of a rule for the tree at its root; None if it does not apply. E9 where an
+    /// allocation fails.
     fn apply(alloc: Global, tree: &Tree<C, Self>, rule: Rule) -> VortexResult<Option<Tree<C, Self>>>
         ensures { AnswersUnlessMemory result (λ answer.
             (option_map Self.tree_of answer ≡ applied rule (Self.tree_of tree.now))
             × IfSome answer (λ made. Self.context_of made ≡ Self.context_of tree.now)) };
 
-    /// The rule that marks speak of is the driver's.
+    /// The rule that marks are about is the driver's.
     ghost rule_is: { Self.Leaf.rule ≡ first_rule applied };
 
     ghost sound: { (rule : Rule) → IsSound C.meaning (applied rule) };

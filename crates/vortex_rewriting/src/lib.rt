@@ -14,6 +14,7 @@ mod making;
 mod no_custom;
 pub mod node;
 pub mod null_tests;
+mod paths;
 pub mod places;
 pub mod reduce;
 pub mod reduce_array;
@@ -26,7 +27,6 @@ pub mod simplify;
 pub mod tree_node;
 pub mod union;
 pub mod validity;
-mod ways;
 
 pub use boolean::reduce_boolean;
 pub use dispatch::{reduce_call, simplify_call, validity_call};

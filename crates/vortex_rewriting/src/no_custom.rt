@@ -1,4 +1,4 @@
-//! The function that stands where a caller has none has no rules.
+//! The function for a caller who has none, without rules.
 ghost use Rattle.vortex_rewriting.specs.FixedRules.{fixed_rules_lawful, fixed_identity};
 
 use crate::node::{ReduceNodeValidity, ReduceTree};

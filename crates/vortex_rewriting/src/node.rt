@@ -1,4 +1,4 @@
-//! Nodes that rules run over: each stands for a tree.
+//! Nodes that rules run over: each represents a tree.
 ghost use Rattle.std.specs.Prelude.{◌≡◌, ◌<◌, All, IsOkAnd, MatchOption, None, Some};
 ghost use Rattle.std.specs.Prelude.{length, slice_get};
 ghost use Rattle.std.specs.Option.{option_copied};
@@ -12,34 +12,33 @@ use vortex_columns::{DType, Scalar, VortexResult};
 use vortex_functions::ScalarFnRef;
 use vortex_interface::ScalarFnVTable;
 
-/// What a node's validity is reduced to.
+/// The validity of a node.
 #[derive(Drop)]
 pub enum ReduceNodeValidity<T> {
-    /// A tree of non-nullable Bool that says whether the node is not null.
+    /// A tree of non-nullable Bool that is true where the node is not null.
     Reduced(T),
-    /// No tree says it.
+    /// There is no such tree.
     Irreducible,
 }
 
-/// A node that stands for one well-typed tree, over a caller's functions `C`.
+/// A node that represents one well-typed tree, over a caller's functions `C`.
 ///
-/// A rule that is written over it serves every kind of tree, and gives what it makes as a node of
-/// the same kind.
+/// A rule written over it works for every kind of tree; its result is a node of the same kind.
 pub trait ReduceTree<C: ScalarFnVTable>: Sized + Drop {
-    /// The context of a tree: how many rows an array tree has, and nothing for an expression.
+    /// The context of a tree: the row count of an array tree, none for an expression.
     type Context;
 
-    /// The tree that the node stands for, in its context.
+    /// The tree of the node, in its context.
     ghost seen: { Self → InContext C C.Options Self.Context };
 
-    /// That the tree is borrowed, so that walking down takes no memory.
+    /// The tree is borrowed, so walking down allocates nothing.
     ghost lent: { Self → Type 0 };
 
     /// The type of the tree's values.
     fn node_dtype(&self) -> &DType
         ensures { tree_type C.meaning (seen self.now).tree ≡ Some (type_of result.now) };
 
-    /// The function of a call; none of any other tree.
+    /// The function of a call; none for any other tree.
     fn scalar_fn(&self) -> Option<&ScalarFnRef<C>>
         ensures { MatchOption result
             (called (seen self.now).tree ≡ None)
@@ -49,7 +48,7 @@ pub trait ReduceTree<C: ScalarFnVTable>: Sized + Drop {
     fn child_count(&self) -> usize
         ensures { result ≡ length (children_of (seen self.now).tree) };
 
-    /// The child of that index, in the same context. E9 where memory is refused, and only where the
+    /// The child of that index, in the same context. E9 where an allocation fails, and only if the
     /// node is no borrowed tree.
     fn child(&self, alloc: Global, index: usize) -> VortexResult<Self>
         requires { index < length (children_of (seen self.now).tree) }
@@ -58,8 +57,8 @@ pub trait ReduceTree<C: ScalarFnVTable>: Sized + Drop {
             × ((seen node).context ≡ (seen self.now).context)) }
         ensures lent { lent self.now → IsOkAnd result lent };
 
-    /// The call of a function on nodes of the same context. E6 exactly where their count does not
-    /// fit its arity, and then E3 exactly where their types are not accepted.
+    /// The call of a function on nodes of the same context. E6 exactly if their count does not fit
+    /// its arity, then E3 exactly if their types are not accepted.
     fn new_node(
         &self,
         alloc: Global,
@@ -70,11 +69,11 @@ pub trait ReduceTree<C: ScalarFnVTable>: Sized + Drop {
         ensures { AnswersTreeCall (λ n. (seen n).tree) (λ n. (seen n).context) C.meaning
             (function_of function) children.now (seen self.now).context result };
 
-    /// The scalar of a constant; none of any other tree.
+    /// The scalar of a constant; none for any other tree.
     fn as_constant(&self) -> Option<&Scalar>
         ensures { option_copied result ≡ literal (seen self.now).tree };
 
-    /// The constant of that scalar, in the same context. E9 where memory is refused.
+    /// The constant of that scalar, in the same context. E9 where an allocation fails.
     fn new_constant(&self, alloc: Global, scalar: Scalar) -> VortexResult<Self>
         ensures { AnswersUnlessMemory result
             (λ node. seen node ≡ with_tree (seen self.now) (constant scalar)) };

@@ -1,5 +1,5 @@
-//! The rules of the null tests: the child need not be computed where it is never null, where a
-//! tree says its validity, and where it is And or Or with one operand that can be null.
+//! The rules of the null tests: the child need not be computed if it is never null, if its
+//! validity is a tree, or if it is And or Or with one operand that can be null.
 ghost use Rattle.std.specs.Prelude.{◌≡◌, IfOk, IsSome, IsTrue, Some, false};
 ghost use Rattle.std.specs.Option.{option_map};
 ghost use Rattle.vortex_types.specs.LogicalTypes.{bool_type};
@@ -30,7 +30,7 @@ pub enum NullTest {
 }
 
 impl NullTest {
-    /// What it says of a value that is not null.
+    /// The result for a value that is not null.
     fn of_no_null(self) -> bool
         ensures { result ≡ of_no_null self }
     {
@@ -40,8 +40,7 @@ impl NullTest {
         }
     }
 
-    /// The operator that joins the test of the one operand of And or Or that can be null to the
-    /// other operand.
+    /// The operator that joins the test of the nullable operand of And or Or to the other operand.
     fn joined_by(self) -> Operator
         ensures { result ≡ joined_by self }
     {
@@ -81,7 +80,7 @@ fn boolean_called<C: ScalarFnVTable, T: ReduceTree<C>>(node: &T) -> Option<Opera
     }
 }
 
-/// The operand that can be null, and then the other one, where one of the two can and one cannot.
+/// The nullable operand, then the other one, if exactly one is nullable.
 fn nullable_first<C: ScalarFnVTable, T: ReduceTree<C>>(left: T, right: T) -> Option<(T, T)>
     requires { (T.seen left).context ≡ (T.seen right).context }
     ensures { option_map (of_two T.seen) result ≡ option_map (of_two (with_tree (T.seen left)))
@@ -96,7 +95,7 @@ fn nullable_first<C: ScalarFnVTable, T: ReduceTree<C>>(left: T, right: T) -> Opt
     }
 }
 
-/// The other operand of And or Or, as it stands beside the test.
+/// The other operand of And or Or, as it is joined to the test.
 fn beside_test<C: ScalarFnVTable, T: ReduceTree<C>>(
     alloc: Global,
     test: NullTest,
@@ -117,7 +116,7 @@ fn beside_test<C: ScalarFnVTable, T: ReduceTree<C>>(
     }
 }
 
-/// The test of And or Or, by its operands.
+/// The test of And or Or, from its operands.
 fn within_operands<C: ScalarFnVTable, T: ReduceTree<C>>(
     alloc: Global,
     test: NullTest,
@@ -142,7 +141,7 @@ fn within_operands<C: ScalarFnVTable, T: ReduceTree<C>>(
     Ok(Some(made))
 }
 
-/// The test of a node that is And or Or with one operand that can be null.
+/// The test of a node that is And or Or with one nullable operand.
 fn within<C: ScalarFnVTable, T: ReduceTree<C>>(
     alloc: Global,
     test: NullTest,
@@ -160,7 +159,7 @@ fn within<C: ScalarFnVTable, T: ReduceTree<C>>(
     within_operands(alloc, test, operator, left, right)
 }
 
-/// The test, by a tree that says where its operand is not null.
+/// The test, from a tree that is true where its operand is not null.
 fn by_validity<C: ScalarFnVTable, T: ReduceTree<C>>(
     alloc: Global,
     test: NullTest,
@@ -176,10 +175,10 @@ fn by_validity<C: ScalarFnVTable, T: ReduceTree<C>>(
     }
 }
 
-/// Reduce of a null test. In order: a constant where its operand's type has no null; the operand's
-/// validity, negated for `is_null`, where a tree says it; where the operand is And or Or of `x`,
-/// which can be null, and `y`, which cannot, the test of `x` joined to `y` or `not(y)`, whichever
-/// side `x` stood on. None otherwise. E9 where memory is refused.
+/// Reduce of a null test. In order: a constant if its operand's type has no null; the operand's
+/// validity, negated for `is_null`, if it is a tree; if the operand is And or Or of `x`, which can
+/// be null, and `y`, which cannot, the test of `x` joined to `y` or `not(y)`, whichever side `x`
+/// was on. None otherwise. E9 where an allocation fails.
 pub fn reduce_null_test<C: ScalarFnRules, T: ReduceNode<C>>(
     alloc: Global,
     test: NullTest,

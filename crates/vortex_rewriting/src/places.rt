@@ -6,15 +6,15 @@ ghost use Rattle.vortex_interface.specs.Places.{rewritten_list};
 ghost use Rattle.vortex_rewriting.specs.Rewriting.{AnswersRewritten, steps_of};
 
 use crate::leaf::RewriteLeaf;
+use crate::paths::{path_down, path_up};
 use crate::rule::Rule;
 use crate::rules::ScalarFnRules;
-use crate::ways::{way_down, way_up};
 use std::alloc::Global;
 use vortex_columns::VortexResult;
 use vortex_functions::Tree;
 
-/// What the rule makes of the tree at the place that the path leads to, all else as it was. E13
-/// where the path leaves the tree, and else E9 where memory is refused.
+/// The rule's result for the tree at the place of the path, everything else unchanged. E13 if the
+/// path leaves the tree, else E9 where an allocation fails.
 pub(crate) fn made_at<C: ScalarFnRules, L: RewriteLeaf<C>>(
     alloc: Global,
     tree: &Tree<C, L>,
@@ -26,27 +26,27 @@ pub(crate) fn made_at<C: ScalarFnRules, L: RewriteLeaf<C>>(
     ensures same_rows { IfOk result
         (λ answer. IfSome answer (λ made. L.context_of made ≡ L.context_of tree.now)) }
 {
-    let way = way_down(alloc, tree, path)?;
-    // what the rule makes there has the old type, since the tree there is well typed
+    let way = path_down(alloc, tree, path)?;
+    // the rule's result has the old type, since the tree there is well typed
     let _typed = way.place.dtype();
     match L::apply(alloc, way.place, rule)? {
         None => Ok(None),
         Some(new) => {
-            let made = way_up(alloc, tree, way, new)?;
+            let made = path_up(alloc, tree, way, new)?;
             Ok(Some(made))
         }
     }
 }
 
-/// A tree that rules made, and how many of them applied.
+/// A tree after rules, and how many of them applied.
 #[derive(Drop)]
 pub struct Rewritten<T> {
     pub tree: T,
     pub applied: usize,
 }
 
-/// What rules at places make of a tree, one after another, and how many of them applied. E13 where
-/// the path of a step leaves the tree, and else E9 where memory is refused.
+/// The tree after rules at places, one after another, and how many of them applied. E13 if the path
+/// of a step leaves the tree, else E9 where an allocation fails.
 pub(crate) fn made_by<C: ScalarFnRules, L: RewriteLeaf<C>>(
     alloc: Global,
     tree: &Tree<C, L>,

@@ -17,8 +17,8 @@ use vortex_functions::{BoundExpression, ScalarFnRef};
 pub trait ReduceExpression<C: ScalarFnRules> {
     ghost function: { Self → Function C C.Options };
 
-    /// What Reduce makes of the call: of its type, and of its value in each row in which it has
-    /// one. None where no rule applies. E9 where memory is refused.
+    /// The result of Reduce for the call: of its type, and of its value in each row in which it has
+    /// one. None if no rule applies. E9 where an allocation fails.
     fn reduce_expression<'a>(
         &self,
         alloc: Global,
@@ -30,7 +30,7 @@ pub trait ReduceExpression<C: ScalarFnRules> {
         ensures kept { AnswersUnlessMemory result (λ answer. IfSome answer
             (λ made. Rewrites C.meaning (expression_of node.now) (expression_of made))) };
 
-    /// The same of Simplify.
+    /// The same for Simplify.
     fn simplify_expression(
         &self,
         alloc: Global,

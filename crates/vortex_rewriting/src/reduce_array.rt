@@ -18,8 +18,8 @@ use vortex_functions::ScalarFnRef;
 pub trait ReduceArray<C: ScalarFnRules> {
     ghost function: { Self → Function C C.Options };
 
-    /// What Reduce makes of the call: of its type and its row count, and of its value in each row
-    /// in which it has one. None where no rule applies. E9 where memory is refused.
+    /// The result of Reduce for the call: of its type and its row count, and of its value in each
+    /// row in which it has one. None if no rule applies. E9 where an allocation fails.
     fn reduce_array<'a>(
         &self,
         alloc: Global,

@@ -24,7 +24,7 @@ use vortex_functions::Tree;
 
 /// Rewriting, as methods of every tree that is rewritten.
 pub trait Rewrite<C: ScalarFnRules>: Sized + Drop {
-    /// The context of a tree: its row count, or nothing.
+    /// The context of a tree: its row count, or none.
     type Context;
 
     /// The tree.
@@ -33,12 +33,12 @@ pub trait Rewrite<C: ScalarFnRules>: Sized + Drop {
     /// Its context.
     ghost rows: { Self → Self.Context };
 
-    /// What a rule makes of a tree of this kind at its root.
+    /// The result of a rule for a tree of this kind at its root.
     ghost applied: { Rule → Tree C C.Options → Option (Tree C C.Options) };
 
-    /// What a rule makes of the tree at the place that the path of child numbers leads to, all else
-    /// as it was; None where the rule does not apply there. E13 where the path leaves the tree, and
-    /// else E9 where memory is refused.
+    /// The rule's result for the tree at the place of the path of child numbers, everything else
+    /// unchanged; None if the rule does not apply there. E13 if the path leaves the tree, else E9
+    /// where an allocation fails.
     fn rewrite_at(&self, alloc: Global, path: &[usize], rule: Rule) -> VortexResult<Option<Self>>
         ensures answer { AnswersRewritten tree (applied rule) path.now
             (tree self.now) result }
@@ -53,10 +53,10 @@ pub trait Rewrite<C: ScalarFnRules>: Sized + Drop {
         ensures same_rows { IfOk result
             (λ answer. IfSome answer (λ made. rows made ≡ rows self.now)) };
 
-    /// What rules at places make of the tree, one after another: each step, a path of child numbers
-    /// and a rule, is taken on the tree that those before it left. A step whose rule does not apply
-    /// at its place changes nothing, and is not counted. E13 where the path of a step leaves the
-    /// tree, and else E9 where memory is refused.
+    /// The tree after rules at places, one after another: each step, a path of child numbers and a
+    /// rule, is applied to the tree that the steps before it left. A step whose rule does not apply
+    /// changes nothing, and is not counted. E13 if the path of a step leaves the tree, else E9
+    /// where an allocation fails.
     fn rewrite_list(
         &self,
         alloc: Global,
@@ -76,9 +76,9 @@ pub trait Rewrite<C: ScalarFnRules>: Sized + Drop {
         ensures same_rows { IfOk result (λ made. rows made.tree ≡ rows self.now) };
 
     /// A run of steps: each rewrites the first place, children from left to right before their
-    /// parent, at which a rule applies, by Simplify before Reduce. It stops where no rule applies
-    /// anywhere, or after `limit` steps; a tree of shipped functions alone needs fewer than it
-    /// weighs. E9 where memory is refused.
+    /// parent, where a rule applies, by Simplify before Reduce. It stops where no rule applies
+    /// anywhere, or after `limit` steps; a tree of only shipped functions needs fewer than its
+    /// weight. E9 where an allocation fails.
     fn optimize_recursive(&self, alloc: Global, limit: u64) -> VortexResult<Optimized<Self>>
         ensures run { AnswersUnlessMemory result (λ o.
             Runs (first_rule applied) o.steps (tree self.now) (tree o.tree)) }

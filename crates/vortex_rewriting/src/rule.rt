@@ -1,4 +1,4 @@
-//! Which rules are meant, and what Reduce makes of a tree of either kind at its root.
+//! The two rules, and the result of Reduce for a tree of either kind at its root.
 ghost use Rattle.std.specs.Prelude.{◌≡◌, IfSome, Some};
 ghost use Rattle.std.specs.Option.{option_map};
 ghost use Rattle.vortex_functions.specs.Words.{called, function_of, AnswersUnlessMemory};
@@ -16,13 +16,13 @@ use vortex_functions::{ScalarFnRef, Tree};
 /// The rules that rewrite a tree at its root.
 #[derive(Clone, Copy, Debug, PartialEq, Eq)]
 pub enum Rule {
-    /// What Simplify makes of a call of an expression; an array tree has none.
+    /// Simplify of a call in an expression; an array tree has none.
     Simplify,
-    /// What Reduce makes of a call.
+    /// Reduce of a call.
     Reduce,
 }
 
-/// Reduce of a call of that function. E9 where memory is refused.
+/// Reduce of a call of that function. E9 where an allocation fails.
 pub(crate) fn reduce_tree<C: ScalarFnRules, L: RuleLeaf<C>>(
     alloc: Global,
     function: &ScalarFnRef<C>,

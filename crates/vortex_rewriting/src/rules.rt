@@ -1,4 +1,4 @@
-//! The rules of callers' functions, and nodes that tell their validity.
+//! The rules of callers' functions, and nodes that know their validity.
 ghost use Rattle.std.specs.Prelude.{◌≡◌, Some};
 ghost use Rattle.vortex_interface.specs.Functions.{custom};
 ghost use Rattle.vortex_interface.specs.Rewrites.{LawfulRules};
@@ -14,12 +14,12 @@ use vortex_interface::ScalarFnVTable;
 
 /// The rules of a caller's function.
 ///
-/// What they say is the ghost member `rules` of the interface, of trees as values; the calls answer
-/// what it says of the tree that a node stands for, and refuse for memory alone. The member is
-/// lawful: what a call is rewritten to has its type and its values, and its validity says where it
-/// is null. A function without rules answers `Ok(None)`, and `default_validity`.
+/// Their meaning is the ghost member `rules` of the interface, over trees as values; the calls
+/// return what it gives for the tree of a node, and fail only where memory runs out. The member is
+/// lawful: a rewritten call has its type and its values, and its validity is true where it is not
+/// null. A function without rules returns `Ok(None)`, and `default_validity`.
 pub trait ScalarFnRules: ScalarFnVTable {
-    /// What a call of this function with these options is reduced to, if a rule applies.
+    /// The reduced call of this function with these options, if a rule applies.
     fn reduce<T: ReduceTree<Self>>(
         &self,
         alloc: Global,
@@ -30,7 +30,7 @@ pub trait ScalarFnRules: ScalarFnVTable {
         ensures { AnswersUnlessMemory result
             (IsReducedBy Self.meaning Self.rules T.seen (T.seen node.now)) };
 
-    /// Where such a call is not null, if a tree says it.
+    /// The validity of such a call, if it is a tree.
     fn validity<T: ReduceTree<Self>>(
         &self,
         alloc: Global,
@@ -41,7 +41,7 @@ pub trait ScalarFnRules: ScalarFnVTable {
         ensures { AnswersUnlessMemory result
             (IsValidityBy Self.meaning Self.rules T.seen (T.seen node.now)) };
 
-    /// What such a call of an expression is simplified to, if a rule applies.
+    /// The simplified call of an expression, if a rule applies.
     fn simplify(
         &self,
         alloc: Global,
@@ -57,9 +57,9 @@ pub trait ScalarFnRules: ScalarFnVTable {
     ghost own_identity: { (f : Self) → IsOwnIdentity (Self.meaning.id f) };
 }
 
-/// A node that tells its validity too.
+/// A node that also knows its validity.
 pub trait ReduceNode<C: ScalarFnRules>: ReduceTree<C> {
-    /// Where the node is not null, if a tree says it. E9 where memory is refused.
+    /// The node's validity, if it is a tree. E9 where an allocation fails.
     fn validity(&self, alloc: Global) -> VortexResult<ReduceNodeValidity<Self>>
         ensures { AnswersUnlessMemory result
             (IsValidityBy C.meaning C.rules Self.seen (Self.seen self.now)) };

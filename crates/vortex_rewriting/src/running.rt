@@ -12,13 +12,13 @@ use vortex_columns::{Column, ExecutionCtx, VortexResult};
 use vortex_functions::{ArrayRef, BoundExpression};
 
 /// The rows, over columns, of the tree that a run of at most `limit` steps leads to: in each row in
-/// which the tree itself has a value they are that value. Where the run leads to a lone leaf, its
+/// which the tree itself has a value they are that value. If the run leads to a lone leaf, its
 /// column is borrowed.
 ///
-/// In order: E11 where a leaf of the tree itself has a column that is missing or of another type,
-/// though a step would drop the leaf; E2 where a column has not `row_count` rows, with `left` the
+/// In order: E11 if the column of a leaf of the tree itself is missing or of another type, even
+/// if a step would drop the leaf; E2 if a column has not `row_count` rows, with `left` the
 /// row count and `right` the length of the first such column; then the fault of the first call, in
-/// post-order, of the tree that the run leads to. Where that faults the tree itself does, in the
+/// post-order, of the tree that the run leads to. If that faults the tree itself does, in the
 /// same row.
 pub fn run<'a, C: ScalarFnRules>(
     tree: &BoundExpression<C>,
@@ -29,14 +29,14 @@ pub fn run<'a, C: ScalarFnRules>(
 ) -> VortexResult<Cow<'a, Column>>
     ensures { AnswersRun C.meaning C.rules limit columns.now row_count tree.now result }
 {
-    // it says that the tree is well typed, and that each literal has its type
+    // proves that the tree is well typed, and that each literal has its type
     let _typed = tree.dtype();
     tree.check_columns(columns, row_count, ctx)?;
     let optimized = take_steps(ctx.alloc(), tree, limit)?;
     optimized.tree.execute(columns, row_count, ctx)
 }
 
-/// The column itself, copied where it is borrowed. E9 where memory is refused.
+/// The column itself, copied if it is borrowed. E9 where an allocation fails.
 fn own_column(alloc: Global, column: Cow<'_, Column>) -> VortexResult<Column>
     ensures { AnswersUnlessMemory result (λ own. own ≡ cow_value column.entry) }
 {
@@ -47,9 +47,9 @@ fn own_column(alloc: Global, column: Cow<'_, Column>) -> VortexResult<Column>
 }
 
 /// The rows of the array tree that a run of at most `limit` steps leads to: in each row in which
-/// the tree itself has a value they are that value. Refused with the fault of the first call, in
-/// post-order, of the tree that the run leads to; where that faults the tree itself does, in the
-/// same row.
+/// the tree itself has a value they are that value. Fails with the fault of the first call, in
+/// post-order, of the tree that the run leads to; if that faults the tree itself does, in the same
+/// row.
 pub fn run_array<C: ScalarFnRules>(
     tree: &ArrayRef<C>,
     limit: u64,
@@ -57,7 +57,7 @@ pub fn run_array<C: ScalarFnRules>(
 ) -> VortexResult<Column>
     ensures { AnswersRunOfArray C.meaning C.rules limit tree.now result }
 {
-    // it says that the tree is well typed, and that what it holds has values of its types
+    // proves that the tree is well typed, and that its contents have values of their types
     let _typed = tree.dtype();
     let optimized = take_steps(ctx.alloc(), tree, limit)?;
     let column = optimized.tree.execute(ctx)?;

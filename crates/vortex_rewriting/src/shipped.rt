@@ -1,4 +1,4 @@
-//! The rules of the shipped functions, as calls of their own.
+//! The rules of the shipped functions, callable separately.
 ghost use Rattle.std.specs.Prelude.{◌≡◌, Some};
 ghost use Rattle.vortex_functions.specs.Words.{ours, called, AnswersUnlessMemory};
 ghost use Rattle.vortex_rewriting.specs.Reduced.{IsReducedBy, IsSimplifiedBy, IsValidityBy};
@@ -10,10 +10,10 @@ use std::alloc::Global;
 use vortex_columns::VortexResult;
 use vortex_functions::{BoundExpression, ScalarFnVTableExt};
 
-/// The rules of a shipped function, in trees over every caller's functions: what the table of rules
-/// has for a call of it with these options. E9 where memory is refused.
+/// The rules of a shipped function, in trees over any caller's functions: the table of rules for a
+/// call of it with these options. E9 where an allocation fails.
 pub trait ShippedRules: ScalarFnVTableExt {
-    /// What a node is reduced to, if a rule applies.
+    /// The reduced node, if a rule applies.
     final fn reduce<C: ScalarFnRules, T: ReduceNode<C>>(
         &self,
         alloc: Global,
@@ -28,7 +28,7 @@ pub trait ShippedRules: ScalarFnVTableExt {
         reduce_call(alloc, &self.bind(options), node)
     }
 
-    /// Where a node is not null, if a tree says it.
+    /// The validity of a node, if it is a tree.
     final fn validity<C: ScalarFnRules, T: ReduceTree<C>>(
         &self,
         alloc: Global,
@@ -43,7 +43,7 @@ pub trait ShippedRules: ScalarFnVTableExt {
         validity_call(alloc, &self.bind(options), node)
     }
 
-    /// What a call of an expression is simplified to, if a rule applies.
+    /// The simplified call of an expression, if a rule applies.
     final fn simplify<C: ScalarFnRules>(
         &self,
         alloc: Global,

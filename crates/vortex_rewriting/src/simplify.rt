@@ -17,7 +17,7 @@ use vortex_columns::{DType, Nullability, Scalar, VortexResult};
 use vortex_interface::ScalarFnVTable;
 use vortex_operators::Operator;
 
-/// Whether the node is a literal that is null.
+/// Whether the node is a null literal.
 fn is_null_literal<C: ScalarFnVTable, T: ReduceTree<C>>(node: &T) -> bool
     ensures { result ≡ is_null_literal (T.seen node.now).tree }
 {
@@ -30,7 +30,7 @@ fn is_null_literal<C: ScalarFnVTable, T: ReduceTree<C>>(node: &T) -> bool
     }
 }
 
-/// A comparison by its operands: null beside a null literal.
+/// A comparison from its operands: null if one is a null literal.
 fn simplify_comparison<C: ScalarFnVTable, T: ReduceTree<C>>(
     alloc: Global,
     left: T,
@@ -60,7 +60,7 @@ fn left_of_nulls<C: ScalarFnVTable, T: ReduceTree<C>>(left: T, right: T) -> Opti
     }
 }
 
-/// And or Or by its operands: a literal that decides, on either side, the other operand beside one
+/// And or Or from its operands: a literal that decides, on either side, the other operand for one
 /// that does not, or the left of two nulls.
 fn simplify_operands<C: ScalarFnVTable, T: ReduceTree<C>>(
     alloc: Global,
@@ -98,9 +98,9 @@ fn simplify_operands<C: ScalarFnVTable, T: ReduceTree<C>>(
     }
 }
 
-/// Simplify of a call of an operator: a comparison with a null literal is null, and And and Or
-/// beside a literal are a literal or the other operand, cast where only the node is nullable. None
-/// where no rule applies; arithmetic has none. E9 where memory is refused.
+/// Simplify of a call of an operator: a comparison with a null literal is null; And and Or with a
+/// literal are a literal or the other operand, cast if only the node is nullable. None if no rule
+/// applies; arithmetic has none. E9 where an allocation fails.
 pub fn simplify_operator<C: ScalarFnVTable, T: ReduceTree<C>>(
     alloc: Global,
     operator: Operator,

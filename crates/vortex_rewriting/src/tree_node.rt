@@ -16,7 +16,7 @@ use vortex_functions::tree::{Leaf, Tree};
 use vortex_functions::{ArrayRef, BoundExpression, ScalarFnRef};
 use vortex_interface::ScalarFnVTable;
 
-/// A node that stands for a tree, borrowed or its own. Walking a borrowed one copies nothing.
+/// A node that represents a tree, borrowed or owned. Walking a borrowed one copies nothing.
 pub struct TreeReduceNode<'a, T: Drop> {
     tree: Cow<'a, T>,
 }
@@ -47,7 +47,7 @@ impl<'a, T: Drop> TreeReduceNode<'a, T> {
         TreeReduceNode { tree }
     }
 
-    /// The tree that it stands for.
+    /// The tree of the node.
     pub fn tree(&self) -> &T
         ensures { result.now ≡ cow_value self.now.tree }
     {
@@ -57,7 +57,7 @@ impl<'a, T: Drop> TreeReduceNode<'a, T> {
         }
     }
 
-    /// The same by value, borrowed or its own.
+    /// The same by value, borrowed or owned.
     fn into_cow(self) -> Cow<'a, T>
         ensures { result ≡ self.entry.tree }
     {
@@ -67,15 +67,15 @@ impl<'a, T: Drop> TreeReduceNode<'a, T> {
 }
 
 impl<'a, C: ScalarFnVTable> TreeReduceNode<'a, BoundExpression<C>> {
-    /// The expression that it stands for.
+    /// The expression of the node.
     pub fn expression(&self) -> &BoundExpression<C>
         ensures { result.now ≡ cow_value self.now.tree }
     {
         self.tree()
     }
 
-    /// The expression that it stood for. A borrowed one is copied, and so can answer E9; one of its
-    /// own takes no memory.
+    /// The expression of the node. A borrowed one is copied, so E9 is possible; an owned one
+    /// allocates nothing.
     pub fn into_expression(self, alloc: Global) -> VortexResult<BoundExpression<C>>
         ensures answer { AnswersUnlessMemory result (λ e. e ≡ cow_value self.entry.tree) }
         ensures owned { IsOwned self.entry.tree → IsOk result }
@@ -85,15 +85,15 @@ impl<'a, C: ScalarFnVTable> TreeReduceNode<'a, BoundExpression<C>> {
 }
 
 impl<'a, C: ScalarFnVTable> TreeReduceNode<'a, ArrayRef<C>> {
-    /// The array tree that it stands for.
+    /// The array tree of the node.
     pub fn array(&self) -> &ArrayRef<C>
         ensures { result.now ≡ cow_value self.now.tree }
     {
         self.tree()
     }
 
-    /// The array tree that it stood for. A borrowed one is copied, and so can answer E9; one of its own
-    /// takes no memory.
+    /// The array tree of the node. A borrowed one is copied, so E9 is possible; an owned one
+    /// allocates nothing.
     pub fn into_array(self, alloc: Global) -> VortexResult<ArrayRef<C>>
         ensures answer { AnswersUnlessMemory result (λ a. a ≡ cow_value self.entry.tree) }
         ensures owned { IsOwned self.entry.tree → IsOk result }
@@ -102,7 +102,7 @@ impl<'a, C: ScalarFnVTable> TreeReduceNode<'a, ArrayRef<C>> {
     }
 }
 
-/// The tree that a node stood for, copied where it is borrowed.
+/// The tree of a node, copied if it is borrowed.
 pub(crate) fn into_tree<'a, C: ScalarFnVTable, L: Leaf<C, C::Options>>(
     alloc: Global,
     node: TreeReduceNode<'a, Tree<C, L>>,
@@ -116,7 +116,7 @@ pub(crate) fn into_tree<'a, C: ScalarFnVTable, L: Leaf<C, C::Options>>(
     }
 }
 
-/// Copies of what nodes stand for.
+/// Copies of the trees of nodes.
 fn copies_of<'a, C: ScalarFnVTable, L: Leaf<C, C::Options>>(
     alloc: Global,
     nodes: &[TreeReduceNode<'a, Tree<C, L>>],

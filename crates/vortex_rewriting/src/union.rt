@@ -1,4 +1,4 @@
-//! The union of the children's validities: a tree that says where no child is null.
+//! The union of the children's validities: a tree that is true where no child is null.
 ghost use Rattle.std.specs.Prelude.{◌≡◌, IfOk, Some, false, map, true};
 ghost use Rattle.vortex_types.specs.LogicalTypes.{bool_type};
 ghost use Rattle.vortex_operators.specs.declared.operators.Operator.TheVariants.{And};
@@ -69,7 +69,7 @@ fn both<C: ScalarFnVTable, T: ReduceTree<C>>(alloc: Global, left: T, right: T) -
     call_on_two(alloc, ScalarFnRef::Binary(Operator::And), left, right)
 }
 
-/// One more test, as the right operand beside the last of those joined; alone where there is none.
+/// One more test, as the right operand with the last joined one; or alone if there is none.
 fn join_last<C: ScalarFnVTable, T: ReduceTree<C>>(
     alloc: Global,
     node: &T,
@@ -136,9 +136,9 @@ fn all_of<C: ScalarFnVTable, T: ReduceTree<C>>(
     }
 }
 
-/// A node that says of each row whether no child of the node is null there: the null tests of the
-/// nullable children, joined by And. The constant true where no child is nullable. E9 where memory
-/// is refused.
+/// A node that is true in each row where no child of the node is null: the null tests of the
+/// nullable children, joined by And. The constant true if no child is nullable. E9 where an
+/// allocation fails.
 pub fn union_child_validities<C: ScalarFnVTable, T: ReduceTree<C>>(
     alloc: Global,
     node: &T,

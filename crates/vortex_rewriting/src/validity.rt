@@ -1,4 +1,4 @@
-//! The validity that a call has by the types of its children alone.
+//! The validity of a call that depends only on the types of its children.
 ghost use Rattle.std.specs.Prelude.{◌≡◌, IsTrue, Some, length, map};
 ghost use Rattle.std.specs.List.{list_any};
 ghost use Rattle.std.specs.Option.{option_map};
@@ -58,8 +58,8 @@ fn any_is_null_type(dtypes: &[DType]) -> bool
     false
 }
 
-/// Whether a call over arguments of these types may be null: where its type is nullable, or the
-/// types are not accepted.
+/// Whether a call over arguments of these types may be null: its type is nullable, or the types are
+/// not accepted.
 fn may_be_null<C: ScalarFnVTable>(
     alloc: Global,
     function: &ScalarFnRef<C>,
@@ -78,8 +78,9 @@ fn may_be_null<C: ScalarFnVTable>(
 }
 
 /// The validity of a call of a strict function: the union of its children's, unless a child's type
-/// is Null, or the call may be null though no child is. That is asked of the function by the
-/// children's types made non-nullable. Irreducible for any other call. E9 where memory is refused.
+/// is Null, or the call may be null though no child is. To know this the function is called with
+/// the children's types made non-nullable. Irreducible for any other call. E9 where an allocation
+/// fails.
 pub fn default_validity<C: ScalarFnVTable, T: ReduceTree<C>>(
     alloc: Global,
     function: &ScalarFnRef<C>,

@@ -1,5 +1,5 @@
-//! What follows from the meaning of values, operators, patterns, functions and trees. These
-//! functions do nothing: their contracts are proved.
+//! Laws of the meaning of values, operators, patterns, functions and trees. The functions are
+//! empty: their contracts are the laws, proved.
 
 pub use vortex_arrays::laws::{
     arrays_err_where_arithmetic_does, errs_where_rows_fault, rows_are_of_rows,

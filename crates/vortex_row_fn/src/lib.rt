@@ -1,4 +1,4 @@
-//! Row functions over columns: what the crates below offer, under one name.
+//! Row functions over columns: re-exports the crates below under one name.
 #![tactic(auto)]
 
 pub mod laws;

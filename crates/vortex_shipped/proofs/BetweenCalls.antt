@@ -1,4 +1,4 @@
--- From the answer of Between over its inputs to that of its call.
+-- From the result of Between over its inputs to that of its call.
 use Rattle.std.proofs.Common.{◌≡◌, ℕ, Bool, true, false, List, [], ◌∷◌, length, get_or, Some}
 use Rattle.std.proofs.Common.{None, refl, ap, arith, cond, subst}
 use Rattle.std.specs.Prelude.{IsSome, slice_get, ◌&&◌, Result}

@@ -1,4 +1,4 @@
--- From the answer of a kernel over two operands to that of the operator's call.
+-- From the result of a kernel over two operands to that of the operator's call.
 use Rattle.std.proofs.Common.{◌≡◌, ℕ, Bool, true, false, List, [], ◌∷◌, length, Some, None, refl, sym}
 use Rattle.std.proofs.Common.{ap, ◌∙◌, subst, cond}
 use Rattle.std.specs.Prelude.{IsSome, slice_get, ◌||◌, ◌&&◌, Result}
@@ -107,7 +107,7 @@ never_refused op cs l r e two (no_bools o p q) =
     let b = two.right in
     let k : are_bools l r ≡ true = (λ i. a i && b i) in cc
 
--- And or Or of a call's inputs answers the call
+-- And or Or of a call's inputs is the call's result
 pub boolean_call : (op : Operator) (cs : List ColumnView) (l r : ColumnView) (n : ℕ)
     (answer : Result ColumnView VortexError)
     → TwoBools op cs l r → length l.rows ≡ n
@@ -186,7 +186,7 @@ never_unlike : (op : Operator) (compare : CompareOperator) (cs : List ColumnView
 never_unlike op compare cs l r e two same (uneven p q) = p same
 never_unlike op compare cs l r e two same (unlike p s u q) = let k = two.alike in cc
 
--- a comparison of a call's inputs answers the call
+-- a comparison of a call's inputs is the call's result
 pub comparison_call : (op : Operator) (compare : CompareOperator) (cs : List ColumnView)
     (l r : ColumnView) (n : ℕ) (answer : Result ColumnView VortexError)
     → TwoAlike op compare cs l r → length l.rows ≡ n → length r.rows ≡ n

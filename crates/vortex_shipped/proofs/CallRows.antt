@@ -1,4 +1,4 @@
--- From rows that a kernel tells one by one to those of a call.
+-- From the rows of a kernel, one by one, to those of a call.
 use Rattle.std.proofs.Common.{◌≡◌, ℕ, ◌<◌, List, Some, sym, ap, ◌∙◌, arith}
 use Rattle.std.specs.Prelude.{Result}
 use Rattle.vortex_errors.specs.declared.error.VortexError.{VortexError}
@@ -12,7 +12,7 @@ use Rattle.vortex_interface.specs.Outcomes.{gives, HasCallRows, IsCallFault, typ
 use Rattle.vortex_interface.specs.Shipped.{Shipped, shipped_type, shipped_means}
 use Rattle.vortex_interface.specs.Answering.{AnswersShipped}
 
--- of a function over inputs of n rows, in each of which it gives a value
+-- for a function over inputs of n rows that gives a value in each
 module _ (s : Shipped) (cs ds : List ColumnView) (given : cs ≡ ds) (n k : ℕ) (e : k ≡ n)
     (t : LogicalType) (value : ℕ → Value) (typed : shipped_type s (types_in ds) ≡ Some t)
     (means : (i : ℕ) → call_row (shipped_means s) ds i ≡ gives (value i)) where
@@ -28,7 +28,7 @@ module _ (s : Shipped) (cs ds : List ColumnView) (given : cs ≡ ds) (n k : ℕ)
         ap (λ xs. call_row (shipped_means s) xs i) given ∙ means i ∙ ap gives (sym (h.each i within));
   }
 
-  -- of an answer that is refused for memory alone
+  -- for a result that fails only where memory runs out
   pub call_answered : (answer : Result ColumnView VortexError)
       → AnswersUnlessMemory answer (HasRows t k value) → AnswersShipped s cs n answer
   call_answered answer h =

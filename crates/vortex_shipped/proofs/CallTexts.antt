@@ -1,4 +1,4 @@
--- The text of a call that is written part by part, over the texts of its arguments.
+-- The text of a call that is written part by part, with the texts of its arguments.
 use Rattle.std.proofs.Common.{◌≡◌, ℕ, zero, suc, ◌-◌, ◌<◌, ◌≤◌, length, map, List, ◌++◌, refl, sym}
 use Rattle.std.proofs.Common.{ap, ◌∙◌, arith, string_bytes, subst, inr}
 use Rattle.std.specs.Prelude.{Some, Result, String}
@@ -21,7 +21,7 @@ module _ (s : Shipped) where
   abbrev left_from : ℕ → ℕ → List (List ℕ) → List ℕ
   left_from k left texts = told (shipped_before s) (shipped_printed s) k left texts
 
-  -- with the parts that are left it is the whole text
+  -- with the remaining parts it is the whole text
   abbrev pub IsTold : List (List ℕ) → List ℕ → ℕ → List ℕ → Type 0
   IsTold texts old k out =
       out ++ left_from k (suc (length texts) - k) texts ≡ old ++ shipped_text s texts
@@ -54,7 +54,7 @@ module _ (s : Shipped) where
       told_past (shipped_before s) (shipped_printed s) k (suc (length texts)) texts (omega arith) in
       sym (append-nil out) ∙ ap (λ bs. out ++ bs) (sym nothing) ∙ h
 
-  -- what its calls write, as the interface has it
+  -- what its calls write, as in the interface
   abbrev Interface : interface.Parts
   Interface = IsDefaultOrOwn (shipped_id s) (Some (shipped_options_text s)) (shipped_parts s)
 

@@ -1,4 +1,4 @@
--- From Cast's answer over its input to that of its call.
+-- From Cast's result over its input to that of its call.
 use Rattle.std.proofs.Common.{◌≡◌, ℕ, true, List, [], ◌∷◌, length, Some, refl}
 use Rattle.std.specs.Prelude.{IsSome, slice_get, Result}
 use Rattle.vortex_errors.specs.declared.error.VortexError.{VortexError}
@@ -14,7 +14,7 @@ use Rattle.vortex_interface.specs.Answering.{AnswersShipped}
 use Rattle.vortex_shipped.proofs.CallRows.{call_answered}
 use Rattle.vortex_shipped.proofs.NotCalls.{OneBool, one_bool}
 
--- Cast takes what Not takes
+-- Cast takes the same types as Not
 taken_by_not : (ts : List LogicalType) → IsSome (cast_type ts) → IsSome (not_type ts)
 taken_by_not (bool_type n ∷ []) h = refl
 taken_by_not ts h = cc

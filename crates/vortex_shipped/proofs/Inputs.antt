@@ -1,4 +1,4 @@
--- The inputs of a call, by how many there are and what each is.
+-- The inputs of a call, by their number and each one.
 use Rattle.std.proofs.Common.{◌≡◌, List, [], ◌∷◌, length, Some, arith}
 use Rattle.std.specs.Prelude.{slice_get}
 

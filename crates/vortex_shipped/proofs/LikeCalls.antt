@@ -1,4 +1,4 @@
--- From LIKE's answer over its two inputs to that of its call.
+-- From LIKE's result over its two inputs to that of its call.
 use Rattle.std.proofs.Common.{◌≡◌, ℕ, true, List, [], ◌∷◌, length, Some, refl, subst}
 use Rattle.std.specs.Prelude.{IsSome, slice_get, ◌||◌, Result}
 use Rattle.vortex_errors.specs.declared.error.VortexError.{VortexError}
@@ -42,7 +42,7 @@ like_type_is : (a b : LogicalType) → is_text_type a ≡ true → is_text_type 
 like_type_is (text_type n) (text_type m) h k = refl
 like_type_is a b h k = cc
 
--- LIKE of a call's inputs answers the call
+-- LIKE of a call's inputs is the call's result
 pub like_call : (options : LikeOptions) (cs : List ColumnView) (l r : ColumnView) (n : ℕ)
     → TwoTexts cs l r → (answer : Result ColumnView VortexError) → length l.rows ≡ n
     → AnswersUnlessMemory answer (HasLikeRows options l r)

@@ -1,4 +1,4 @@
--- From Not's answer over its input to that of its call.
+-- From Not's result over its input to that of its call.
 use Rattle.std.proofs.Common.{◌≡◌, ℕ, true, List, [], ◌∷◌, length, Some, refl, subst}
 use Rattle.std.specs.Prelude.{IsSome, slice_get, Result}
 use Rattle.vortex_errors.specs.declared.error.VortexError.{VortexError}

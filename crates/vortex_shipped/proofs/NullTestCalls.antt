@@ -1,4 +1,4 @@
--- From the answer of a null test over its input to that of its call.
+-- From the result of a null test over its input to that of its call.
 use Rattle.std.proofs.Common.{◌≡◌, ℕ, Bool, false, List, [], ◌∷◌, length, map, Option, Some, None}
 use Rattle.std.proofs.Common.{Ok, Err, refl, sym, subst}
 use Rattle.std.specs.Prelude.{slice_get, Result}
@@ -19,7 +19,7 @@ use Rattle.vortex_interface.specs.OptionBytes.{ReadsOptions, MayReadOptions}
 use Rattle.vortex_shipped.proofs.CallRows.{call_answered}
 use Rattle.vortex_shipped.proofs.Inputs.{one_input}
 
--- of either null test
+-- for either null test
 pub null_test_call : (negated : Bool) (cs : List ColumnView) (c : ColumnView) (n : ℕ)
     (answer : Result ColumnView VortexError)
     → length cs ≡ 1 → slice_get cs 0 ≡ Some c → length c.rows ≡ n
@@ -30,7 +30,7 @@ null_test_call negated cs c n answer one input e h =
     e (bool_type false) (λ i. truth (null_test_value negated (row c.rows i))) refl (λ i. refl)
     answer h
 
--- what refuses exactly where nothing is read, and what refuses no types, do what the interface says
+-- an error exactly where nothing is read, and accepting all types, are as in the interface
 pub may_read : {O : Type 0} (found : Option O) (r : Result O VortexError) → ReadsOptions found r
     → MayReadOptions found r
 may_read found (Ok o) h = h

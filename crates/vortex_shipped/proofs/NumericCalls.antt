@@ -1,4 +1,4 @@
--- From the answer of arithmetic over two columns to that of the operator's call.
+-- From the result of arithmetic over two columns to that of the operator's call.
 use Rattle.std.proofs.Common.{◌≡◌, ℕ, ◌<◌, List, [], ◌∷◌, length, Option, Some, None, refl, sym, ap}
 use Rattle.std.proofs.Common.{◌∙◌, subst, arith}
 use Rattle.std.specs.Prelude.{IsSome, slice_get, ◌||◌, Result}
@@ -102,7 +102,7 @@ module _ (op : Operator) (o : NumericOperator) (cs : List ColumnView) (l r : Col
     told = is;
   }
 
-  -- arithmetic of a call's inputs answers the call
+  -- arithmetic of a call's inputs is the call's result
   pub numeric_call : (answer : Result ColumnView VortexError)
       → length l.rows ≡ n → length r.rows ≡ n
       → Answers answer (AnswersNumeric o l r) (RefusesNumeric o l r)

@@ -117,7 +117,7 @@ asked_back n c (Some e) h = by (e == backslash) refl
 like_back : (o : LikeOptions) → HasCharacter o → like_read (like_bytes o) ≡ Some o
 like_back o h = asked_back o.negated o.case_insensitive o.escape h
 
--- options that are read of two bits have these, and that escape
+-- options read from two bits have these, and that escape
 pub record HasBits (b : ℕ) (escape : Option ℕ) (o : LikeOptions) : Type 0 where
   pub bits : b ≡ two_bits o.negated o.case_insensitive
   pub kept : o.escape ≡ escape
@@ -135,7 +135,7 @@ has_bits (suc (suc zero)) escape o e = has_asked false true 2 escape o refl (cc)
 has_bits (suc (suc (suc zero))) escape o e = has_asked true true 3 escape o refl (cc)
 has_bits (suc (suc (suc (suc b)))) escape o e = cc
 
--- an escape that is read stands there as its four bytes
+-- an escape that is read is in the bytes as its four bytes
 escape_alone : (number : List ℕ) (e : ℕ) → escape_read number ≡ Some e
     → (number ≡ to_be_bytes w32 e) × ((e == backslash) ≡ false)
 escape_alone number e is =

@@ -1,4 +1,4 @@
--- A type that is found for argument types, or none.
+-- A type for argument types, or none.
 use Rattle.std.specs.Prelude.{◌≡◌, Option, Some, None, MatchOption}
 use Rattle.vortex_types.specs.declared.dtype.DType.{DType}
 use Rattle.vortex_types.specs.LogicalTypes.{LogicalType}

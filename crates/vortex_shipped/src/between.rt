@@ -1,4 +1,4 @@
-//! Between: whether a value lies between two bounds.
+//! Between: whether a value is between two bounds.
 ghost use Rattle.std.specs.Prelude.{◌≡◌, Some, length, map};
 ghost use Rattle.vortex_interface.specs.Shipped as shipped;
 ghost use Rattle.vortex_shipped.specs.Words.{no_rules, AnswersUnlessMemory};
@@ -16,10 +16,10 @@ use vortex_columns::{
 use vortex_interface::{ChildName, ExecutionArgs, ScalarFnId, ScalarFnVTable};
 use vortex_kernels::{BetweenOptions, execute_between};
 
-/// Whether each row lies between its bounds, of a type that all three share apart from nullability,
+/// Whether each row is between its bounds, of a type that all three share apart from nullability,
 /// by the order of
-/// values: Kleene's And of the two comparisons, so that a row beside one null bound can still be
-/// false. The answer is nullable if any of the three is.
+/// values: Kleene's And of the two comparisons, so a row with one null bound can still be
+/// false. The result is nullable if any of the three is.
 #[derive(Clone, Drop)]
 pub struct Between;
 
@@ -47,7 +47,7 @@ impl ScalarFnVTable for Between {
         write_byte(alloc, options.to_byte())
     }
 
-    /// E8 exactly for bytes that are written of no options; takes no memory.
+    /// E8 exactly if no options are written as these bytes; allocates nothing.
     fn deserialize(&self, _alloc: Global, bytes: &[u8]) -> VortexResult<BetweenOptions>
         ensures { ReadsOptions (between_read bytes.now) result }
     {

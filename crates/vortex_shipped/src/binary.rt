@@ -21,12 +21,12 @@ use vortex_kernels::{Operator, execute_boolean, execute_compare, execute_numeric
 
 /// And and Or of two Bool, by Kleene's tables; the comparisons of two types that agree apart from
 /// nullability, by the order of values; and exact arithmetic of two operands of one integer type
-/// apart from nullability, which is E7 where in some row both are there and the type does not hold
-/// the result. The answer is nullable if either operand is.
+/// apart from nullability, which is E7 if in some row both are present and the type does not hold
+/// the result. The result is nullable if either operand is.
 #[derive(Clone, Drop)]
 pub struct Binary;
 
-/// Where the types of an operator are refused.
+/// The place in E3 for the types of an operator.
 fn mismatch_place(operator: Operator) -> MismatchPlace
     ensures { result ≡ operator_place operator }
 {
@@ -81,7 +81,7 @@ fn arithmetic_dtype(types: &[DType]) -> Option<DType>
     }
 }
 
-/// The type of an operator's answer, where it accepts the operands.
+/// The return type of an operator, if it accepts the operands.
 fn operator_dtype(operator: Operator, types: &[DType]) -> Option<DType>
     ensures { IsTypeFound (operator_type operator (map type_of types.now)) result }
 {
@@ -120,7 +120,7 @@ impl ScalarFnVTable for Binary {
         write_byte(alloc, operator.to_byte())
     }
 
-    /// E8 exactly for bytes that are written of no options; takes no memory.
+    /// E8 exactly if no options are written as these bytes; allocates nothing.
     fn deserialize(&self, _alloc: Global, bytes: &[u8]) -> VortexResult<Operator>
         ensures { ReadsOptions (operator_read bytes.now) result }
     {

@@ -1,4 +1,4 @@
-//! Cast of Bool to the nullable one.
+//! Cast of Bool to nullable Bool.
 ghost use Rattle.std.specs.Prelude.{[], Some};
 ghost use Rattle.vortex_interface.specs.Shipped as shipped;
 ghost use Rattle.vortex_shipped.specs.Words.{no_rules, AnswersUnlessMemory};
@@ -15,7 +15,7 @@ use vortex_columns::{
 use vortex_interface::{ChildName, ExecutionArgs, ScalarFnId, ScalarFnVTable};
 use vortex_kernels::execute_cast;
 
-/// The options of Cast: none but the type that it answers, by which they print.
+/// The options of Cast: only the return type, which is printed.
 #[derive(Clone, Debug, PartialEq, Eq, Hash, Drop)]
 pub struct CastOptions;
 
@@ -23,7 +23,7 @@ impl CastOptions {
     ghost use Rattle.std.specs.Prelude.{◌≡◌};
     ghost use Rattle.vortex_shipped.specs.Words.{cast_options_text};
 
-    /// `bool?`, the type of the answer.
+    /// `bool?`, the return type.
     pub fn text(&self) -> &'static str
         ensures { result.now ≡ cast_options_text }
     {
@@ -42,7 +42,7 @@ impl fmt::Display for CastOptions {
     }
 }
 
-/// A Bool, nullable or not, as a nullable one; values and nulls stay.
+/// A Bool, nullable or not, as a nullable one; values and nulls are unchanged.
 #[derive(Clone, Drop)]
 pub struct Cast;
 
@@ -70,7 +70,7 @@ impl ScalarFnVTable for Cast {
         Ok(Some(Vec::new(alloc)))
     }
 
-    /// Any bytes are read; takes no memory.
+    /// Accepts any bytes; allocates nothing.
     fn deserialize(&self, _alloc: Global, _bytes: &[u8]) -> VortexResult<CastOptions>
         ensures { ReadsOptions (Some (record {})) result }
     {

@@ -1,4 +1,4 @@
-//! The shipped row functions, one module each: what a call answers, its type, its marks and its
+//! The shipped row functions, one module each: what a call returns, its type, its marks and its
 //! text.
 #![tactic(auto)]
 

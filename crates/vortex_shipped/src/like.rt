@@ -18,12 +18,12 @@ use vortex_like::{LikeOptions, execute_like};
 
 /// Whether a text matches a pattern of SQL's LIKE, whose `escape` is the backslash by default,
 /// another character or none; with `case_insensitive` ILIKE, by Unicode's simple case folding, one
-/// character at a time; turned over where `negated`. Bool of two Utf8, nullable if either is, and
-/// null where either is; a null row's pattern is not read.
+/// character at a time; negated if `negated`. Bool for two Utf8, nullable if either is, and null
+/// where either is. A null row's pattern is not read.
 #[derive(Clone, Drop)]
 pub struct Like;
 
-/// What stands between the two arguments, as ` not like `.
+/// The words between the two arguments, as ` not like `.
 fn words(options: &LikeOptions) -> &'static str
     ensures { result.now ≡ like_words options.now }
 {
@@ -35,8 +35,8 @@ fn words(options: &LikeOptions) -> &'static str
     }
 }
 
-/// Writes what stands behind the two arguments: nothing where the escape is the backslash, and else
-/// the escape between quotes, as it stands.
+/// Writes what follows the two arguments: nothing if the escape is the backslash, else the escape
+/// in quotes, unchanged.
 fn write_escape(out: &mut String, escape: Option<char>) -> VortexResult<()>
     ensures { AnswersUnlessMemory result (λ _. Appends out.old (escape_text escape) out.new) }
 {
@@ -69,16 +69,15 @@ impl ScalarFnVTable for Like {
         "vortex.like"
     }
 
-    /// One byte: bit 0 where negated, bit 1 where case insensitive. For another escape than the
-    /// backslash bit 2 too, and behind it the character as four bytes, the greatest first; for none
-    /// bit 3 too.
+    /// One byte: bit 0 if negated, bit 1 if case insensitive. An escape other than the backslash
+    /// sets bit 2 and follows as four bytes, big-endian; no escape sets bit 3.
     fn serialize(&self, alloc: Global, options: &LikeOptions) -> VortexResult<Option<Vec<u8>>>
         ensures { AnswersUnlessMemory result (WritesBytes (Some (like_bytes options.now))) }
     {
         Ok(Some(options.to_bytes(alloc)?))
     }
 
-    /// E8 exactly for bytes that are written of no options; takes no memory.
+    /// E8 exactly if no options are written as these bytes; allocates nothing.
     fn deserialize(&self, _alloc: Global, bytes: &[u8]) -> VortexResult<LikeOptions>
         ensures { ReadsOptions (like_read bytes.now) result }
     {
@@ -120,7 +119,7 @@ impl ScalarFnVTable for Like {
     }
 
     /// `a like p`, `a not like p`, `a ilike p` or `a not ilike p`, with ` escape '!'` or ` escape
-    /// ''` behind it where the escape is not the backslash.
+    /// ''` after it if the escape is not the backslash.
     fn write_before(
         &self,
         _alloc: Global,
@@ -136,7 +135,7 @@ impl ScalarFnVTable for Like {
     }
 
     /// `a like p`, `a not like p`, `a ilike p` or `a not ilike p`, with ` escape '!'` or ` escape
-    /// ''` behind it where the escape is not the backslash.
+    /// ''` after it if the escape is not the backslash.
     fn fmt_sql(
         &self,
         _alloc: Global,
@@ -170,7 +169,7 @@ impl ScalarFnVTable for Like {
 }
 
 /// `a like p`, `a not like p`, `a ilike p` or `a not ilike p`, with ` escape '!'` or ` escape
-/// ''` behind it where the escape is not the backslash.
+/// ''` after it if the escape is not the backslash.
 impl CallText<LikeOptions> for Like {
     ghost call = { shipped.Like };
 

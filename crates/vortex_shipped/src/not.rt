@@ -15,7 +15,7 @@ use vortex_columns::{
 use vortex_interface::{ChildName, EmptyOptions, ExecutionArgs, ScalarFnId, ScalarFnVTable};
 use vortex_kernels::execute_not;
 
-/// Not of a Bool; a null stays null, and the type is its input's.
+/// Not of a Bool; a null stays null, and the type is that of the input.
 #[derive(Clone, Drop)]
 pub struct Not;
 
@@ -43,7 +43,7 @@ impl ScalarFnVTable for Not {
         Ok(Some(Vec::new(alloc)))
     }
 
-    /// Any bytes are read; takes no memory.
+    /// Accepts any bytes; allocates nothing.
     fn deserialize(&self, _alloc: Global, _bytes: &[u8]) -> VortexResult<EmptyOptions>
         ensures { ReadsOptions (Some (record {})) result }
     {

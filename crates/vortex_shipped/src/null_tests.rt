@@ -13,8 +13,8 @@ use vortex_columns::{Arity, Column, DType, ExecutionCtx, Nullability, VortexResu
 use vortex_interface::{ChildName, EmptyOptions, ExecutionArgs, ScalarFnId, ScalarFnVTable};
 use vortex_kernels::{execute_is_not_null, execute_is_null};
 
-/// Whether each row is null, or, negated, whether it is not: non-nullable Bool, of any type. No row
-/// is read.
+/// Whether each row is null, or, if negated, not null: non-nullable Bool, for any type. Reads no
+/// row.
 #[derive(Clone, Drop)]
 pub struct NullTestOf<const NEGATED: bool>;
 
@@ -68,7 +68,7 @@ impl<const NEGATED: bool> ScalarFnVTable for NullTestOf<NEGATED> {
         Ok(Some(Vec::new(alloc)))
     }
 
-    /// Any bytes are read; takes no memory.
+    /// Accepts any bytes; allocates nothing.
     fn deserialize(&self, _alloc: Global, _bytes: &[u8]) -> VortexResult<EmptyOptions>
         ensures { ReadsOptions (Some (record {})) result }
     {

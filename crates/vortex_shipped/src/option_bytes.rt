@@ -1,4 +1,4 @@
-//! The bytes that options are written as.
+//! The bytes of options.
 ghost use Rattle.std.specs.Prelude.{[], ◌∷◌, Some};
 ghost use Rattle.vortex_shipped.specs.Words.{AnswersUnlessMemory, WritesBytes};
 

@@ -1,4 +1,4 @@
-//! The texts of calls. Each refuses for memory alone (E9).
+//! The texts of calls. Each fails only where memory runs out (E9).
 ghost use Rattle.std.specs.Prelude.{◌≡◌, ◌++◌, codes};
 ghost use Rattle.vortex_shipped.specs.Words.{Shipped, AnswersUnlessMemory, Appends, unary_before};
 ghost use Rattle.vortex_shipped.specs.Words.{WritesBefore, AppendsCall};
@@ -6,17 +6,17 @@ ghost use Rattle.vortex_shipped.specs.Words.{WritesBefore, AppendsCall};
 use vortex_columns::VortexResult;
 use vortex_interface::argument_text;
 
-/// What the calls of a function with such options are written as, part by part.
+/// The text of a function's calls with these options, part by part.
 pub(crate) trait CallText<Options> {
     ghost call: { Options → Shipped };
 
-    /// What stands before the argument that is printed `index`-th, or at the end; answers which
+    /// Writes what comes before the argument that is printed `index`-th, or the end; returns which
     /// argument that is.
     fn write_part(&self, options: &Options, index: usize, out: &mut String) -> VortexResult<usize>
         ensures { AnswersUnlessMemory result
             (WritesBefore (call options.now) index out.old out.new) };
 
-    /// The text of a call, by the texts of its arguments.
+    /// The text of a call, from the texts of its arguments.
     final fn write_call(
         &self,
         options: &Options,
@@ -34,7 +34,7 @@ pub(crate) trait CallText<Options> {
     }
 }
 
-/// What stands before the argument of a call of one, and at the end: `name(` and what ends it.
+/// What comes before the only argument of a call, and at the end: `name(` and what ends it.
 pub(crate) fn write_unary(
     out: &mut String,
     name: &str,

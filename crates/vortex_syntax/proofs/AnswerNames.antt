@@ -1,4 +1,4 @@
--- An answer's name: its last token, where `as` stands before it.
+-- An answer's name: its last token, where `as` comes before it.
 use Rattle.std.proofs.Common.{◌≡◌, ◌&&◌, ◌++◌, ◌∷◌, [], Bool, true, cond, List, length, map}
 use Rattle.std.proofs.Common.{reverse, Option, Some, None, IfSome, refl, ap, sym, ◌∙◌, arith}
 use Rattle.std.proofs.Common.{◌≤◌, length-append}
@@ -89,7 +89,7 @@ unfolding split_name
 named_by ts x e = let n = named_back (reverse ts) x e in
     record { tokens = sym (reverse-reverse ts) ∙ n.tokens; is = n.is }
 
--- an answer has no fewer tokens than its tree
+-- an answer has at least as many tokens as its tree
 tree_shorter : (ts : List Token) (o : Option (List Token × Token)) → split_name ts ≡ o
     → length (unless_named ts o) ≤ length ts
 tree_shorter ts None e = omega arith
@@ -100,7 +100,7 @@ tree_shorter ts (Some x) e =
 pub tree_within : (ts : List Token) → length (tree_tokens ts) ≤ length ts
 tree_within ts = tree_shorter ts (split_name ts) refl
 
--- an answer that is read is spelled so
+-- an answer that is read is spelled by its tokens
 is_told : (x y : Told) → Some x ≡ Some y → y ≡ x
 is_told x y e = cc
 
@@ -142,7 +142,7 @@ pub answer_found : (ts : List Token) (x : Told) → answer_of ts ≡ Some x
 unfolding answer_of
 answer_found ts x e = found_by ts x (split_name ts) refl e
 
--- an answer that is spelled so is read
+-- an answer that its tokens spell is read
 unnamed : (ts : List Token) (t : Syntax) → Fits t → ts ≡ spelling t
     → (o : Option (List Token × Token)) → split_name ts ≡ o → split_name ts ≡ None
 unfolding steps_of

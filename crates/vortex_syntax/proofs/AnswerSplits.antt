@@ -1,4 +1,4 @@
--- A list of answers is read part by part.
+-- A list of answers is read answer by answer.
 use Rattle.std.specs.Prelude.{IfSome}
 use Rattle.std.proofs.Common.{◌≡◌, ℕ, ◌+◌, ◌-◌, ◌<◌, ◌≤◌, Bool, true, false, cond, List, [], ◌∷◌}
 use Rattle.std.proofs.Common.{◌++◌, length, map, get_or, take, drop, All, Option, Some, None}
@@ -28,7 +28,7 @@ use Rattle.vortex_syntax.proofs.Complete.{whole_read}
 use Rattle.vortex_syntax.proofs.AnswerTokens.{no_commas}
 use Rattle.vortex_syntax.proofs.AnswerNames.{answer_found, answer_read}
 
--- a list that is read is spelled so
+-- a list that is read is spelled by its tokens
 pub data Parts : List Token → List (List Token) → Type 0 where
   whole : {ts : List Token} → Parts ts (ts ∷ [])
   first : {ts vs : List Token} {ps : List (List Token)} (us : List Token)
@@ -76,7 +76,7 @@ answers_found xs (first {ps = ps} us h p) e =
     let r = answers_found f.1 p f.3 in
     (a.0 ∷ r.0, more us h a.1 r.1, f.4 ∙ ap (λ x. x ∷ f.1) a.2 ∙ ap (λ ys. told a.0 ∷ ys) r.2)
 
--- a list that is spelled so is read
+-- a list that its tokens spell is read
 name_no_comma : (n : Token) → is_name n ≡ true → is_comma n ≡ false
 name_no_comma (name w) h = refl
 name_no_comma (quoted w) h = refl
@@ -166,7 +166,7 @@ module _ {A : Type 0} (f : A → Token) (xs : List A) (i : ℕ) where
       → slice_split is_comma (map f (drop i xs)) ≡ map f (take (length xs - i) (drop i xs)) ∷ []
   last_is h = ap (λ ys. slice_split is_comma (map f ys)) (sym (take_rest xs i)) ∙ h
 
--- the answers so far, and those of the rest
+-- the answers so far, and the rest
 abbrev pub after : List Told → Option (List Told) → Option (List Told)
 after done o = option_map (λ xs. done ++ xs) o
 
@@ -201,7 +201,7 @@ module _ (all : Option (List Told)) (done : List Told) (ts p : List Token) where
   finishes a so_far cut h = so_far ∙ ap (λ qs. after done (answers_of qs)) cut
       ∙ ap (λ x. after done (with_first x (Some []))) h
 
--- what is refused of a part is refused of the list
+-- a part that stops makes the list stop
 pub unless_weaker : {P Q : Type 0} (e : SyntaxError) → (P → Q) → UnlessMemory P e → UnlessMemory Q e
 unless_weaker OutOfMemory f h = tt
 unless_weaker e f h = f h

@@ -7,7 +7,7 @@ use Rattle.std.proofs.lemmas.List.{length-map, length-take-le}
 use Rattle.vortex_syntax.specs.declared.error.SyntaxError.{SyntaxError}
 use Rattle.vortex_syntax.specs.declared.error.SyntaxError.TheVariants.{NoToken, Unexpected}
 use Rattle.vortex_syntax.specs.declared.error.SyntaxError.TheVariants.{TooDeep, OutOfMemory}
-use Rattle.vortex_syntax.specs.declared.places.Places.{Places}
+use Rattle.vortex_syntax.specs.declared.places.TokenPlaces.{TokenPlaces}
 use Rattle.vortex_syntax.specs.declared.token.Sign.TheVariants as sign
 use Rattle.vortex_syntax.specs.Tokens.{Token, sign}
 use Rattle.vortex_syntax.specs.AnswerLists.{Told}
@@ -31,8 +31,9 @@ within_parts (splits.first {vs = vs} us e p) (later s h) =
 pub within : (ts : List Token) (n : ℕ) → ListStopsAt ts n → n ≤ length ts
 within ts n h = within_parts (parts_of ts) h
 
--- numbers of a part are numbers of the whole, at their places
-pub names_more : (P Q : ℕ → Type 0) (p q : Places) (i : ℕ) → ((n : ℕ) → P n → Q (i + n))
+-- numbers of tokens in a part are numbers in the whole list, shifted
+pub names_more : (P Q : ℕ → Type 0) (p q : TokenPlaces) (i : ℕ)
+    → ((n : ℕ) → P n → Q (i + n))
     → ((n : ℕ) → place_in p n ≡ place_in q (i + n)) → (e : SyntaxError)
     → NamesPlace P p e → NamesPlace Q q e
 names_more P Q p q i f k (NoToken b) h = absurd h
@@ -40,7 +41,7 @@ names_more P Q p q i f k (Unexpected b x) h = (i + h.0, f h.0 h.1, h.2 ∙ k h.0
 names_more P Q p q i f k (TooDeep b) h = absurd h
 names_more P Q p q i f k OutOfMemory h = tt
 
--- the whole list stops where that of the tokens from i on does
+-- the whole list stops where the tokens from i on do
 abbrev pub StopsWith : List Token → ℕ → List Token → Type 0
 StopsWith all i ts = (n : ℕ) → ListStopsAt ts n → ListStopsAt all (i + n)
 

@@ -1,4 +1,4 @@
--- No comma stands in a tree's tokens, and they do not end with `as` and a token.
+-- A tree's tokens have no comma, and do not end with `as` and a token.
 use Rattle.std.proofs.Common.{◌≡◌, ◌++◌, ◌∷◌, [], false, List, Option, Some, None, All, refl, ap}
 use Rattle.std.proofs.Common.{sym, subst, ◌∙◌}
 use Rattle.std.specs.Option.{option_and_then}
@@ -42,7 +42,7 @@ no_commas (t ∷ ts) s xs e =
     All-cons (λ u. is_comma u ≡ false) t ts (not_comma s.mode s.frames s.steps t r.0 r.1)
     (no_commas ts r.0 xs r.2)
 
--- `as` stands before the type of a cast alone, and no tree ends with that
+-- `as` comes only before the type of a cast, and no tree ends with that
 abbrev mode_of : Option State → Mode
 mode_of None = mode.Want
 mode_of (Some s) = s.mode

@@ -1,4 +1,4 @@
--- What was read before a token: frames with what they hold, and an operand behind them.
+-- What was read before a token: pending frames with their operands, and an operand after them.
 use Rattle.std.proofs.Common.{◌≡◌, ℕ, ◌≤◌, Bool, true, false, nat_le, ◌&&◌, cond, List, [], ◌∷◌}
 use Rattle.std.proofs.Common.{◌++◌, Some, None, refl, ap, sym, subst, ◌∙◌, append_assoc, arith}
 use Rattle.std.proofs.lemmas.List.{append-nil}
@@ -19,7 +19,7 @@ use Rattle.vortex_syntax.proofs.Held.{Held, opened, casting, negating, joining, 
 use Rattle.vortex_syntax.proofs.Held.{matching, frame_of, written, held, IsSound, frames_of}
 use Rattle.vortex_syntax.proofs.Held.{all_written, all_held, Nested, Settles, settled_sound}
 
--- what was read before: what waits, and these steps and tokens behind it
+-- what was read before: pending frames, then these steps and tokens
 pub record Behind (fs : List Frame) (out : List Step) (before : List Token) (xs : List Step)
     (ts : List Token) : Type 0 where
   pub hs : List Held
@@ -72,7 +72,7 @@ pushed h fs out before b s place = record {
   );
 }
 
--- the last frame with what it holds
+-- the last frame with its operands
 pub record Popped (f : Frame) (fs : List Frame) (out : List Step) (before : List Token)
     (xs : List Step) (ts : List Token) : Type 0 where
   pub h : Held
@@ -161,7 +161,7 @@ like_is k (lower m a) e = absurd cc
 like_is k (upper m a b) e = absurd cc
 like_is k (matching j a) e = (a, ap (λ v. matching v a) (sym (like_mark k j e)))
 
--- an operand behind what waits, and these tokens behind it
+-- an operand after pending frames, then these tokens
 pub record HasOperand (l : ℕ) (fs : List Frame) (out : List Step)
     (before ts : List Token) : Type 0 where
   pub tree : Syntax
@@ -202,7 +202,7 @@ settled_operand p l fs out before ts a =
       };
     }
 
--- what holds of a state, by the tokens before it
+-- the invariant of a state, by the tokens before it
 abbrev pub Holds : Mode → List Frame → List Step → List Token → Type 0
 Holds mode.Want fs out before = Behind fs out before [] []
 Holds mode.Signed fs out before = Behind fs out before [] (sign sign.Minus ∷ [])
@@ -240,7 +240,7 @@ pub along : (r s : State) (before : List Token) → Some r ≡ Some s → HoldsI
     → HoldsIn s before
 along r s before e h = subst (λ (v : State). HoldsIn v before) (some_is r s e) h
 
--- what is answered where a test says yes
+-- the result where a test is true
 pub both : (b c : Bool) → (b && c) ≡ true → (b ≡ true) × (c ≡ true)
 both true true e = (refl, refl)
 both true false e = absurd cc
@@ -266,7 +266,7 @@ operand_more l fs out before ts us a = record {
       (more_tokens fs out before (postfix a.tree) (spelling a.tree ++ ts) us a.behind);
 }
 
--- an operand that is whole
+-- a complete operand
 pub operand_is : (t : Syntax) (fs : List Frame) (out : List Step) (before : List Token) → Fits t
     → top_hole fs ≤ level t → Behind fs out before (postfix t) (spelling t)
     → HasOperand (level t) fs out before []

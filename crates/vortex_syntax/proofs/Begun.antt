@@ -20,7 +20,7 @@ use Rattle.vortex_syntax.proofs.Held.{matching, frame_of, written, IsSound, fram
 use Rattle.vortex_syntax.proofs.Held.{all_written, Nested, Plugged, plugged}
 use Rattle.vortex_syntax.proofs.Before.{Behind, HasOperand, Holds}
 
--- a frame with its last operand, and what may be missing behind that
+-- a frame with its last operand, and what may still be missing
 record Filled (h : Held) (e : Syntax) : Type 0 where
   tree : Syntax
   fits : Fits tree
@@ -96,7 +96,7 @@ begun (h ∷ hs) e n f le =
 completed : (a ts us vs : List Token) → (a ++ ts) ++ (us ++ vs) ≡ (a ++ (ts ++ us)) ++ vs
 completed a ts us vs = simp append_assoc
 
--- what waits, and tokens behind it that an operand begins with
+-- pending frames, and tokens after them with which an operand begins
 begun_by : (fs : List Frame) (out : List Step) (before : List Token) (xs : List Step)
     (ts : List Token) → Behind fs out before xs ts → (e : Syntax) (more : List Token) → Fits e
     → top_hole fs ≤ level e → ts ++ more ≡ spelling e → Begins before

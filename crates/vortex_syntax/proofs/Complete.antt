@@ -1,10 +1,10 @@
--- What a tree is written with is read as its steps.
+-- The spelling of a tree is read as its steps.
 use Rattle.std.proofs.Common.{◌≡◌, ℕ, ◌<◌, ◌≤◌, Bool, true, false, List, [], ◌∷◌, ◌++◌, Option}
 use Rattle.std.proofs.Common.{Some, None, refl, ap, sym, ◌∙◌, append_assoc, arith, lit<, lit≤}
 use Rattle.std.specs.Option.{option_and_then}
 use Rattle.std.proofs.lemmas.List.{append-nil}
-use Rattle.vortex_syntax.specs.declared.step.Operator.{Operator}
-use Rattle.vortex_syntax.specs.declared.step.Operator.TheVariants as operator
+use Rattle.vortex_syntax.specs.declared.step.WrittenOperator.{WrittenOperator}
+use Rattle.vortex_syntax.specs.declared.step.WrittenOperator.TheVariants as operator
 use Rattle.vortex_syntax.specs.declared.step.LikeKind.{LikeKind}
 use Rattle.vortex_syntax.specs.declared.step.Call.TheVariants as call
 use Rattle.vortex_syntax.specs.declared.token.Sign.{Sign}
@@ -45,7 +45,7 @@ pub shifts : (p m : ℕ) (f : Frame) (l : ℕ) (fs : List Frame) (out : List Ste
 shifts p m f l fs out h k =
     rw (settled_none p l fs out k) (rw (at_most m l h, at_most (top_hole fs) p k) refl)
 
--- what is left to do with the tokens
+-- the tokens that are left
 abbrev pub ran : List Token → Option State → Option (List Step)
 ran ts s = option_and_then (λ r. run r ts) s
 
@@ -58,7 +58,7 @@ have l fs out ts = run (state (mode.Have l) fs out) ts
 abbrev pub closed : List Step → Frame → List Step
 closed out f = out ++ (closing f ∷ [])
 
--- what closes a frame before a sign does so in whatever stands behind it
+-- what closes a frame before a sign closes it whatever follows
 sign_closes : (l : ℕ) (f : Frame) (fs : List Frame) (out : List Step) (s : Sign) (ts : List Token)
     → reach_of s < guard f
     → have l (f ∷ fs) out (sign s ∷ ts) ≡ have (whole f) fs (closed out f) (sign s ∷ ts)
@@ -154,7 +154,7 @@ and_joins l (frame.Join o ∷ fs) out h k = rw (at_most 1 l h, at_most (hole (fr
 and_joins l (frame.Bounded n ∷ fs) out h k = absurd (let j : ⊥ = omega (arith, k) in j)
 and_joins l (frame.Like n ∷ fs) out h k = absurd (let j : ⊥ = omega (arith, k) in j)
 
-step_join : (o : Operator) (l : ℕ) (fs : List Frame) (out : List Step) (ts : List Token)
+step_join : (o : WrittenOperator) (l : ℕ) (fs : List Frame) (out : List Step) (ts : List Token)
     → left o ≤ l → top_hole fs ≤ own o
     → have l fs out (sign (operator_sign o) ∷ ts) ≡ want (frame.Join o ∷ fs) out ts
 unfolding run next word_behind
@@ -293,7 +293,7 @@ step_cast_open : (fs : List Frame) (out : List Step) (ts : List Token)
 unfolding run next
 step_cast_open fs out ts = refl
 
--- a tree's tokens lead to its steps, before what binds no tighter
+-- a tree's tokens lead to its steps, before a sign that binds no tighter
 abbrev pub IsRead : Syntax → Type 0
 IsRead t = (fs : List Frame) (out : List Step) (rest : List Token) → top_hole fs ≤ level t
     → reach rest ≤ level t
@@ -315,7 +315,7 @@ regrouped_4 : (out a b c : List Step) (x : Step)
     → (((out ++ a) ++ b) ++ c) ++ (x ∷ []) ≡ out ++ (a ++ (b ++ (c ++ (x ∷ []))))
 regrouped_4 out a b c x = simp append_assoc
 
-reach_operator : (o : Operator) → reach_of (operator_sign o) ≡ own o
+reach_operator : (o : WrittenOperator) → reach_of (operator_sign o) ≡ own o
 reach_operator operator.Or = refl
 reach_operator operator.And = refl
 reach_operator operator.Equal = refl
@@ -329,8 +329,8 @@ reach_operator operator.Sub = refl
 reach_operator operator.Mul = refl
 reach_operator operator.Div = refl
 
-read_joined : (o : Operator) (a b : Syntax) → left o ≤ level a → right o ≤ level b → IsRead a
-    → IsRead b → IsRead (tree.joined o a b)
+read_joined : (o : WrittenOperator) (a b : Syntax) → left o ≤ level a → right o ≤ level b
+    → IsRead a → IsRead b → IsRead (tree.joined o a b)
 read_joined o a b h k ia ib = λ fs out rest top end.
     let ts = spelling b ++ rest in
     let first : reach (sign (operator_sign o) ∷ ts) ≤ level a =

@@ -1,4 +1,4 @@
--- Texts in which each quote stands twice, from one quote to the next.
+-- Texts in which each quote is doubled, from one quote to the next.
 use Rattle.std.proofs.Common.{◌≡◌, ◌≢◌, ℕ, suc, ◌+◌, ◌<◌, ◌==◌, false, drop, subst, List, [], ◌∷◌}
 use Rattle.std.proofs.Common.{◌++◌, length, get_or, refl, ap, sym, ◌∙◌, append_assoc, length-append}
 use Rattle.std.proofs.Common.{arith}
@@ -12,7 +12,7 @@ use Rattle.vortex_syntax.specs.Writing.{doubled}
 is_other : (a q : ℕ) → a ≢ q → (a == q) ≡ false
 is_other a q h = grind (arith, nat_tests)
 
--- what holds no quote stays
+-- bytes without a quote are unchanged
 abbrev pub NoQuote : ℕ → List ℕ → Type 0
 NoQuote q bs = (i : ℕ) → i < length bs → get_or bs i 0 ≢ q
 
@@ -33,7 +33,7 @@ regrouped : (out xs : List ℕ) (q : ℕ) (ys : List ℕ)
     → out ++ (xs ++ (q ∷ q ∷ ys)) ≡ (((out ++ xs) ++ (q ∷ [])) ++ (q ∷ [])) ++ ys
 regrouped out xs q ys = simp append_assoc
 
--- what is written up to a quote, and what is left behind it
+-- what is written up to a quote, and what is left after it
 pub doubled_more : (q : ℕ) (all out bs xs ys : List ℕ) → bs ≡ xs ++ (q ∷ ys) → NoQuote q xs
     → out ++ doubled q bs ≡ all
     → (((out ++ xs) ++ (q ∷ [])) ++ (q ∷ [])) ++ doubled q ys ≡ all
@@ -48,7 +48,7 @@ doubled_last q all out bs h so_far = ap (λ zs. out ++ zs) (sym (doubled_none q 
 pub shorter_behind : (q : ℕ) (bs xs ys : List ℕ) → bs ≡ xs ++ (q ∷ ys) → length ys < length bs
 shorter_behind q bs xs ys e = omega (arith, ap length e, length-append xs (q ∷ ys))
 
--- behind a quote of a text stands a text
+-- a text may continue after a quote
 pub utf8_behind : (q : ℕ) (bs xs ys : List ℕ) → q < 128 → IsUtf8 bs → bs ≡ xs ++ (q ∷ ys)
     → IsUtf8 ys
 utf8_behind q bs xs ys low u e =
@@ -63,7 +63,7 @@ utf8_behind q bs xs ys low u e =
     ∙ drop_at (xs ++ (q ∷ [])) ys (length xs + 1) long in
     subst IsUtf8 rest cut
 
--- a text, and a quote twice
+-- a text, and a doubled quote
 pub pushed : (q : ℕ) (out xs a b c : List ℕ) → q < 128 → a ≡ out ++ xs → b ≡ a ++ encode_utf8 q
     → c ≡ b ++ encode_utf8 q → c ≡ ((out ++ xs) ++ (q ∷ [])) ++ (q ∷ [])
 pushed q out xs a b c low e g h =

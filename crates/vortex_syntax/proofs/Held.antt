@@ -1,9 +1,9 @@
--- Frames with the operands that they hold.
+-- Frames with their operands.
 use Rattle.std.proofs.Common.{◌≡◌, ℕ, ◌<◌, ◌≤◌, Bool, true, false, nat_lt, cond, List, [], ◌∷◌}
 use Rattle.std.proofs.Common.{◌++◌, None, refl, ap, sym, subst, ◌∙◌, append_assoc, arith}
 use Rattle.std.proofs.lemmas.List.{append-nil}
 use Rattle.std.proofs.lemmas.Bool.Decides.{nat_tests}
-use Rattle.vortex_syntax.specs.declared.step.Operator.{Operator}
+use Rattle.vortex_syntax.specs.declared.step.WrittenOperator.{WrittenOperator}
 use Rattle.vortex_syntax.specs.declared.step.LikeKind.{LikeKind}
 use Rattle.vortex_syntax.specs.declared.step.Call.TheVariants as call
 use Rattle.vortex_syntax.specs.declared.token.Sign.TheVariants as sign
@@ -22,7 +22,7 @@ pub data Held : Type 0 where
   opened : Held
   casting : Held
   negating : Held
-  joining : Operator → Syntax → Held
+  joining : WrittenOperator → Syntax → Held
   lower : Bool → Syntax → Held
   upper : Bool → Syntax → Syntax → Held
   matching : LikeKind → Syntax → Held
@@ -124,7 +124,7 @@ plugged (matching k a) e g s f le = record {
       ∙ ap (λ ts. spelling a ++ (like_sign k ++ ts)) (sym (append-nil (spelling e)));
 }
 
--- an operand behind the frames that wait
+-- an operand after the pending frames
 pub record Settles (a : Operand) (ts : List Token) : Type 0 where
   pub hs : List Held
   pub tree : Syntax
@@ -143,7 +143,7 @@ settled_if b p l f fs out =
 is_below : (m n : ℕ) → nat_lt m n ≡ true → 0 < n
 is_below m n h = grind (arith, nat_tests)
 
--- what is closed, given what the frames below it settle to
+-- what closing makes, given what the frames below it become
 closed_sound : (p : ℕ) (h : Held) (hs : List Held) (e : Syntax) (r : Plugged h e)
     → Settles (settled p (level r.tree) (frames_of hs) (all_held hs ++ postfix r.tree))
     (all_written hs ++ spelling r.tree)

@@ -27,7 +27,7 @@ piece_of (Some x) = x.0
 abbrev cut : Piece → List ℕ → Cut
 cut p xs = Some (p, xs)
 
--- what begins with a gap, with a token, and with neither
+-- bytes that begin with a gap, with a token, and with neither
 pub after_gap : {text rest : List ℕ} {vs : List Token} → Lexes text vs
     → first_piece text ≡ Some (gap, rest) → Lexes rest vs
 unfolding first_piece
@@ -58,7 +58,7 @@ no_piece b bs none e h = cc
 no_piece b bs (gap_first k l) e h = let f = sym k ∙ h in cc
 no_piece b bs (token_first k l) e h = let f = sym k ∙ h in cc
 
--- one text is at most one list of tokens
+-- a text is at most one list of tokens
 pub one_list : {text : List ℕ} {ts vs : List Token} → Lexes text ts → Lexes text vs → ts ≡ vs
 unfolding first_piece
 one_list none none = refl
@@ -68,7 +68,7 @@ one_list (gap_first k l) m = one_list l (after_gap m k)
 one_list (token_first {t = t} k l) m = let r = after_token m k in
     ap (λ (us : List Token). t ∷ us) (one_list l r.2) ∙ sym r.1
 
--- no list is read where a piece is wanted that does not begin
+-- no tokens are read where no piece begins
 pub stuck : (text : List ℕ) (ts : List Token) (now : List ℕ) → SoFar text ts now
     → 0 < length now → first_piece now ≡ None → (vs : List Token) → ¬ Lexes text vs
 stuck text ts [] s lt h vs l = omega (arith, lt)

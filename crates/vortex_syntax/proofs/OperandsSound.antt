@@ -1,4 +1,4 @@
--- What the other tokens make of what was read.
+-- What the other tokens do to what was read.
 use Rattle.std.proofs.Common.{◌≡◌, ℕ, ◌≤◌, Bool, true, false, nat_le, cond, List, [], ◌∷◌, ◌++◌}
 use Rattle.std.proofs.Common.{Some, None, refl, ap, subst, ◌∙◌, append_assoc, arith, lit≤}
 use Rattle.vortex_syntax.specs.declared.step.LikeKind.{LikeKind}

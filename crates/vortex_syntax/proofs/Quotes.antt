@@ -32,7 +32,7 @@ closed_last : (q b : ℕ) (bs : List ℕ) → (b == q) ≡ true
 closed_last q b [] h k = rw h refl
 closed_last q b (c ∷ bs) h k = let e : (c == q) ≡ false = k (omega arith) in rw (h, e) refl
 
--- what is read so far leaves the answer as it is
+-- what is read so far leaves the result as it is
 pub record SoFar (q : ℕ) (xs : List ℕ) (i : ℕ) : Type 0 where
   pub within : i ≤ length xs
   pub same : closed q xs ≡ with_front (take i xs) (closed q (drop i xs))
@@ -86,7 +86,7 @@ so_far_last q xs i lt h k s =
 pub so_far_end : (q : ℕ) (xs : List ℕ) (i : ℕ) → length xs ≤ i → SoFar q xs i → closed q xs ≡ None
 so_far_end q xs i le s = s.same ∙ ap (λ ys. with_front (take i xs) (closed q ys)) (drop_all i xs le)
 
--- the same by the places that the loop reads
+-- the same by the positions that the loop reads
 is_other : (a q : ℕ) → a ≢ q → (a == q) ≡ false
 is_other a q h = grind (arith, nat_tests)
 
@@ -113,7 +113,7 @@ at_last q xs i lt h k s =
     (λ more. is_other (get_or xs (suc i) 0) q
     (subst (λ (n : ℕ). get_or xs n 0 ≢ q) one (k (omega (arith, more))))) s
 
--- the rest of a slice is cut off to its end
+-- the rest of a slice, up to its end
 pub cut_rest : (n : ℕ) (xs : List ℕ)
     → take (length xs - (n + 1)) (drop (n + 1) xs) ≡ drop (suc n) xs
 cut_rest n xs =

@@ -1,9 +1,9 @@
--- Why a whole text is refused.
+-- Why a whole text fails.
 use Rattle.std.proofs.Common.{◌≡◌, ℕ, ◌≤◌, true, List, length, sym, subst, Result, Ok, Err, IfErr}
 use Rattle.vortex_syntax.specs.declared.error.SyntaxError.{SyntaxError}
 use Rattle.vortex_syntax.specs.declared.error.SyntaxError.TheVariants.{NoToken, Unexpected}
 use Rattle.vortex_syntax.specs.declared.error.SyntaxError.TheVariants.{TooDeep, OutOfMemory}
-use Rattle.vortex_syntax.specs.declared.places.Places.{Places}
+use Rattle.vortex_syntax.specs.declared.places.TokenPlaces.{TokenPlaces}
 use Rattle.vortex_syntax.specs.Tokens.{Token}
 use Rattle.vortex_syntax.specs.Lexing.{Lexes}
 use Rattle.vortex_syntax.specs.Nesting.{nests}
@@ -22,8 +22,8 @@ module _ (text : List ℕ) (Stops : List Token → ℕ → Type 0) where
   by_tokens (TooDeep b) h = absurd h
   by_tokens OutOfMemory h = tt
 
-  -- tokens that stop at a place
-  pub by_places : (ts : List Token) (places : Places) → Lexes text ts → nests ts ≡ true
+  -- tokens that stop at a byte
+  pub by_places : (ts : List Token) (places : TokenPlaces) → Lexes text ts → nests ts ≡ true
       → ((n : ℕ) → Stops ts n → n ≤ length ts)
       → ((n : ℕ) → n ≤ length ts → StandsAt text n (place_in places n))
       → (e : SyntaxError) → NamesPlace (Stops ts) places e → RefusesBy Stops text e

@@ -1,9 +1,9 @@
--- What a sign behind an operand makes of what was read.
+-- What a sign after an operand does to what was read.
 use Rattle.std.proofs.Common.{◌≡◌, ℕ, ◌≤◌, Bool, true, false, nat_le, ◌&&◌, cond, List, [], ◌∷◌}
 use Rattle.std.proofs.Common.{◌++◌, Some, None, refl, ap, sym, subst, ◌∙◌, append_assoc}
 use Rattle.std.proofs.lemmas.List.{append-nil}
-use Rattle.vortex_syntax.specs.declared.step.Operator.{Operator}
-use Rattle.vortex_syntax.specs.declared.step.Operator.TheVariants as operator
+use Rattle.vortex_syntax.specs.declared.step.WrittenOperator.{WrittenOperator}
+use Rattle.vortex_syntax.specs.declared.step.WrittenOperator.TheVariants as operator
 use Rattle.vortex_syntax.specs.declared.step.LikeKind.{LikeKind}
 use Rattle.vortex_syntax.specs.declared.token.Sign.{Sign}
 use Rattle.vortex_syntax.specs.declared.token.Sign.TheVariants as sign
@@ -40,7 +40,8 @@ waits p m f l fs out s before e h =
     along (state mode.Want (f ∷ fs) out) s before c.1
     (h (fits_below m l t.0) (fits_below (top_hole fs) p t.1))
 
-pub joins : (o : Operator) (l : ℕ) (fs : List Frame) (out : List Step) (before : List Token)
+pub joins : (o : WrittenOperator) (l : ℕ) (fs : List Frame) (out : List Step)
+    (before : List Token)
     → HasOperand l fs out before [] → left o ≤ l → top_hole fs ≤ own o
     → Behind (frame.Join o ∷ fs) out (before ++ (sign (operator_sign o) ∷ [])) [] []
 joins o l fs out before a h k =
@@ -52,7 +53,7 @@ joins o l fs out before a h k =
     (sign (operator_sign o) ∷ []) a.behind))
     (subst (λ (m : ℕ). left o ≤ m) a.level h, a.fits) k
 
-pub joining_sound : (o : Operator) (l : ℕ) (fs : List Frame) (out : List Step) (s : State)
+pub joining_sound : (o : WrittenOperator) (l : ℕ) (fs : List Frame) (out : List Step) (s : State)
     (before : List Token) → specs.joining o l fs out ≡ Some s → HasOperand l fs out before []
     → HoldsIn s (before ++ (sign (operator_sign o) ∷ []))
 joining_sound o l fs out s before e a =
@@ -60,7 +61,7 @@ joining_sound o l fs out s before e a =
     waits (own o) (left o) (frame.Join o) b.level b.frames b.steps s _ e
     (joins o b.level b.frames b.steps before (settled_operand (own o) l fs out before [] a))
 
--- BETWEEN and LIKE, behind an operand and what stands between
+-- BETWEEN and LIKE, after an operand and the tokens between
 pub predicates : (h : Held) (ts : List Token) (l : ℕ) (fs : List Frame) (out : List Step)
     (before us : List Token) (a : HasOperand l fs out before us)
     → held h ≡ postfix a.tree → written h ≡ spelling a.tree ++ (us ++ ts) → IsSound h

@@ -1,4 +1,4 @@
--- What is read is spelled so.
+-- What is read is spelled by its tokens.
 use Rattle.std.proofs.Common.{◌≡◌, ℕ, List, [], ◌∷◌, ◌++◌, Option, Some, None, refl, sym, subst}
 use Rattle.std.proofs.Common.{◌∙◌, append_assoc}
 use Rattle.std.specs.Option.{option_and_then}

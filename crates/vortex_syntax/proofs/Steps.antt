@@ -32,7 +32,7 @@ one_more : {A : Type 0} (f : A → Token) (xs : List A) (i : ℕ) (x : A) → i 
     → map f (drop i xs) ≡ f (get_or xs i x) ∷ map f (drop (i + 1) xs)
 one_more f xs i x lt = rw add-one (ap (map f) (drop-cons xs i x lt))
 
--- the answer for all tokens, by those from i on
+-- the result for all tokens, from those from i on
 pub goes_on : {A : Type 0} (f : A → Token) (xs : List A) (i : ℕ) (x : A) (s r : State)
     (all : Option (List Step)) → i < length xs → all ≡ run s (map f (drop i xs))
     → next s.mode s.frames s.steps (f (get_or xs i x)) ≡ Some r

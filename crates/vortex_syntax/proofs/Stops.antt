@@ -42,7 +42,7 @@ leads_on before t s r l h = record {
   holds = step_sound s.mode s.frames s.steps t r before h l.holds;
 }
 
--- no expression goes on with a token that nothing follows
+-- no expression continues with a token that nothing follows
 pub not_begun : (before : List Token) (t : Token) (s : State) → LeadsTo before s
     → next s.mode s.frames s.steps t ≡ None → ¬ Begins (before ++ (t ∷ []))
 not_begun before t s l h b =

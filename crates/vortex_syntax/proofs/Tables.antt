@@ -1,9 +1,9 @@
--- What the tables of levels say of one another.
+-- How the tables of levels are related.
 use Rattle.std.proofs.Common.{◌≡◌, ◌≢◌, ℕ, ◌<◌, ◌≤◌, true, false, nat_lt, nat_le, List, [], ◌∷◌}
 use Rattle.std.proofs.Common.{arith, lit<, lit≤}
 use Rattle.std.proofs.lemmas.Bool.Decides.{nat_tests}
-use Rattle.vortex_syntax.specs.declared.step.Operator.{Operator}
-use Rattle.vortex_syntax.specs.declared.step.Operator.TheVariants as operator
+use Rattle.vortex_syntax.specs.declared.step.WrittenOperator.{WrittenOperator}
+use Rattle.vortex_syntax.specs.declared.step.WrittenOperator.TheVariants as operator
 use Rattle.vortex_syntax.specs.declared.token.Sign.{Sign}
 use Rattle.vortex_syntax.specs.declared.token.Sign.TheVariants as sign
 use Rattle.vortex_syntax.specs.declared.frame.Frame.{Frame}
@@ -12,7 +12,7 @@ use Rattle.vortex_syntax.specs.Tokens.{Token, name, nullable, quoted, number, te
 use Rattle.vortex_syntax.specs.Levels.{own, left, right}
 use Rattle.vortex_syntax.specs.Reading.{hole, top_hole, guard, whole}
 
-pub own_left : (o : Operator) → own o ≤ left o
+pub own_left : (o : WrittenOperator) → own o ≤ left o
 own_left operator.Or = lit≤ tt
 own_left operator.And = lit≤ tt
 own_left operator.Add = lit≤ tt
@@ -26,7 +26,7 @@ own_left operator.LessOrEqual = lit≤ tt
 own_left operator.Greater = lit≤ tt
 own_left operator.GreaterOrEqual = lit≤ tt
 
-pub own_right : (o : Operator) → own o < right o
+pub own_right : (o : WrittenOperator) → own o < right o
 own_right operator.Or = lit< tt
 own_right operator.And = lit< tt
 own_right operator.Add = lit< tt
@@ -40,7 +40,7 @@ own_right operator.LessOrEqual = lit< tt
 own_right operator.Greater = lit< tt
 own_right operator.GreaterOrEqual = lit< tt
 
-pub right_atom : (o : Operator) → right o ≤ 8
+pub right_atom : (o : WrittenOperator) → right o ≤ 8
 right_atom operator.Or = lit≤ tt
 right_atom operator.And = lit≤ tt
 right_atom operator.Add = lit≤ tt
@@ -54,7 +54,7 @@ right_atom operator.LessOrEqual = lit≤ tt
 right_atom operator.Greater = lit≤ tt
 right_atom operator.GreaterOrEqual = lit≤ tt
 
--- no sign behind an operand has the level of Not, so what is below or at a frame's level closes it
+-- no sign after an operand has the level of Not, so a sign below or at a frame's level closes it
 pub tight : (f : Frame) (n : ℕ) → 0 < guard f → n ≤ whole f → n ≢ 2 → n < guard f
 tight frame.Open n h le ne = absurd (let k : ⊥ = omega (arith, h) in k)
 tight frame.Cast n h le ne = absurd (let k : ⊥ = omega (arith, h) in k)
@@ -86,7 +86,7 @@ pub top_atom : (fs : List Frame) → top_hole fs ≤ 8
 top_atom [] = lit≤ tt
 top_atom (f ∷ fs) = hole_atom f
 
--- the level of the sign that comes behind an operand: only frames above it are closed
+-- the level of the sign that comes after an operand: only frames above it are closed
 abbrev pub reach_of : Sign → ℕ
 reach_of sign.Or = 0
 reach_of sign.And = 1

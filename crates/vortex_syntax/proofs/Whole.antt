@@ -41,7 +41,7 @@ found_in text ts xs l n e =
       f.steps,
     )
 
--- what a reader of the tokens answers, where `all` is what they are read as
+-- what a reader of the tokens returns, where `all` is what they are read as
 module _ {X Y : Type 0} (seen : X → Y) (all : Option Y) where
   pub found_of : (P : Y → Type 0) → ((y : Y) → all ≡ Some y → P y) → (r : Result X SyntaxError)
       → MatchResult r (λ v. all ≡ Some (seen v)) (UnlessMemory (all ≡ None))

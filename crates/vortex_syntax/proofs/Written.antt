@@ -1,4 +1,4 @@
--- What is written of tokens lexes as them.
+-- Written tokens are read back as those tokens.
 use Rattle.std.proofs.Common.{◌≡◌, ℕ, ◌<◌, Bool, true, false, cond, ◌==◌, ◌||◌, List, [], ◌∷◌, ◌++◌}
 use Rattle.std.proofs.Common.{Option, Some, None, refl, ap, sym, ◌∙◌, append_assoc, arith}
 use Rattle.std.specs.Prelude.{codes, is_none}
@@ -34,7 +34,7 @@ use Rattle.vortex_syntax.specs.Writing.{are_digits, IsDoubled, IsWritable, AllWr
 use Rattle.vortex_syntax.proofs.Runs.{word_begun}
 use Rattle.vortex_syntax.proofs.Quotes.{closed_other, closed_twice}
 
--- no token goes on with these bytes
+-- no token continues with these bytes
 abbrev Stops : List ℕ → Type 0
 Stops [] = Unit {0}
 Stops (c ∷ cs) =
@@ -96,7 +96,7 @@ digit_from b h = grind (arith, nat_tests)
 digit_no_word : (b : ℕ) → is_ascii_digit b ≡ true → begins_word b ≡ false
 digit_no_word b h = grind (arith, nat_tests)
 
--- what a run is, and what stands behind it
+-- a run, and what follows it
 front_all : (r : Run) (xs rest : List ℕ) → list_all (is_in r) xs ≡ true → EndsRun r rest
     → front r (xs ++ rest) ≡ xs
 front_all r [] [] h e = refl
@@ -185,7 +185,7 @@ number_piece (d ∷ ds) rest h s =
     ∙ ap (number_before (d ∷ ds)) (behind_all Digits (d ∷ ds) rest h (ends_digits rest s))
     ∙ number_ends (d ∷ ds) rest s
 
--- texts and names between quotes
+-- texts and names in quotes
 closed_end : (q : ℕ) (rest : List ℕ) → EndsQuote q rest → closed q (q ∷ rest) ≡ Some ([], rest)
 closed_end q [] e = let same = eq-eqb q q refl in rw same refl
 closed_end q (c ∷ cs) e = let same = eq-eqb q q refl in let other : (c == q) ≡ false = e in
@@ -230,7 +230,7 @@ quoted_piece : (w rest : List ℕ) → IsDoubled 34 w → Stops rest
 quoted_piece w rest h s = double_opens ((w ++ (34 ∷ [])) ++ rest)
     ∙ ap (quoted_by quoted) (closed_there 34 w rest h (ends_double rest s))
 
--- what may follow, by what stands before it
+-- what may follow, by what comes before
 abbrev Follows : Ending → List ℕ → Type 0
 Follows at.Tight bs = Unit {0}
 Follows at.Signed bs = NoMinus bs
@@ -325,7 +325,7 @@ token_piece e (number ds) rest h f = number_piece ds rest h f
 token_piece e (text bs) rest h f = text_piece bs rest h f
 token_piece e (sign s) rest h f = sign_piece e s rest f
 
--- what is written next does follow
+-- what is written next may follow
 blank_stops : (xs : List ℕ) → Stops (32 ∷ xs)
 blank_stops xs = (refl, refl, refl, refl, refl, refl, refl)
 

@@ -26,29 +26,29 @@ abbrev pub name_tokens : Option Token → List Token
 name_tokens None = []
 name_tokens (Some n) = token.sign sign.As ∷ n ∷ []
 
--- The tokens are those of the answer's tree, whose operands stand at their levels, and where it has
--- a name, those of `as` and the name.
+-- The tokens are those of the answer's tree, whose operands fit their levels, and, if it has a
+-- name, `as` and the name.
 pub record SpellsAnswer (ts : List Token) (a : Answer) : Type 0 where
   pub levels : Fits a.tree
   pub named : IfSome a.name (λ n. is_name n ≡ true)
   pub tokens : ts ≡ spelling a.tree ++ name_tokens a.name
 
--- The tokens are those of one answer, or of one, a comma and further ones.
+-- The tokens are those of one answer, or of one, a comma and more answers.
 pub data SpellsAnswers : List Token → List Answer → Type 0 where
   one : {ts : List Token} {a : Answer} → SpellsAnswer ts a → SpellsAnswers ts (a ∷ [])
   more : {ts vs : List Token} {a : Answer} {bs : List Answer} (us : List Token)
       → ts ≡ us ++ (token.sign sign.Comma ∷ vs) → SpellsAnswer us a → SpellsAnswers vs bs
       → SpellsAnswers ts (a ∷ bs)
 
--- The text is read as the list: its tokens are the list's, and their brackets nest no deeper than
--- they may.
+-- The text is read as the list: its tokens are the list's, and brackets nest no deeper than
+-- allowed.
 pub record ReadsAnswers (text : List ℕ) (answers : List Answer) : Type 0 where
   pub ts : List Token
   pub lexed : Lexes text ts
   pub spelled : SpellsAnswers ts answers
   pub nested : nests ts ≡ true
 
--- what is answered of an answer: its tree's steps in postfix order, and its name
+-- the result for an answer: its tree's steps in postfix order, and its name
 pub record Told : Type 0 where
   pub steps : List Step
   pub name : Option Token

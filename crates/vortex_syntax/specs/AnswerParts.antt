@@ -1,4 +1,4 @@
--- Reading a list of answers: what stands between its commas, part by part.
+-- Reading a list of answers, one between each two commas.
 use Rattle.std.specs.Prelude.{◌≡◌, Bool, true, false, ◌&&◌, List, [], ◌∷◌, reverse, Option}
 use Rattle.std.specs.Prelude.{Some, None, option_map, if◌then◌else◌, Result, MatchResult}
 use Rattle.std.specs.Option.{option_and_then}
@@ -20,8 +20,8 @@ abbrev pub is_as : Token → Bool
 is_as (sign sign.As) = true
 is_as _ = false
 
--- The tokens of a tree and the name behind them, where the last two tokens are `as` and a name. The
--- last token stands first.
+-- The tokens of a tree and the name after them, where the last two tokens are `as` and a name. In
+-- reverse: the last token is first.
 abbrev pub name_back : List Token → Option (List Token × Token)
 name_back (n ∷ t ∷ ts) = if is_as t && is_name n then Some (reverse ts, n) else None
 name_back ts = None
@@ -51,6 +51,6 @@ answers_of (p ∷ ps) = with_first (answer_of p) (answers_of ps)
 unfoldable pub all_answers : List Token → Option (List Told)
 all_answers ts = answers_of (slice_split is_comma ts)
 
--- what a call answers is that answer, unless memory ran out
+-- the result is that answer, unless memory ran out
 abbrev pub Tells : Result SyntaxAnswer SyntaxError → Option Told → Type 0
 Tells r x = MatchResult r (λ a. x ≡ Some (answer_in a)) (UnlessMemory (x ≡ None))

@@ -5,7 +5,7 @@ use Rattle.std.specs.Str.{bytes_eq}
 use Rattle.vortex_syntax.specs.declared.token.Sign.{Sign}
 use Rattle.vortex_syntax.specs.declared.token.Sign.TheVariants as sign
 
--- the same word, but for the case of letters
+-- the same word, ignoring case
 abbrev pub same_word : List ℕ → List ℕ → Bool
 same_word w v = bytes_eq (map to_ascii_lowercase w) (map to_ascii_lowercase v)
 

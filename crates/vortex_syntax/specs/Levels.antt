@@ -1,7 +1,7 @@
--- The levels of SQL, as PostgreSQL has them: what binds tighter stands at a higher one.
+-- The precedence levels of SQL, as in PostgreSQL: what binds tighter has a higher level.
 use Rattle.std.specs.Prelude.{◌≡◌, ℕ, ◌≤◌, Bool, true, false}
-use Rattle.vortex_syntax.specs.declared.step.Operator.{Operator}
-use Rattle.vortex_syntax.specs.declared.step.Operator.TheVariants as operator
+use Rattle.vortex_syntax.specs.declared.step.WrittenOperator.{WrittenOperator}
+use Rattle.vortex_syntax.specs.declared.step.WrittenOperator.TheVariants as operator
 use Rattle.vortex_syntax.specs.declared.token.Sign.{Sign}
 use Rattle.vortex_syntax.specs.declared.token.Sign.TheVariants as sign
 use Rattle.vortex_syntax.specs.Tokens.{Token, name, nullable, quoted, number, text, sign}
@@ -37,13 +37,13 @@ product_level = 7
 abbrev pub atom_level : ℕ
 atom_level = 8
 
--- literals without a type, which alone may have one behind them
+-- literals without a type; only these may be followed by one
 abbrev pub literal_level : ℕ
 literal_level = 9
 
--- the level of an operator's tree, and those that its operands have at least: Or, And, sums and
--- products go from left to right, and comparisons stand in no chains
-abbrev pub own : Operator → ℕ
+-- the level of an operator's tree, and the least levels of its operands: Or, And, sums and products
+-- group from left to right, and comparisons do not chain
+abbrev pub own : WrittenOperator → ℕ
 own operator.Or = or_level
 own operator.And = and_level
 own operator.Add = sum_level
@@ -52,7 +52,7 @@ own operator.Mul = product_level
 own operator.Div = product_level
 own _ = comparison_level
 
-abbrev pub left : Operator → ℕ
+abbrev pub left : WrittenOperator → ℕ
 left operator.Or = or_level
 left operator.And = and_level
 left operator.Add = sum_level
@@ -61,7 +61,7 @@ left operator.Mul = product_level
 left operator.Div = product_level
 left _ = predicate_level
 
-abbrev pub right : Operator → ℕ
+abbrev pub right : WrittenOperator → ℕ
 right operator.Or = and_level
 right operator.And = not_level
 right operator.Add = product_level
@@ -102,7 +102,7 @@ level (between n a low high) = predicate_level
 level (matched k a p e) = predicate_level
 level (cast a w n) = atom_level
 
--- each operand binds at least as tightly as its place asks
+-- each operand binds at least as tightly as required there
 abbrev pub Fits : Syntax → Type 0
 Fits (operand t) = is_operand t ≡ true
 Fits (negative ds) = Unit {0}

@@ -1,4 +1,4 @@
--- Which tokens a text is: its pieces from left to right, without the gaps.
+-- Which tokens a text has: its pieces from left to right, without the gaps.
 use Rattle.std.specs.Prelude.{◌≡◌, ℕ, List, [], ◌∷◌, Some}
 use Rattle.vortex_syntax.specs.Tokens.{Token}
 use Rattle.vortex_syntax.specs.Pieces.{gap, token, first_piece}

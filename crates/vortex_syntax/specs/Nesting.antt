@@ -3,12 +3,12 @@ use Rattle.std.specs.Prelude.{ℕ, zero, suc, Bool, true, nat_lt, ◌&&◌, List
 use Rattle.vortex_syntax.specs.declared.token.Sign.TheVariants as sign
 use Rattle.vortex_syntax.specs.Tokens.{Token, sign}
 
--- so many brackets may be open at once
+-- the most brackets that may be open at once
 abbrev pub nesting_limit : ℕ
 nesting_limit = 1000
 
--- Where d brackets are open, no more than the limit are at once. A bracket that closes none is refused
--- otherwise.
+-- With d brackets open, no more than the limit are open at once. A bracket that closes none is
+-- another error.
 abbrev pub nests_from : ℕ → List Token → Bool
 nests_from d [] = true
 nests_from d (sign sign.Open ∷ ts) = nat_lt d nesting_limit && nests_from (suc d) ts

@@ -1,4 +1,4 @@
--- The first piece of a text, which is a gap or a token, and what stands behind it.
+-- The first piece of a text, a gap or a token, and what follows it.
 use Rattle.std.specs.Prelude.{◌==◌, ◌||◌, ℕ, Bool, true, false, List, [], ◌∷◌, Option, Some, None}
 use Rattle.std.specs.Prelude.{◌++◌, if◌then◌else◌}
 use Rattle.std.specs.Char.{is_ascii_alphabetic, is_ascii_alphanumeric, is_ascii_digit}
@@ -20,7 +20,7 @@ abbrev pub piece_in : read.Piece → Piece
 piece_in variant.Gap = gap
 piece_in (variant.Token t) = token (token_in t)
 
--- a piece and what stands behind it, or no piece begins there
+-- a piece and what follows it, or none where no piece begins
 abbrev pub Cut : Type 0
 Cut = Option (Piece × List ℕ)
 
@@ -36,7 +36,7 @@ is_in Word b = is_ascii_alphanumeric b || (b == 95)
 is_in Digits b = is_ascii_digit b
 is_in Line b = if b == 10 then false else (if b == 13 then false else true)
 
--- the bytes of that run that a text begins with, and those behind them
+-- the bytes of that run at the start of a text, and the bytes after them
 abbrev pub front : Run → List ℕ → List ℕ
 front r [] = []
 front r (b ∷ bs) = if is_in r b then b ∷ front r bs else []
@@ -45,7 +45,7 @@ abbrev pub behind : Run → List ℕ → List ℕ
 behind r [] = []
 behind r (b ∷ bs) = if is_in r b then behind r bs else b ∷ bs
 
--- a word is a keyword, or else a name
+-- a word is a keyword or a name
 abbrev pub keyword_or_name : List ℕ → Option Sign → Token
 keyword_or_name w None = name w
 keyword_or_name w (Some s) = sign s
@@ -56,13 +56,13 @@ word_before w (b ∷ bs) =
     if b == 63 then (token (nullable w), bs)
     else (token (keyword_or_name w (keyword_of w)), b ∷ bs)
 
--- no word begins right behind a number
+-- no word begins right after a number
 abbrev pub number_before : List ℕ → List ℕ → Cut
 number_before ds [] = Some (token (number ds), [])
 number_before ds (b ∷ bs) =
     if is_in Word b then None else Some (token (number ds), b ∷ bs)
 
--- the text up to the first quote that is not written twice, and what stands behind that quote
+-- the text up to the first quote that is not doubled, and what follows that quote
 abbrev pub with_front : List ℕ → Option (List ℕ × List ℕ) → Option (List ℕ × List ℕ)
 with_front bs None = None
 with_front bs (Some x) = Some (bs ++ x.0, x.1)
@@ -79,7 +79,7 @@ abbrev pub quoted_by : (List ℕ → Token) → Option (List ℕ × List ℕ) �
 quoted_by make None = None
 quoted_by make (Some x) = Some (token (make x.0), x.1)
 
--- the signs of two characters, and those of one
+-- the two-character signs, and the one-character signs
 abbrev pub sign_of_two : ℕ → ℕ → Option Sign
 sign_of_two b c =
     if b == 60 then (if c == 61 then Some sign.LessOrEqual

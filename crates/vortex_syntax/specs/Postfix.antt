@@ -1,4 +1,4 @@
--- A tree's steps in postfix order: its operands' first, and no brackets.
+-- A tree's steps in postfix order: its operands' steps first, and no brackets.
 use Rattle.std.specs.Prelude.{ℕ, List, [], ◌∷◌, ◌++◌, Bool, Option, Some, None}
 use Rattle.std.specs.Prelude.{if◌then◌else◌}
 use Rattle.vortex_syntax.specs.declared.step.LikeKind.{LikeKind}

@@ -1,10 +1,10 @@
--- Reading from left to right: one token after another, with what waits for its last operand.
+-- Reading from left to right, one token at a time, with the frames that wait for an operand.
 use Rattle.std.specs.Prelude.{map, reverse, ℕ, ◌&&◌, nat_lt, nat_le, List, [], ◌∷◌, ◌++◌, Bool}
 use Rattle.std.specs.Prelude.{true, false, Option, Some, None, if◌then◌else◌, Result, IfOk, ◌≡◌}
 use Rattle.std.specs.declared.alloc.AllocError.{AllocError}
 use Rattle.std.specs.Option.{option_and_then, option_map}
-use Rattle.vortex_syntax.specs.declared.step.Operator.{Operator}
-use Rattle.vortex_syntax.specs.declared.step.Operator.TheVariants as operator
+use Rattle.vortex_syntax.specs.declared.step.WrittenOperator.{WrittenOperator}
+use Rattle.vortex_syntax.specs.declared.step.WrittenOperator.TheVariants as operator
 use Rattle.vortex_syntax.specs.declared.step.LikeKind.{LikeKind}
 use Rattle.vortex_syntax.specs.declared.step.Call.TheVariants as call
 use Rattle.vortex_syntax.specs.declared.token.Sign.{Sign}
@@ -21,7 +21,7 @@ use Rattle.vortex_syntax.specs.declared.reading.Reading.{Reading}
 use Rattle.vortex_syntax.specs.Postfix.{Step, step_in, operand, negative, typed, cast, escaped}
 use Rattle.vortex_syntax.specs.Postfix.{called, null_call}
 
--- the last frame stands first
+-- the last frame is first
 pub record State : Type 0 where
   pub mode : Mode
   pub frames : List Frame
@@ -30,7 +30,7 @@ pub record State : Type 0 where
 abbrev pub state : Mode → List Frame → List Step → State
 state m fs out = record { mode = m; frames = fs; steps = out }
 
--- what is seen of a reading
+-- the view of a reading
 abbrev pub frames_in : Reading → List Frame
 frames_in r = reverse r.frames.items
 
@@ -40,7 +40,7 @@ steps_in r = map step_in r.tree.steps.items
 abbrev pub seen : Reading → Mode → State
 seen r m = state m (frames_in r) (steps_in r)
 
--- the level that an operand has at least which a frame waits for
+-- the least level of an operand that a frame waits for
 abbrev pub hole : Frame → ℕ
 hole frame.Open = 0
 hole frame.Cast = 0
@@ -54,7 +54,7 @@ abbrev pub top_hole : List Frame → ℕ
 top_hole [] = 0
 top_hole (f ∷ fs) = hole f
 
--- a frame is closed before a sign of a lower level than this: never where more than an operand is
+-- a frame is closed before a sign of a lower level than this: never where more than one operand is
 -- missing
 abbrev pub guard : Frame → ℕ
 guard frame.Open = 0
@@ -65,7 +65,7 @@ guard (frame.Between n) = 0
 guard (frame.Bounded n) = sum_level
 guard (frame.Like k) = sum_level
 
--- the level of what a frame becomes with its operand, and its step
+-- the level of a frame with its operand, and its step
 abbrev pub whole : Frame → ℕ
 whole frame.Open = atom_level
 whole frame.Cast = atom_level
@@ -84,7 +84,7 @@ closing (frame.Between n) = called (call.Between n)
 closing (frame.Bounded n) = called (call.Between n)
 closing (frame.Like k) = called (call.Like k)
 
--- an operand of a level, behind what waits for it
+-- an operand of a level, after pending frames
 pub record Operand : Type 0 where
   pub level : ℕ
   pub frames : List Frame
@@ -93,23 +93,23 @@ pub record Operand : Type 0 where
 abbrev pub operand_of : ℕ → List Frame → List Step → Operand
 operand_of level fs out = record { level = level; frames = fs; steps = out }
 
--- closes what binds tighter than a sign of level p
+-- closes frames that bind tighter than a sign of level p
 unfoldable pub settled : ℕ → ℕ → List Frame → List Step → Operand
 settled p level [] out = operand_of level [] out
 settled p level (f ∷ fs) out =
     if nat_lt p (guard f) then settled p (whole f) fs (out ++ (closing f ∷ []))
     else operand_of level (f ∷ fs) out
 
--- what a frame that was closed, or none, leaves to settle
+-- what a closed frame, or none, leaves to close
 abbrev pub closed_once : Option ℕ → ℕ → ℕ → List Frame → List Step → Operand
 closed_once None p level fs out = operand_of level fs out
 closed_once (Some l) p level fs out = settled p l fs out
 
--- what a call answers is the next state, unless memory ran out
+-- the result is the next state, unless memory ran out
 abbrev pub Gives : Result (Option Mode) AllocError → Reading → Option State → Type 0
 Gives r new s = IfOk r (λ m. option_map (seen new) m ≡ s)
 
--- a sign of level p whose left operand has level l at least, behind which f waits
+-- a sign of level p whose left operand has at least level l; f is pending after it
 abbrev pub waiting : ℕ → ℕ → Frame → Operand → Option State
 waiting p l f a =
     if nat_le l a.level && nat_le (top_hole a.frames) p
@@ -118,11 +118,11 @@ waiting p l f a =
 abbrev pub shifted : ℕ → ℕ → Frame → ℕ → List Frame → List Step → Option State
 shifted p l f level fs out = waiting p l f (settled p level fs out)
 
-abbrev pub joining : Operator → ℕ → List Frame → List Step → Option State
+abbrev pub joining : WrittenOperator → ℕ → List Frame → List Step → Option State
 joining o = shifted (own o) (left o) (frame.Join o)
 
--- the operators but And, by their signs
-abbrev pub operator_of : Sign → Option Operator
+-- the operators except And, by their signs
+abbrev pub operator_of : Sign → Option WrittenOperator
 operator_of sign.Or = Some operator.Or
 operator_of sign.Equal = Some operator.Equal
 operator_of sign.NotEqual = Some operator.NotEqual
@@ -136,7 +136,7 @@ operator_of sign.Times = Some operator.Mul
 operator_of sign.Divide = Some operator.Div
 operator_of _ = None
 
--- `and` ends the lower bound of a BETWEEN that waits, or else joins
+-- `and` ends the lower bound of a pending BETWEEN, or else joins
 abbrev pub and_behind : ℕ → List Frame → List Step → Option State
 and_behind l [] out = waiting and_level and_level (frame.Join operator.And) (operand_of l [] out)
 and_behind l (frame.Between n ∷ fs) out = Some (state mode.Want (frame.Bounded n ∷ fs) out)
@@ -147,7 +147,7 @@ abbrev pub is_behind : ℕ → List Frame → List Step → Option State
 is_behind l fs out =
     if nat_le is_level l && nat_le (top_hole fs) is_level then Some (state mode.Is fs out) else None
 
--- a `not` behind an operand, which BETWEEN or LIKE may follow
+-- a `not` after an operand, which BETWEEN or LIKE may follow
 abbrev pub not_behind : ℕ → List Frame → List Step → Option State
 not_behind l fs out =
     if nat_le sum_level l && nat_le (top_hole fs) predicate_level
@@ -172,7 +172,7 @@ abbrev pub end_behind : List Frame → List Step → Option (List Step)
 end_behind [] out = Some out
 end_behind (f ∷ fs) out = None
 
--- a sign behind an operand, plain or behind `not`
+-- a sign after an operand, alone or after `not`
 abbrev pub like_kind : Bool → Bool → LikeKind
 like_kind n i = record { negated = n; case_insensitive = i }
 
@@ -202,7 +202,8 @@ word_behind level fs out sign.Typed =
     if nat_le literal_level level then Some (state mode.Typing fs out) else None
 word_behind level fs out s = predicate false level fs out s
 
-abbrev pub operator_or_word : ℕ → List Frame → List Step → Sign → Option Operator → Option State
+abbrev pub operator_or_word : ℕ → List Frame → List Step → Sign → Option WrittenOperator
+    → Option State
 operator_or_word level fs out s None = word_behind level fs out s
 operator_or_word level fs out s (Some o) = joining o level fs out
 
@@ -227,8 +228,8 @@ abbrev pub other_wanted : List Frame → List Step → Token → Option State
 other_wanted fs out (sign s) = sign_wanted fs out s
 other_wanted fs out t = None
 
-abbrev pub wanted : List Frame → List Step → Token → Option State
-wanted fs out t =
+abbrev pub before_operand : List Frame → List Step → Token → Option State
+before_operand fs out t =
     if is_operand t then Some (state (mode.Have (operand_level t)) fs (out ++ (operand t ∷ [])))
     else other_wanted fs out t
 
@@ -248,7 +249,7 @@ cast_wanted fs out (name w) = Some (state mode.CastEnd fs (out ++ (cast w false 
 cast_wanted fs out (nullable w) = Some (state mode.CastEnd fs (out ++ (cast w true ∷ [])))
 cast_wanted fs out t = None
 
--- the words and signs that only one thing may follow
+-- the words and signs that have only one possible successor
 abbrev pub null_test : Bool → List Frame → List Step → Option State
 null_test n fs out = Some (state (mode.Have is_level) fs (out ++ (called (null_call n) ∷ [])))
 
@@ -275,7 +276,7 @@ behind_escape k fs out (text e) =
 behind_escape k fs out t = None
 
 unfoldable pub next : Mode → List Frame → List Step → Token → Option State
-next mode.Want fs out t = wanted fs out t
+next mode.Want fs out t = before_operand fs out t
 next mode.Signed fs out t = digits_wanted fs out t
 next (mode.Have level) fs out t = behind level fs out t
 next mode.Typing fs out t = type_wanted fs out t
@@ -293,7 +294,7 @@ finish (mode.Have level) fs out =
     let a = settled or_level level fs out in end_behind a.frames a.steps
 finish m fs out = None
 
--- the steps of what the tokens go on to
+-- the steps that the tokens lead to
 unfoldable pub run : State → List Token → Option (List Step)
 run s [] = finish s.mode s.frames s.steps
 run s (t ∷ ts) = option_and_then (λ r. run r ts) (next s.mode s.frames s.steps t)

@@ -1,8 +1,8 @@
--- The tokens that a tree is written with.
+-- The tokens that spell a tree.
 use Rattle.std.specs.Prelude.{ℕ, List, [], ◌∷◌, ◌++◌, Bool, Option, Some, None}
 use Rattle.std.specs.Prelude.{if◌then◌else◌}
-use Rattle.vortex_syntax.specs.declared.step.Operator.{Operator}
-use Rattle.vortex_syntax.specs.declared.step.Operator.TheVariants as operator
+use Rattle.vortex_syntax.specs.declared.step.WrittenOperator.{WrittenOperator}
+use Rattle.vortex_syntax.specs.declared.step.WrittenOperator.TheVariants as operator
 use Rattle.vortex_syntax.specs.declared.step.LikeKind.{LikeKind}
 use Rattle.vortex_syntax.specs.declared.token.Sign.{Sign}
 use Rattle.vortex_syntax.specs.declared.token.Sign.TheVariants as sign
@@ -10,7 +10,7 @@ use Rattle.vortex_syntax.specs.Tokens.{Token, name, nullable, number, text, sign
 use Rattle.vortex_syntax.specs.Syntax.{Syntax, operand, negative, typed, grouped, negated, joined}
 use Rattle.vortex_syntax.specs.Syntax.{tested, between, matched, cast}
 
-abbrev pub operator_sign : Operator → Sign
+abbrev pub operator_sign : WrittenOperator → Sign
 operator_sign operator.Or = sign.Or
 operator_sign operator.And = sign.And
 operator_sign operator.Equal = sign.Equal
@@ -27,7 +27,7 @@ operator_sign operator.Div = sign.Divide
 abbrev pub type_token : List ℕ → Bool → Token
 type_token w n = if n then nullable w else name w
 
--- a sign, and `not` before it where that is said
+-- a sign, and `not` before it where that is true
 abbrev pub with_not : Bool → Sign → List Token
 with_not n s = if n then sign sign.Not ∷ sign s ∷ [] else sign s ∷ []
 

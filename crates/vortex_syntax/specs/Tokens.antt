@@ -1,11 +1,11 @@
--- Tokens, apart from where their bytes lie.
+-- Tokens, without their positions.
 use Rattle.std.specs.Prelude.{ℕ, List}
 use Rattle.vortex_syntax.specs.declared.token.Sign.{Sign}
 use Rattle.vortex_syntax.specs.declared.token.Token as read
 use Rattle.vortex_syntax.specs.declared.token.Token.TheVariants as variant
 
--- a name, a name with a question mark behind it, what stands between double quotes, digits, what
--- stands between single quotes, and a keyword or a sign. Between quotes bytes stand as written.
+-- a name, a name with a question mark after it, the bytes in double quotes, digits, the bytes in
+-- single quotes, and a keyword or a sign. Bytes in quotes are as written.
 pub data Token : Type 0 where
   name : List ℕ → Token
   nullable : List ℕ → Token

@@ -1,4 +1,4 @@
--- The text of tokens: how each is written, and where a blank stands before it.
+-- The text of tokens: how each is written, and where a blank comes before it.
 use Rattle.std.specs.Prelude.{◌≡◌, ℕ, ◌==◌, ◌&&◌, Bool, true, false, List, [], ◌∷◌, ◌++◌, codes}
 use Rattle.std.specs.Prelude.{is_none, string_bytes, if◌then◌else◌}
 use Rattle.std.specs.List.{list_all}
@@ -41,7 +41,7 @@ sign_text sign.Close = codes ")"
 sign_text sign.Comma = codes ","
 sign_text sign.Typed = codes "::"
 
--- between quotes each quote stands twice
+-- each quote within quotes is doubled
 abbrev pub doubled : ℕ → List ℕ → List ℕ
 doubled q [] = []
 doubled q (b ∷ bs) = if b == q then b ∷ b ∷ doubled q bs else b ∷ doubled q bs
@@ -57,8 +57,8 @@ token_text (number ds) = ds
 token_text (text bs) = in_quotes 39 bs
 token_text (sign s) = sign_text s
 
--- A blank stands before each token but for these, by what stands before: `)`, `,` and `::`; all at
--- the start and behind `(` and `::`; a number behind its minus sign; and the bracket of `cast`.
+-- A blank comes before each token, except: `)`, `,` and `::`; the first token; any token after `(`
+-- or `::`; a number after its minus sign; and the bracket of `cast`.
 abbrev pub is_tight : Ending → Bool
 is_tight at.Tight = true
 is_tight e = false
@@ -88,7 +88,7 @@ joins e t = is_tight e
 abbrev pub blank_unless : Bool → List ℕ
 blank_unless joined = if joined then [] else codes " "
 
--- What stands before the next token. A minus sign is a number's where no operand ends before it.
+-- What comes before the next token. A minus sign is a number's unless an operand ends before it.
 abbrev pub minus_ending : Ending → Ending
 minus_ending at.Operand = at.Loose
 minus_ending e = at.Signed
@@ -126,7 +126,7 @@ abbrev pub is_word : List ℕ → Bool
 is_word [] = false
 is_word (b ∷ bs) = begins_word b && list_all (is_in Word) bs
 
--- a name that stands without quotes: a word that is no keyword
+-- a name written without quotes: a word that is no keyword
 abbrev pub is_bare : List ℕ → Bool
 is_bare w = is_word w && is_none (keyword_of w)
 
@@ -137,7 +137,7 @@ are_digits (d ∷ ds) = list_all (is_in Digits) (d ∷ ds)
 abbrev pub IsDoubled : ℕ → List ℕ → Type 0
 IsDoubled q bs = (raw : List ℕ) × (bs ≡ doubled q raw)
 
--- tokens that stand in a text
+-- tokens of some text
 abbrev pub IsWritable : Token → Type 0
 IsWritable (name w) = is_bare w ≡ true
 IsWritable (nullable w) = is_word w ≡ true
@@ -161,7 +161,7 @@ text_token bs = text (doubled 39 bs)
 abbrev pub Holds : List Token → Writer → Type 0
 Holds ts w = (string_bytes w.text ≡ written ts) × (w.ending ≡ ending_of at.Tight ts)
 
--- one token more is written
+-- one more token is written
 abbrev pub Adds : Token → Writer → Writer → Type 0
 Adds t old new =
     (string_bytes new.text

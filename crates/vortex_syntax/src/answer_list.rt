@@ -17,13 +17,13 @@ use crate::error::SyntaxError;
 use crate::expected::Expected;
 use crate::lexing::read_tokens;
 use crate::nesting::too_deep;
-use crate::places::Places;
+use crate::places::TokenPlaces;
 use crate::reader::read_steps;
 use crate::token::{Sign, Token};
 use crate::tree::SyntaxTree;
 use std::alloc::Global;
 
-/// An answer of a list: a tree, and the name behind its `as`, a `Name` or a `Quoted`.
+/// An answer in a list: a tree, and the name after its `as`, a `Name` or a `Quoted`.
 #[derive(Drop)]
 pub struct SyntaxAnswer<'a> {
     pub tree: SyntaxTree<'a>,
@@ -48,14 +48,14 @@ fn is_name(token: Token<'_>) -> bool
     matches!(token, Token::Name(_) | Token::Quoted(_))
 }
 
-/// Whether they are `as` and a name.
+/// Whether the tokens are `as` and a name.
 fn is_naming(word: Token<'_>, name: Token<'_>) -> bool
     ensures { result ≡ (is_as (token_in word.entry) && is_name (token_in name.entry)) }
 {
     is_as(word) && is_name(name)
 }
 
-/// The tokens of a tree and the name behind them, where the last two tokens are `as` and a name.
+/// The tokens of a tree and the name after them, where the last two tokens are `as` and a name.
 fn split_name<'s, 'a>(tokens: &'s [Token<'a>]) -> Option<(&'s [Token<'a>], Token<'a>)>
     ensures { option_map (λ x. (map token_in x.0.now, token_in x.1)) result
         ≡ specs.split_name (map token_in tokens.now) }
@@ -77,7 +77,7 @@ fn split_name<'s, 'a>(tokens: &'s [Token<'a>]) -> Option<(&'s [Token<'a>], Token
 fn read_named<'a>(
     alloc: Global,
     tokens: &[Token<'a>],
-    places: Places<'_>,
+    places: TokenPlaces<'_>,
     name: Option<Token<'a>>,
 ) -> Result<SyntaxAnswer<'a>, SyntaxError>
     ensures told { Tells result
@@ -93,7 +93,7 @@ fn read_named<'a>(
 fn read_answer<'a>(
     alloc: Global,
     tokens: &[Token<'a>],
-    places: Places<'_>,
+    places: TokenPlaces<'_>,
 ) -> Result<SyntaxAnswer<'a>, SyntaxError>
     ensures told { Tells result (answer_of (map token_in tokens.now)) }
     ensures refused { IfErr result
@@ -121,11 +121,11 @@ fn first_comma(tokens: &[Token<'_>]) -> Option<usize>
     None
 }
 
-/// The answers that the tokens spell; else the first token with which none goes on, by its byte.
+/// The answers that the tokens spell; else the first token with which none continues, by its byte.
 fn read_parts<'a>(
     alloc: Global,
     tokens: &[Token<'a>],
-    places: Places<'_>,
+    places: TokenPlaces<'_>,
 ) -> Result<Vec<SyntaxAnswer<'a>>, SyntaxError>
     ensures read { MatchResult result
         (λ v. all_answers (map token_in tokens.now) ≡ Some (map answer_in v.items))
@@ -145,17 +145,17 @@ fn read_parts<'a>(
     Ok(answers)
 }
 
-/// The answers that the text is read as, one or more with commas between: each a tree, and its name
-/// behind `as` where it has one. Refused exactly where it is read as none: `NoToken`, `TooDeep`, or
-/// `Unexpected` with what could have come, each with the byte.
+/// Parses a list of answers, one or more with commas between: each a tree, and its name after `as`
+/// if it has one. Fails exactly where the text is no list: `NoToken`, `TooDeep`, or `Unexpected`
+/// with what was expected, each with the byte.
 pub fn read_answer_list(alloc: Global, text: &[u8]) -> Result<Vec<SyntaxAnswer<'_>>, SyntaxError>
-    // What is read is a list of the text.
+    // The result is a list of the text.
     ensures found { IfOk result (λ v. (answers : List Answer) × ReadsAnswers text.now answers
         × (map answer_in v.items ≡ map told answers)) }
-    // A list of the text is read.
+    // A list of the text is returned.
     ensures only { (answers : List Answer) → ReadsAnswers text.now answers
         → AnswersUnlessMemory result (λ v. map answer_in v.items ≡ map told answers) }
-    // Where none is read, the refusal is the text's, with its byte.
+    // An error is the text's, with its byte.
     ensures refused { IfErr result (RefusesBy ListStopsAt text.now) }
 {
     let read = read_tokens(alloc, text)?;

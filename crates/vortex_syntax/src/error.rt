@@ -1,4 +1,4 @@
-//! What is refused.
+//! Syntax errors.
 ghost use Rattle.std.specs.Prelude.{◌≡◌};
 ghost use Rattle.vortex_syntax.specs.declared.error.SyntaxError.TheVariants.{OutOfMemory};
 
@@ -10,8 +10,8 @@ use std::alloc::{AllocError, AllocFailed};
 pub enum SyntaxError {
     /// No token begins at that byte.
     NoToken(usize),
-    /// No expression goes on with the token at that byte, or none ends where the text ends; and
-    /// what could have come there, which is tested, not proved.
+    /// No expression continues with the token at that byte, or none ends where the text ends. With
+    /// what was expected there, which is tested, not proved.
     Unexpected(usize, Expected),
     /// Brackets nest too deep at that byte.
     TooDeep(usize),
@@ -21,7 +21,7 @@ pub enum SyntaxError {
 impl SyntaxError {
     ghost use Rattle.vortex_syntax.specs.Errors.{byte_of};
 
-    /// The byte of the text, but where memory ran out.
+    /// The byte of the text, unless memory ran out.
     pub fn byte(&self) -> Option<usize>
         ensures { result ≡ byte_of self.now }
     {

@@ -1,53 +1,53 @@
-//! What could have come where a text is no expression.
+//! What was expected where a text is no expression.
 ghost use Rattle.std.specs.Prelude.{◌≡◌};
 ghost use Rattle.vortex_syntax.specs.Expected.{words};
 
 use std::fmt;
 
-/// What could have come at a byte where no expression goes on.
+/// What was expected at a byte where no expression continues.
 #[derive(Clone, Copy, Debug, PartialEq, Eq)]
 pub enum Expected {
     /// An operand, or `not`.
     Operand,
     /// An operand that binds tighter than `not`.
     TightOperand,
-    /// Behind a minus sign.
+    /// After a minus sign.
     Digits,
-    /// Behind an operand outside of brackets.
+    /// After an operand outside of brackets.
     OperatorOrEnd,
     /// The same in a list of answers.
     OperatorOrName,
-    /// Behind an operand in brackets.
+    /// After an operand in brackets.
     OperatorOrClose,
-    /// Behind an operand in the brackets of `cast`.
+    /// After an operand in the brackets of `cast`.
     OperatorOrAs,
-    /// Behind an operand that stands behind `between`.
+    /// After an operand that follows `between`.
     OperatorOrAnd,
-    /// At a comparison, `between`, `like`, or the `not` of one, behind what binds no tighter: a
-    /// comparison, a test for null, `between` or `like`.
+    /// At a comparison, `between`, `like`, or `not` before one, after an operand that binds no
+    /// tighter: a comparison, a test for null, `between` or `like`.
     Brackets,
-    /// At two colons behind what is no literal without a type.
+    /// At two colons after anything but a literal without a type.
     LiteralBeforeType,
-    /// Behind two colons, and behind the `as` of `cast`.
+    /// After two colons, and after the `as` of `cast`.
     TypeName,
-    /// Behind `is`.
+    /// After `is`.
     NullOrNot,
-    /// Behind `is not`.
+    /// After `is not`.
     Null,
-    /// Behind an operand and `not`.
+    /// After an operand and `not`.
     PredicateWord,
-    /// Behind `cast`.
+    /// After `cast`.
     OpenBracket,
-    /// Behind the type of `cast`.
+    /// After the type of `cast`.
     CloseBracket,
-    /// Behind `escape`.
+    /// After `escape`.
     EscapeText,
-    /// At the `as` of an answer where no name stands behind it, or more than a name.
+    /// At the `as` of an answer that no name follows, or more than a name.
     AnswerName,
 }
 
 impl Expected {
-    /// The words for what could have come.
+    /// The words for what was expected.
     pub fn text(&self) -> &'static str
         ensures { result.now ≡ words self.now }
     {

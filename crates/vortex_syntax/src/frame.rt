@@ -1,23 +1,23 @@
-//! What waits for an operand while a text is read.
+//! Frames that wait for an operand while a text is read.
 ghost use Rattle.std.specs.Prelude.{◌≡◌};
 ghost use Rattle.vortex_syntax.specs.Postfix.{called};
 ghost use Rattle.vortex_syntax.specs.Reading as specs;
 
 use crate::levels::{ATOM, NOT, OR, PREDICATE, SUM, own, right};
-use crate::step::{Call, LikeKind, Operator};
+use crate::step::{Call, LikeKind, WrittenOperator};
 
-/// What waits for its last operand.
+/// A frame that waits for its last operand.
 #[derive(Clone, Copy, Debug, PartialEq, Eq)]
 pub enum Frame {
     /// An opening bracket.
     Open,
-    /// The bracket behind `cast`.
+    /// The bracket after `cast`.
     Cast,
     Not,
-    Join(Operator),
+    Join(WrittenOperator),
     /// BETWEEN before its `and`, or NOT BETWEEN.
     Between(bool),
-    /// BETWEEN behind its `and`, or NOT BETWEEN.
+    /// BETWEEN after its `and`, or NOT BETWEEN.
     Bounded(bool),
     Like(LikeKind),
 }
@@ -27,29 +27,29 @@ pub enum Frame {
 pub enum Mode {
     /// An operand.
     Want,
-    /// The digits behind a minus sign.
+    /// The digits after a minus sign.
     Signed,
     /// What follows an operand of that level.
     Have(u8),
-    /// The type behind two colons.
+    /// The type after two colons.
     Typing,
     /// What follows `is`.
     Is,
     /// What follows `is not`.
     IsNot,
-    /// What follows a `not` behind an operand of that level.
+    /// What follows a `not` after an operand of that level.
     Negating(u8),
-    /// The bracket behind `cast`.
+    /// The bracket after `cast`.
     Casting,
-    /// The type behind `as`.
+    /// The type after `as`.
     CastType,
-    /// The bracket behind that type.
+    /// The bracket after that type.
     CastEnd,
-    /// The text behind `escape`.
+    /// The text after `escape`.
     Escaping(LikeKind),
 }
 
-/// The level that an operand has at least which the frame waits for.
+/// The least level of an operand that the frame waits for.
 pub fn hole(frame: Frame) -> u8
     ensures { result ≡ specs.hole frame }
 {
@@ -71,7 +71,7 @@ pub fn guard(frame: Frame) -> u8
     }
 }
 
-/// The level of what the frame becomes with its operand.
+/// The level of the frame with its operand.
 pub fn whole(frame: Frame) -> u8
     ensures { result ≡ specs.whole frame }
 {

@@ -1,4 +1,4 @@
-//! What holds of the grammar.
+//! Laws of the grammar.
 ghost use Rattle.std.specs.Prelude.{◌≡◌, ℕ, List, map, true};
 ghost use Rattle.vortex_syntax.specs.Tokens as seen;
 ghost use Rattle.vortex_syntax.specs.Lexing.{Lexes};
@@ -11,18 +11,18 @@ ghost use Rattle.vortex_syntax.specs.Postfix.{postfix};
 ghost use Rattle.vortex_syntax.specs.Grammar.{Reads};
 ghost use Rattle.vortex_syntax.specs.AnswerLists.{Answer, ReadsAnswers, told};
 
-/// A text is at most one list of tokens.
+/// A text has at most one list of tokens.
 pub fn one_list()
     ensures { (text : List ℕ) (ts vs : List seen.Token) → Lexes text ts → Lexes text vs → ts ≡ vs }
 {}
 
-/// A text is read as at most one tree, brackets apart.
+/// A text is read as at most one tree, ignoring brackets.
 pub fn one_tree()
     ensures { (text : List ℕ) (t u : Syntax) → Reads text t → Reads text u
         → postfix t ≡ postfix u }
 {}
 
-/// A text is read as at most one list of answers, brackets apart.
+/// A text is read as at most one list of answers, ignoring brackets.
 pub fn one_answer_list()
     ensures { (text : List ℕ) (bs cs : List Answer) → ReadsAnswers text bs → ReadsAnswers text cs
         → map told bs ≡ map told cs }
@@ -33,7 +33,7 @@ pub fn all_writable()
     ensures { (text : List ℕ) (ts : List seen.Token) → Lexes text ts → AllWritable ts }
 {}
 
-/// The text of tokens is those tokens.
+/// The text of tokens is read as those tokens.
 pub fn same_tokens()
     ensures { (ts : List seen.Token) → AllWritable ts → Lexes (written ts) ts }
 {}

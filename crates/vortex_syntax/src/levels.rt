@@ -3,7 +3,7 @@ ghost use Rattle.std.specs.Prelude.{◌≡◌};
 ghost use Rattle.vortex_syntax.specs.Tokens.{token_in};
 ghost use Rattle.vortex_syntax.specs.Levels as levels;
 
-use crate::step::Operator;
+use crate::step::WrittenOperator;
 use crate::token::{Sign, Token};
 
 pub const OR: u8 = 0;
@@ -26,38 +26,38 @@ pub const ATOM: u8 = 8;
 
 pub const LITERAL: u8 = 9;
 
-pub fn own(operator: Operator) -> u8
+pub fn own(operator: WrittenOperator) -> u8
     ensures { result ≡ levels.own operator }
 {
     match operator {
-        Operator::Or => OR,
-        Operator::And => AND,
-        Operator::Add | Operator::Sub => SUM,
-        Operator::Mul | Operator::Div => PRODUCT,
+        WrittenOperator::Or => OR,
+        WrittenOperator::And => AND,
+        WrittenOperator::Add | WrittenOperator::Sub => SUM,
+        WrittenOperator::Mul | WrittenOperator::Div => PRODUCT,
         _ => COMPARISON,
     }
 }
 
-pub fn left(operator: Operator) -> u8
+pub fn left(operator: WrittenOperator) -> u8
     ensures { result ≡ levels.left operator }
 {
     match operator {
-        Operator::Or => OR,
-        Operator::And => AND,
-        Operator::Add | Operator::Sub => SUM,
-        Operator::Mul | Operator::Div => PRODUCT,
+        WrittenOperator::Or => OR,
+        WrittenOperator::And => AND,
+        WrittenOperator::Add | WrittenOperator::Sub => SUM,
+        WrittenOperator::Mul | WrittenOperator::Div => PRODUCT,
         _ => PREDICATE,
     }
 }
 
-pub fn right(operator: Operator) -> u8
+pub fn right(operator: WrittenOperator) -> u8
     ensures { result ≡ levels.right operator }
 {
     match operator {
-        Operator::Or => AND,
-        Operator::And => NOT,
-        Operator::Add | Operator::Sub => PRODUCT,
-        Operator::Mul | Operator::Div => ATOM,
+        WrittenOperator::Or => AND,
+        WrittenOperator::And => NOT,
+        WrittenOperator::Add | WrittenOperator::Sub => PRODUCT,
+        WrittenOperator::Mul | WrittenOperator::Div => ATOM,
         _ => PREDICATE,
     }
 }

@@ -10,11 +10,11 @@ ghost use Rattle.vortex_syntax.specs.Refusals.{StandsAt, HasNoTokens, byte_in, p
 use crate::error::SyntaxError;
 use crate::expected::Expected;
 use crate::pieces::{Piece, first_piece};
-use crate::places::Places;
+use crate::places::TokenPlaces;
 use crate::token::Token;
 use std::alloc::{AllocError, Global};
 
-/// The tokens of a text, the byte at which each begins, and that at which the text ends.
+/// The tokens of a text, the byte at which each begins, and the byte at which the text ends.
 #[derive(Drop)]
 pub struct Tokens<'a> {
     pub tokens: Vec<Token<'a>>,
@@ -34,18 +34,18 @@ impl<'a> Tokens<'a> {
         Ok(())
     }
 
-    /// Where the tokens stand, and what may stand behind a tree of them.
-    pub(crate) fn placed(&self, behind: Expected) -> Places<'_>
+    /// Positions of the tokens, and what may follow a tree of them.
+    pub(crate) fn placed(&self, behind: Expected) -> TokenPlaces<'_>
         ensures { (n : ℕ) → place_in result n ≡ byte_in self.now n }
     {
-        Places {
+        TokenPlaces {
             bytes: self.places.as_slice(),
             end: self.end,
             behind,
         }
     }
 
-    /// The byte at which the token of that number begins, or the text ends.
+    /// The byte at which the token of that number begins, or the end of the text.
     pub fn byte(&self, number: usize) -> usize
         ensures { result ≡ byte_in self.now number }
     {
@@ -56,14 +56,14 @@ impl<'a> Tokens<'a> {
     }
 }
 
-/// The tokens of the text. `NoToken` exactly where it is none, at a byte with which no token begins.
+/// The tokens of the text. `NoToken` exactly where it has none, at a byte at which no token begins.
 pub fn read_tokens(alloc: Global, text: &[u8]) -> Result<Tokens<'_>, SyntaxError>
-    // What is read the text is.
+    // The result is the tokens of the text.
     ensures found { IfOk result (λ t. Lexes text.now (map token_in t.tokens.items)) }
-    // What the text is is read.
+    // The tokens of the text are returned.
     ensures only { (ts : List seen.Token) → Lexes text.now ts
         → AnswersUnlessMemory result (λ t. map token_in t.tokens.items ≡ ts) }
-    // Each token stands at its byte, and the end of the text at that behind them.
+    // Each token is at its byte, and the end of the text follows.
     ensures places { IfOk result (λ t. (n : ℕ) → n ≤ vec_len t.tokens
         → StandsAt text.now n (byte_in t n)) }
     ensures refused { IfErr result (HasNoTokens text.now) }

@@ -1,8 +1,9 @@
-//! Expressions as people write them: texts, tokens, and trees in postfix order.
+//! SQL expressions as people write them: texts, tokens, and trees in postfix order.
 #![tactic(auto)]
 
+mod after_operand;
 pub mod answer_list;
-mod behind;
+mod before_operand;
 mod error;
 mod expected;
 mod frame;
@@ -19,7 +20,6 @@ mod step;
 pub mod syntax;
 mod token;
 mod tree;
-mod wanted;
 mod writing;
 
 pub use answer_list::{SyntaxAnswer, read_answer_list};
@@ -27,7 +27,7 @@ pub use error::SyntaxError;
 pub use expected::Expected;
 pub use lexing::{Tokens, read_tokens};
 pub use nesting::DEPTH;
-pub use step::{Call, LikeKind, Operator, Step};
+pub use step::{Call, LikeKind, Step, WrittenOperator};
 pub use syntax::read_syntax;
 pub use token::{Sign, Token};
 pub use tree::SyntaxTree;

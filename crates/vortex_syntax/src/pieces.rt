@@ -9,13 +9,13 @@ ghost use Rattle.vortex_syntax.specs.Pieces.{minus_or_comment, first_piece};
 
 use crate::token::{Sign, Token};
 
-/// Bytes that go on.
+/// Classes of bytes that continue a run.
 #[derive(Clone, Copy, Debug, PartialEq, Eq)]
 pub enum Run {
     /// Letters, digits and `_`.
     Word,
     Digits,
-    /// All but the ends of lines.
+    /// All bytes except ends of lines.
     Line,
 }
 
@@ -49,7 +49,7 @@ pub(crate) fn is_in(run: Run, byte: u8) -> bool
     }
 }
 
-/// How many bytes of the run the text begins with.
+/// How many bytes of the run are at the start of the text.
 fn run_len(run: Run, text: &[u8]) -> usize
     ensures within { result ≤ length text.now }
     ensures front { take result text.now ≡ front run text.now }
@@ -63,7 +63,7 @@ fn run_len(run: Run, text: &[u8]) -> usize
     text.len()
 }
 
-/// The bytes of the run that the text begins with, and those behind them.
+/// The bytes of the run at the start of the text, and the bytes after them.
 fn split_run(run: Run, text: &[u8]) -> (&[u8], &[u8])
     ensures front { result.0.now ≡ front run text.now }
     ensures behind { result.1.now ≡ behind run text.now }
@@ -72,7 +72,7 @@ fn split_run(run: Run, text: &[u8]) -> (&[u8], &[u8])
     text.split_at(run_len(run, text))
 }
 
-/// Whether it is that word, but for the case of letters.
+/// Whether it is that word, ignoring case.
 fn is_same_word(word: &[u8], other: &[u8]) -> bool
     ensures { result ≡ same_word word.now other.now }
 {
@@ -123,7 +123,7 @@ fn keyword_or_name(word: &[u8]) -> Token<'_>
     }
 }
 
-/// The piece of a word, by what stands behind the word, and what stands behind the piece.
+/// The piece of a word, by what follows the word, and what follows the piece.
 fn word_before<'a>(word: &'a [u8], rest: &'a [u8]) -> (Piece<'a>, &'a [u8])
     ensures piece { (piece_in result.0, result.1.now) ≡ word_before word.now rest.now }
     ensures shorter { length result.1.now ≤ length rest.now }
@@ -134,7 +134,7 @@ fn word_before<'a>(word: &'a [u8], rest: &'a [u8]) -> (Piece<'a>, &'a [u8])
     }
 }
 
-/// The piece of a number, by what stands behind its digits.
+/// The piece of a number, by what follows its digits.
 fn number_before<'a>(digits: &'a [u8], rest: &'a [u8]) -> Option<(Piece<'a>, &'a [u8])>
     ensures piece { option_map (λ x. (piece_in x.0, x.1.now)) result
         ≡ number_before digits.now rest.now }
@@ -148,7 +148,7 @@ fn number_before<'a>(digits: &'a [u8], rest: &'a [u8]) -> Option<(Piece<'a>, &'a
     Some((Piece::Token(Token::Number(digits)), rest))
 }
 
-/// How many bytes stand before the first quote that is not written twice.
+/// How many bytes come before the first quote that is not doubled.
 fn closing_quote(quote: u8, text: &[u8]) -> Option<usize>
     ensures closed { option_map (λ n. (take n text.now, drop (suc n) text.now)) result
         ≡ closed quote text.now }
@@ -167,7 +167,7 @@ fn closing_quote(quote: u8, text: &[u8]) -> Option<usize>
     None
 }
 
-/// The text up to its closing quote, and what stands behind that.
+/// The text up to its closing quote, and what follows that.
 fn split_quoted(quote: u8, text: &[u8]) -> Option<(&[u8], &[u8])>
     ensures closed { option_map (λ x. (x.0.now, x.1.now)) result ≡ closed quote text.now }
     ensures shorter { IfSome result (λ x. length x.1.now < length text.now) }
@@ -206,7 +206,7 @@ fn sign_of_one(byte: u8) -> Option<Sign>
     }
 }
 
-/// The sign that begins with the byte, of two characters where there is one.
+/// The sign at the start, of two characters if there is one.
 fn longest_sign(first: u8, rest: &[u8]) -> Option<(Piece<'_>, &[u8])>
     ensures piece { option_map (λ x. (piece_in x.0, x.1.now)) result ≡ longest_sign first rest.now }
     ensures shorter { IfSome result (λ x. length x.1.now ≤ length rest.now) }
@@ -220,7 +220,7 @@ fn longest_sign(first: u8, rest: &[u8]) -> Option<(Piece<'_>, &[u8])>
     Some((Piece::Token(Token::Sign(sign)), rest))
 }
 
-/// Minus, or a comment that a second minus begins.
+/// Minus, or a comment if a second minus follows.
 fn minus_or_comment(rest: &[u8]) -> Option<(Piece<'_>, &[u8])>
     ensures piece { option_map (λ x. (piece_in x.0, x.1.now)) result ≡ minus_or_comment rest.now }
     ensures shorter { IfSome result (λ x. length x.1.now ≤ length rest.now) }
@@ -234,7 +234,7 @@ fn minus_or_comment(rest: &[u8]) -> Option<(Piece<'_>, &[u8])>
     }
 }
 
-/// The first piece of the text, and what stands behind it; nothing where none begins.
+/// The first piece of the text, and what follows it; nothing where none begins.
 #[tactic(auto, unfolding(crate::specs::Pieces::first_piece))]
 pub(crate) fn first_piece(text: &[u8]) -> Option<(Piece<'_>, &[u8])>
     ensures piece { option_map (λ x. (piece_in x.0, x.1.now)) result ≡ first_piece text.now }

@@ -1,20 +1,20 @@
-//! Where tokens stand in their text.
+//! Positions of tokens in their text.
 ghost use Rattle.std.specs.Prelude.{◌≡◌, ◌+◌, ℕ};
 ghost use Rattle.vortex_syntax.specs.Refusals.{place_in};
 
 use crate::expected::Expected;
 
-/// The bytes at which tokens begin, further ones too, that at which the text ends, and what may
-/// stand behind a tree of the tokens.
+/// The bytes at which tokens begin (there may be more), the byte at which the text ends, and what
+/// may follow a tree of the tokens.
 #[derive(Clone, Copy, Debug)]
-pub struct Places<'s> {
+pub struct TokenPlaces<'s> {
     pub bytes: &'s [usize],
     pub end: usize,
     pub behind: Expected,
 }
 
-impl<'s> Places<'s> {
-    /// The byte at which the token of that number begins, or the text ends.
+impl<'s> TokenPlaces<'s> {
+    /// The byte at which the token of that number begins, or the end of the text.
     pub fn byte(&self, number: usize) -> usize
         ensures { result ≡ place_in self.now number }
     {
@@ -24,12 +24,12 @@ impl<'s> Places<'s> {
         }
     }
 
-    /// The places of the tokens behind the first ones.
-    pub fn after(&self, count: usize) -> Places<'s>
+    /// The positions of the tokens after the first ones.
+    pub fn after(&self, count: usize) -> TokenPlaces<'s>
         ensures { (n : ℕ) → place_in result n ≡ place_in self.now (count + n) }
     {
         let bytes = self.bytes;
-        Places {
+        TokenPlaces {
             bytes: &bytes[count.min(bytes.len())..],
             end: self.end,
             behind: self.behind,

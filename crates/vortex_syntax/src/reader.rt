@@ -11,13 +11,13 @@ ghost use Rattle.vortex_syntax.specs.Refusals.{TreeStopsAt, NamesPlace};
 use crate::error::SyntaxError;
 use crate::frame::Mode;
 use crate::levels::OR;
-use crate::places::Places;
+use crate::places::TokenPlaces;
 use crate::reading::Reading;
 use crate::token::Token;
 use crate::tree::SyntaxTree;
 use std::alloc::{AllocError, Global};
 
-/// Where a token is told: where it stands, unless it belongs to one before it.
+/// Where a token is reported: its own byte, unless it belongs to an earlier token.
 fn told_at(mode: Mode, before: usize, place: usize) -> usize {
     match mode {
         Mode::Signed | Mode::Is | Mode::IsNot | Mode::Negating(_) | Mode::Escaping(_) => before,
@@ -26,7 +26,7 @@ fn told_at(mode: Mode, before: usize, place: usize) -> usize {
 }
 
 impl<'a> Reading<'a> {
-    /// What the next token, which stands at that byte, makes of what is read.
+    /// What the next token, at that byte, does to what is read.
     #[tactic(auto, unfolding(crate::specs::Reading::next))]
     fn next(
         &mut self,
@@ -39,7 +39,7 @@ impl<'a> Reading<'a> {
     {
         self.at = told_at(mode, self.at, place);
         match mode {
-            Mode::Want => self.wanted(token),
+            Mode::Want => self.before_operand(token),
             Mode::Signed => self.digits_wanted(token),
             Mode::Have(level) => self.behind(level, token),
             Mode::Typing => self.type_wanted(token),
@@ -71,11 +71,11 @@ impl<'a> Reading<'a> {
     }
 }
 
-/// The tree that the tokens spell; else the first token with which none goes on, by its byte.
+/// The tree that the tokens spell; else the first token with which none continues, by its byte.
 pub(crate) fn read_steps<'a>(
     alloc: Global,
     tokens: &[Token<'a>],
-    places: Places<'_>,
+    places: TokenPlaces<'_>,
 ) -> Result<SyntaxTree<'a>, SyntaxError>
     ensures read { MatchResult result
         (λ v. steps_of (map token_in tokens.now) ≡ Some (map step_in v.steps.items))

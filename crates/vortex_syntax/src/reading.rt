@@ -1,4 +1,4 @@
-//! What is read so far, and what a sign closes of it.
+//! What is read so far, and what a sign closes.
 ghost use Rattle.std.specs.Prelude.{◌≡◌, ◌++◌, ◌∷◌, [], ◌<◌, List, ℕ, vec_len};
 ghost use Rattle.std.specs.Prelude.{IfOk, OnOk, IfSome, MatchOption};
 ghost use Rattle.vortex_syntax.specs.Postfix.{step_in};
@@ -12,13 +12,13 @@ use crate::step::Step;
 use crate::tree::SyntaxTree;
 use std::alloc::{AllocError, Global};
 
-/// What is read so far: what waits for its last operand, with the byte of its sign, and the steps.
+/// What is read so far: the pending frames, each with the byte of its sign, and the steps.
 #[derive(Drop)]
 pub struct Reading<'a> {
     pub frames: Vec<Frame>,
     pub signs: Vec<usize>,
     pub tree: SyntaxTree<'a>,
-    /// The byte at which what comes next is told.
+    /// The byte at which the next step is reported.
     pub at: usize,
 }
 
@@ -62,7 +62,7 @@ impl<'a> Reading<'a> {
         self.emit_at(step, place)
     }
 
-    /// The last frame, which stays.
+    /// The last frame, without taking it.
     pub fn top(&self) -> Option<Frame>
         ensures { MatchOption result (frames_in self.now ≡ [])
             (λ f. (fs : List Frame) × (frames_in self.now ≡ f ∷ fs)) }
@@ -78,7 +78,7 @@ impl<'a> Reading<'a> {
         }
     }
 
-    /// Takes the last frame, where there is one.
+    /// Takes the last frame, if there is one.
     pub fn drop_top(&mut self)
         ensures frames { (f : Frame) (fs : List Frame) → frames_in self.old ≡ f ∷ fs
             → frames_in self.new ≡ fs }
@@ -90,7 +90,7 @@ impl<'a> Reading<'a> {
         let _sign = self.signs.pop();
     }
 
-    /// The level that an operand has at least which the last frame waits for.
+    /// The least level of an operand that the last frame waits for.
     pub fn top_hole(&self) -> u8
         ensures { result ≡ specs.top_hole (frames_in self.now) }
     {
@@ -100,8 +100,8 @@ impl<'a> Reading<'a> {
         }
     }
 
-    /// Closes the last frame where it binds tighter than a sign of that level, and answers the
-    /// level of what it becomes.
+    /// Closes the last frame where it binds tighter than a sign of that level, and returns its
+    /// level.
     pub fn close_one(&mut self, reach: u8) -> Result<Option<u8>, AllocError>
         ensures closes { IfOk result (λ r. (l : ℕ)
             → settled reach l (frames_in self.old) (steps_in self.old)
@@ -121,7 +121,7 @@ impl<'a> Reading<'a> {
         Ok(Some(whole(frame)))
     }
 
-    /// Closes what binds tighter than a sign of that level, and answers the operand's level.
+    /// Closes frames that bind tighter than a sign of that level, and returns the operand's level.
     pub fn settle(&mut self, reach: u8, level: u8) -> Result<u8, AllocError>
         ensures { IfOk result (λ l. settled reach level (frames_in self.old) (steps_in self.old)
             ≡ operand_of l (frames_in self.new) (steps_in self.new)) }
@@ -133,7 +133,8 @@ impl<'a> Reading<'a> {
         Ok(level)
     }
 
-    /// A sign of a level whose left operand has at least another, behind which a frame waits.
+    /// Waits after a sign of level `reach` with that frame. None if the left operand's level is
+    /// below `least`, or the sign binds less tightly than the last frame requires.
     pub fn wait_if(
         &mut self,
         reach: u8,

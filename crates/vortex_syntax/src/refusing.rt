@@ -1,11 +1,11 @@
-//! What could have come where reading stops.
+//! What was expected where reading stops.
 use crate::expected::Expected;
 use crate::frame::{Frame, Mode};
 use crate::levels::NOT;
 use crate::reading::Reading;
 use crate::token::{Sign, Token};
 
-/// Comparisons, `between` and `like`, and the `not` of one.
+/// Comparisons, `between` and `like`, and `not` before one.
 fn is_unchained(sign: Sign) -> bool {
     matches!(
         sign,
@@ -22,7 +22,7 @@ fn is_unchained(sign: Sign) -> bool {
     )
 }
 
-/// What could have come in place of a sign behind an operand, where else this could have.
+/// What was expected instead of a sign after an operand: `expected`, with some exceptions.
 fn in_place_of(sign: Sign, expected: Expected) -> Expected {
     match (sign, expected) {
         (_, Expected::OperatorOrAnd) => expected,
@@ -39,7 +39,7 @@ fn in_place_of(sign: Sign, expected: Expected) -> Expected {
 }
 
 impl<'a> Reading<'a> {
-    /// What may stand behind an operand, by the brackets that are open.
+    /// What may follow an operand, by the brackets that are open.
     fn behind_operand(&self, whole: Expected) -> Expected {
         for frame in self.frames.iter().rev() {
             match frame {
@@ -60,8 +60,8 @@ impl<'a> Reading<'a> {
         }
     }
 
-    /// What could have come in place of that token, or where none stands, of the end. Behind a
-    /// whole tree it is what the caller says.
+    /// What was expected in place of that token, or of the end if there is none. After a whole tree
+    /// it is what the caller passes.
     pub(crate) fn expected(
         &self,
         mode: Mode,

@@ -1,9 +1,9 @@
 //! Trees in postfix order.
 use crate::token::Token;
 
-/// What stands between two operands.
+/// An operator between two operands.
 #[derive(Clone, Copy, Debug, PartialEq, Eq)]
-pub enum Operator {
+pub enum WrittenOperator {
     Or,
     And,
     Equal,
@@ -29,12 +29,12 @@ pub struct LikeKind {
 #[derive(Clone, Copy, Debug, PartialEq, Eq)]
 pub enum Call {
     Not,
-    Join(Operator),
+    Join(WrittenOperator),
     IsNull,
     IsNotNull,
     /// BETWEEN of three trees, or NOT BETWEEN.
     Between(bool),
-    /// LIKE without a chosen escape.
+    /// LIKE without an escape.
     Like(LikeKind),
 }
 
@@ -45,7 +45,7 @@ pub enum Step<'a> {
     Operand(Token<'a>),
     /// The literal of these digits with a minus sign before them.
     Negative(&'a [u8]),
-    /// The literal before it is of the type of that name, of the nullable one where that is said.
+    /// The literal before it is of the type of that name, nullable if the flag is true.
     Typed(&'a [u8], bool),
     /// The tree before it, cast to a type.
     Cast(&'a [u8], bool),

@@ -14,16 +14,16 @@ use crate::reader::read_steps;
 use crate::tree::SyntaxTree;
 use std::alloc::Global;
 
-/// The tree that the text is read as, its steps in postfix order. Refused exactly where it is read
-/// as none: `NoToken`, `TooDeep`, or `Unexpected` with what could have come, each with the byte.
+/// Parses an expression: its steps in postfix order. Fails exactly where the text is no expression:
+/// `NoToken`, `TooDeep`, or `Unexpected` with what was expected, each with the byte.
 pub fn read_syntax(alloc: Global, text: &[u8]) -> Result<SyntaxTree<'_>, SyntaxError>
-    // What is read is a tree of the text.
+    // The result is a tree of the text.
     ensures found { IfOk result (λ v. (t : Syntax) × Reads text.now t
         × (map step_in v.steps.items ≡ postfix t)) }
-    // A tree of the text is read.
+    // A tree of the text is returned.
     ensures only { (t : Syntax) → Reads text.now t
         → AnswersUnlessMemory result (λ v. map step_in v.steps.items ≡ postfix t) }
-    // Where none is read, the refusal is the text's, with its byte.
+    // An error is the text's, with its byte.
     ensures refused { IfErr result (RefusesBy TreeStopsAt text.now) }
     ensures paired { IfOk result (λ v. length v.places.items ≡ length v.steps.items) }
 {

@@ -38,13 +38,13 @@ pub enum Sign {
 pub enum Token<'a> {
     /// A word that is no keyword.
     Name(&'a [u8]),
-    /// A word with a question mark behind it, which is not in the bytes.
+    /// A word with a question mark after it, which the bytes leave out.
     Nullable(&'a [u8]),
-    /// What stands between double quotes, as written.
+    /// The bytes in double quotes, as written.
     Quoted(&'a [u8]),
     /// Digits.
     Number(&'a [u8]),
-    /// What stands between single quotes, as written.
+    /// The bytes in single quotes, as written.
     Text(&'a [u8]),
     /// A keyword or a sign.
     Sign(Sign),

@@ -1,13 +1,13 @@
-//! A tree in postfix order, and where its steps stand in the text.
+//! A tree in postfix order, and the positions of its steps in the text.
 ghost use Rattle.std.specs.Prelude.{◌≡◌, ◌++◌, ◌∷◌, [], length, OnOk};
 
 use crate::step::Step;
 use std::alloc::{AllocError, Global};
 
-/// The steps in postfix order, and for each the byte of the text that it is told at. Operands,
-/// literals and types are told at their first token, a cast at its type, a call at the first token
-/// of its operator (`+`, `not`, `is`, `between`, `like`), with an escape too. Which byte that is is
-/// tested, not proved.
+/// The steps in postfix order, and for each the byte of the text at which it is reported. Operands,
+/// literals and types are reported at their first token, a cast at its type, a call at the first
+/// token of its operator (`+`, `not`, `is`, `between`, `like`), also with an escape. These bytes
+/// are tested, not proved.
 #[derive(Drop)]
 pub struct SyntaxTree<'a> {
     pub steps: Vec<Step<'a>>,
@@ -25,7 +25,7 @@ impl<'a> SyntaxTree<'a> {
         }
     }
 
-    /// Adds a step that is told at that byte. Refused for want of memory alone.
+    /// Adds a step that is reported at that byte. Fails only where memory runs out.
     pub(crate) fn push(&mut self, step: Step<'a>, place: usize) -> Result<(), AllocError>
         ensures { OnOk result
             (self.new.steps.items ≡ self.old.steps.items ++ (step.entry ∷ [])) }

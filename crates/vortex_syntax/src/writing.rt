@@ -1,4 +1,4 @@
-//! The text of tokens, with one blank between two of them where one is wanted.
+//! The text of tokens, with one blank between two of them where needed.
 ghost use Rattle.std.specs.Prelude.{◌≡◌, ◌++◌, ◌<◌, List, [], OnOk, string_bytes};
 ghost use Rattle.std.specs.List.{list_all};
 ghost use Rattle.vortex_syntax.specs.declared.pieces.Run.TheVariants.{Word};
@@ -13,10 +13,10 @@ use crate::pieces::{Run, begins_word, is_in, keyword_of};
 use crate::token::Sign;
 use std::alloc::{AllocError, Global};
 
-/// What stands before the next token.
+/// What comes before the next token.
 #[derive(Clone, Copy, Debug, PartialEq, Eq)]
 pub enum Ending {
-    /// Nothing, or what no blank stands behind: `(` and `::`.
+    /// Nothing, or a token that no blank follows: `(` and `::`.
     Tight,
     /// The minus sign of a number.
     Signed,
@@ -28,7 +28,7 @@ pub enum Ending {
     Loose,
 }
 
-/// A text that is being written, token by token; what is written after an error is of no use.
+/// A text that is written token by token. After an error the text is of no use.
 #[derive(Drop)]
 pub struct Writer {
     text: String,
@@ -84,7 +84,7 @@ fn is_word(word: &[u8]) -> bool
     }
 }
 
-/// Whether a name stands without quotes: a word that is no keyword.
+/// Whether a name is written without quotes: a word that is no keyword.
 pub fn is_bare(name: &[u8]) -> bool
     ensures { result ≡ specs.is_bare name.now }
 {
@@ -109,7 +109,7 @@ fn joins_bracket(ending: Ending) -> bool
     matches!(ending, Ending::Tight | Ending::Called)
 }
 
-/// Whether no blank stands before the sign.
+/// Whether no blank comes before the sign.
 fn joins_sign(ending: Ending, sign: Sign) -> bool
     ensures { result ≡ specs.joins_sign ending sign }
 {
@@ -129,7 +129,7 @@ fn minus_ending(ending: Ending) -> Ending
     }
 }
 
-/// What stands before the next token behind the sign.
+/// What comes before the next token after the sign.
 fn sign_ending(ending: Ending, sign: Sign) -> Ending
     ensures { result ≡ specs.sign_ending ending sign }
 {
@@ -142,7 +142,7 @@ fn sign_ending(ending: Ending, sign: Sign) -> Ending
     }
 }
 
-/// Adds a text in which each quote stands twice.
+/// Adds a text, each quote doubled.
 fn push_doubled(out: &mut String, quote: char, text: &str) -> Result<(), AllocError>
     requires { quote < 128 }
     ensures { OnOk result
@@ -159,7 +159,7 @@ fn push_doubled(out: &mut String, quote: char, text: &str) -> Result<(), AllocEr
     Ok(())
 }
 
-/// Adds a text between quotes.
+/// Adds a text in quotes.
 fn push_in_quotes(out: &mut String, quote: char, text: &str) -> Result<(), AllocError>
     requires { quote < 128 }
     ensures { OnOk result
@@ -181,7 +181,7 @@ impl Writer {
         }
     }
 
-    /// A blank where one is wanted, before a token behind which that will stand.
+    /// Adds a blank unless `joined`. The next token ends so.
     fn begin(&mut self, joined: bool, ending: Ending) -> Result<(), AllocError>
         ensures { OnOk result
             ((string_bytes self.new.text ≡ string_bytes self.old.text ++ blank_unless joined)
@@ -204,7 +204,7 @@ impl Writer {
         self.text.push_str(sign_text(sign))
     }
 
-    /// A name that stands without quotes.
+    /// A name without quotes.
     fn push_word(&mut self, word: &str) -> Result<(), AllocError>
         ensures { OnOk result (Adds (seen.name word.now) self.old self.new) }
     {
@@ -212,7 +212,7 @@ impl Writer {
         self.text.push_str(word)
     }
 
-    /// A column's name, in quotes where it does not stand without.
+    /// A column's name, in quotes where needed.
     pub fn push_name(&mut self, name: &str) -> Result<(), AllocError>
         ensures { OnOk result (Adds (name_token name.now) self.old self.new) }
     {
@@ -223,7 +223,7 @@ impl Writer {
         push_in_quotes(&mut self.text, '"', name)
     }
 
-    /// The name of a type, with the mark of a nullable one where that is said.
+    /// The name of a type, with the mark of a nullable one if the flag is true.
     pub fn push_type(&mut self, word: &str, nullable: bool) -> Result<(), AllocError>
         ensures { OnOk result (Adds (type_token word.now nullable) self.old self.new) }
     {
@@ -250,7 +250,7 @@ impl Writer {
         push_in_quotes(&mut self.text, '\'', text)
     }
 
-    /// What is written.
+    /// The text so far.
     pub fn into_text(self) -> String
         ensures { (ts : List seen.Token) → Holds ts self → string_bytes result ≡ written ts }
     {

@@ -1,4 +1,4 @@
--- The test of agreement decides both equalities of types; and its steps over the fields of two
+-- The agreement test decides both equalities of types. With its steps over the fields of two
 -- structs.
 use Rattle.std.proofs.Common.{◌≡◌, ℕ, zero, suc, ◌+◌, ◌<◌, Bool, true, false, not, ◌&&◌, List, []}
 use Rattle.std.proofs.Common.{◌∷◌, String, string_bytes, Global, length, get_or, drop, ap, refl}
@@ -79,12 +79,12 @@ false_by : (b : Bool) → (b ≡ true → ⊥) → false ≡ b
 false_by true h = absurd (h refl)
 false_by false h = refl
 
--- structs of two counts of fields do not agree
+-- structs with different field counts do not agree
 pub counts_refute : (e : Bool) (fs gs : Fields) → (field_count fs ≡ field_count gs → ⊥)
     → false ≡ fields_agree e fs gs
 counts_refute e fs gs h = false_by (fields_agree e fs gs) (λ a. h (other_counts e fs gs a))
 
--- agreement of the fields from place k on
+-- agreement of the fields from index k on
 abbrev pub agree_from : Bool → ℕ → List (String Global × DType) → List (String Global × DType)
     → Bool
 agree_from e k fs gs = fields_agree e (fields_view (drop k fs)) (fields_view (drop k gs))
@@ -124,14 +124,14 @@ not_true : (b : Bool) → not b ≡ false → b ≡ true
 not_true true e = refl
 not_true false e = cc
 
--- t says whether a part agrees, n and r whether the others do, a whether what is left does
+-- t: a part agrees; n and r: the others do; a: what is left does
 pub part_differs : (n t r a : Bool) → false ≡ (t && a) → false ≡ ((n && (t && r)) && a)
 part_differs false t r a h = refl
 part_differs true false r a h = refl
 part_differs true true false a h = refl
 part_differs true true true a h = h
 
--- what is left says whether the part agrees
+-- what is left decides whether the part agrees
 pub part_passed : (n t r a b : Bool) → n ≡ true → b ≡ (t && a)
     → (r && b) ≡ ((n && (t && r)) && a)
 part_passed true true true a b h l = l
@@ -140,7 +140,7 @@ part_passed true false true a b h l = l
 part_passed true false false a b h l = refl
 part_passed false t r a b h l = cc
 
--- two fields in one place
+-- two fields at one index
 module _ (e : Bool) (k : ℕ) (fs gs : List (String Global × DType)) (f g : String Global × DType)
     (h : k < length fs) (l : k < length gs) (at : f ≡ get_or fs k f) (there : g ≡ get_or gs k g)
   where
@@ -168,7 +168,7 @@ module _ (e : Bool) (k : ℕ) (fs gs : List (String Global × DType)) (f g : Str
         (types_agree e (type_of f.1) (type_of g.1)) (agree_from e (k + 1) fs gs) a h
         ∙ sym (ap (λ b. b && a) turn)
 
-    -- where the names are the same, what is left says whether the types agree
+    -- where the names are equal, what is left decides whether the types agree
     pub passed : (a b : Bool) (m n : List ℕ) → m ≡ string_bytes f.0 → n ≡ string_bytes g.0
         → not (pointwise nat_eq m n) ≡ false
         → b ≡ (types_agree e (type_of f.1) (type_of g.1) && a)

@@ -1,4 +1,4 @@
--- The steps of a copy, and what they cost, as lists of them grow.
+-- The steps of a copy, and their cost, as lists of them grow.
 use Rattle.std.proofs.Common.{◌≡◌, ◌+◌, ℕ, suc, List, [], ◌∷◌, ◌++◌, map, reverse}
 use Rattle.std.proofs.Common.{length, get_or, refl, sym, ap, ◌∙◌, arith, rules, String, Global}
 use Rattle.std.proofs.Common.{Box, Bool}
@@ -49,7 +49,7 @@ listed_three ss one two new a b d ts e f g =
 pub cost_one : (ss new : List Step) (a : Step) → new ≡ ss ++ a ∷ [] → costs new ≡ costs ss + cost a
 cost_one ss new a e = ap costs e ∙ costs_push ss a
 
--- the field at a place, and those behind it
+-- the field at an index, and the fields after it
 pub more_at : (fs rest : List (String Global × DType)) (f : String Global × DType)
     (ts : List LogicalType) → fs ≡ f ∷ rest
     → more rest (named (string_bytes f.0) (type_of f.1 ∷ ts)) ≡ more fs ts
@@ -59,7 +59,7 @@ pub weights_at : (fs rest : List (String Global × DType)) (f : String Global ×
     → fs ≡ f ∷ rest → type_weights fs ≡ suc (type_weight f.1 + type_weights rest)
 weights_at fs rest f e = ap type_weights e
 
--- what was copied last, in a type as it was in
+-- the last copy, placed in a type like its source
 pub wrapped_list : (t e f : LogicalType) (n : Bool) (ts : List LogicalType)
     → t ≡ list_type e n → f ≡ e → wrapped t (f ∷ ts) ≡ t ∷ ts
 wrapped_list t e f n ts h g =
@@ -97,7 +97,7 @@ pub type_of-List : (t : Box DType Global) (n : Nullability)
     → type_of (dt.List t n) ≡ list_type (type_of t.value) (allows_null n)
 type_of-List t n = search (rules, the_lemmas)
 
--- a struct with all the fields that are left
+-- a struct with all the remaining fields
 pub more_struct : (fs gs : List (String Global × DType)) (n : _) (ts : List LogicalType)
     → more gs (struct_type (fields_view fs) n ∷ ts) ≡ struct_type (fields_view (fs ++ gs)) n ∷ ts
 more_struct fs [] n ts = sym (ap (λ hs. struct_type (fields_view hs) n ∷ ts) (append-nil fs))

@@ -13,7 +13,7 @@ use Rattle.vortex_types.specs.TypeOf.{type_of, fields_view}
 abbrev pub Field : Type 0
 Field = String Global × DType
 
--- what is found after so many fields
+-- what is found after that many fields
 abbrev pub after_some : ℕ → Option (ℕ × LogicalType) → Option (ℕ × LogicalType)
 after_some n None = None
 after_some n (Some p) = Some (n + p.0, p.1)

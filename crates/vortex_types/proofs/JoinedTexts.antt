@@ -1,4 +1,4 @@
--- Texts that are joined, one by one.
+-- Texts joined one by one.
 use Rattle.std.proofs.Common.{◌≡◌, ℕ, zero, suc, ◌+◌, ◌<◌, List, [], ◌∷◌, ◌++◌, length, take}
 use Rattle.std.proofs.Common.{get_or, sym, ap, ◌∙◌, arith, append_assoc, add-one}
 use Rattle.std.specs.List.{flat_map}
@@ -27,7 +27,7 @@ joined_step sep (x ∷ xs) (suc k) t h e =
         ∙ ap (λ (ys : List ℕ). flat_map each (take k xs) ++ ys)
         (append-nil (sep ++ get_or xs k t) ∙ ap (λ (ys : List ℕ). sep ++ ys) (sym e))
 
--- a turn of a loop that writes a separator and a text
+-- one iteration of a loop that writes a separator and a text
 pub joined_more : (sep : List ℕ) (texts : List (List ℕ)) (k : ℕ) (t old now more last : List ℕ)
     → k < length texts → t ≡ get_or texts k t → now ≡ old ++ joined sep (take k texts)
     → more ≡ now ++ separator_before sep k → last ≡ more ++ t

@@ -1,4 +1,4 @@
--- Names and types that are copied one by one are the fields that were listed.
+-- Names and types copied one by one are the listed fields.
 use Rattle.std.proofs.Common.{◌≡◌, ◌≢◌, ◌<◌, ℕ, List, [], ◌∷◌, map, length, get_or, sym, ap, ◌∙◌}
 use Rattle.std.proofs.Common.{Bor, subst, ◌++◌, ◌+◌, take, drop, refl, arith, Result}
 use Rattle.std.specs.Prelude.{String, string_bytes, AllPairs}
@@ -39,7 +39,7 @@ differ_as_names names h i j d below within =
     ∙ same
     ∙ sym (get_or-map string_bytes names j d (string_bytes d) within))
 
--- one more of a list is copied
+-- one more item of a list is copied
 pub one_more_copy : {X Y Z : Type 0} (f : X → Z) (g : Y → Z) (xs all : List X) (x : X)
     (ys : List Y) (y : Y) (i : ℕ) (d : Y) → i < length ys → all ≡ xs ++ x ∷ []
     → map f xs ≡ map g (take i ys) → f x ≡ g y → y ≡ get_or ys i y
@@ -65,7 +65,7 @@ listed (n ∷ ns) [] [] e h = cc
 listed (n ∷ ns) [] (f ∷ fs) e h = cc
 listed (n ∷ ns) (t ∷ ts) [] e h = cc
 
--- what is made of the copies is the answer of what was listed
+-- what is made of the copies is the result for the list
 pub answers_listed : (r : Result StructFields VortexError) (names : List (String Global))
     (types : List DType) (fs : List (Bor (List ℕ) × DType))
     → map string_bytes names ≡ map (λ f. f.0.now) fs → map type_of types ≡ map (λ f. type_of f.1) fs

@@ -1,4 +1,4 @@
--- Names that differ, one more at a time.
+-- Names that are distinct, one more at a time.
 use Rattle.std.proofs.Common.{◌≡◌, ◌≢◌, ℕ, ◌+◌, ◌<◌, ◌⊎◌, inl, inr, List, length, take, get_or, sym}
 use Rattle.std.proofs.Common.{ap, ◌∙◌, arith}
 use Rattle.std.specs.Prelude.{All, String, string_bytes}
@@ -6,7 +6,7 @@ use Rattle.std.specs.declared.alloc.Global.{Global}
 use Rattle.std.proofs.lemmas.List.{get_or_default, get_or-take, length-take-le}
 use Rattle.vortex_types.specs.TypeOf.{AllDiffer}
 
--- no two of the first names are the same
+-- the first names are distinct
 abbrev pub FirstDiffer : ℕ → List (String Global) → Type 0
 FirstDiffer n names = (i j : ℕ) (d : String Global) → i < j → j < n
     → string_bytes (get_or names i d) ≢ string_bytes (get_or names j d)
@@ -29,7 +29,7 @@ one_more n names name within is differ new i j d below above = by (last_or_befor
         new i d (omega (arith, length-take-le n names (omega arith)))
         (ap string_bytes (get_or-take n names i d i_in) ∙ same ∙ ap string_bytes here)
 
--- a name that stands before it refutes that all differ
+-- an earlier equal name refutes that all are distinct
 pub differs_from_before : (n : ℕ) (names : List (String Global)) (name : String Global)
     → n < length names → name ≡ get_or names n name → AllDiffer names
     → All (λ m. string_bytes m ≢ string_bytes name) (take n names)

@@ -1,4 +1,4 @@
--- What is left to compare as pairs come and go, and what a step over a pair answers.
+-- The pairs left to compare as pairs are added and removed, and the result of a step over a pair.
 use Rattle.std.proofs.Common.{◌≡◌, ℕ, zero, suc, ◌<◌, Bool, true, false, ◌&&◌, List, []}
 use Rattle.std.proofs.Common.{◌∷◌, ◌++◌, String, Global, Box, Option, Some, None, length, get_or}
 use Rattle.std.proofs.Common.{refl, sym, ap, ◌∙◌, arith}
@@ -32,7 +32,7 @@ all_push e (q ∷ ps) p =
     ap (λ b. pair_agrees e q && b) (all_push e ps p)
     ∙ swap (pair_agrees e q) (pair_agrees e p) (all_agree e ps)
 
--- behind the first as behind none
+-- the same after the first as after none
 behind : (f : Option Pair) (ps : List Pair) (p : Pair)
     → with_first f (ps ++ p ∷ []) ≡ with_first f ps ++ p ∷ []
 behind None ps p = refl
@@ -50,7 +50,7 @@ field_weighs_less [] k d h = absurd (omega arith)
 field_weighs_less (f ∷ fs) zero d h = omega arith
 field_weighs_less (f ∷ fs) (suc k) d h = omega (arith, field_weighs_less fs k d (omega arith))
 
--- whether two types agree, by what is inside and nullability
+-- whether two types agree, by their parts and nullability
 module _ (e : Bool) (t u : DType) (n m : Nullability) where
   pub struct_pair : (fs gs : StructFields) → t ≡ Struct fs n → u ≡ Struct gs m
       → types_agree e (type_of t) (type_of u)
@@ -98,7 +98,7 @@ module _ (e : Bool) (t u : DType) (n m : Nullability) where
       && (types_agree e (type_of (sym g i)) (type_of (sym s i))
       && nulls_agree e (allows_null n) (allows_null m)))
 
--- a is that what is inside agrees, n that nullability does, x that the others do
+-- a: the parts agree; n: nullability does; x: the others do
 pub inside_alike : (a n x y : Bool) → y ≡ (a && x) → true ≡ n → y ≡ ((a && n) && x)
 inside_alike a n x y h l = h ∙ ap (λ b. b && x) (sym (and_true a) ∙ ap (λ b. a && b) l)
 

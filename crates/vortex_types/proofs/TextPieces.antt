@@ -1,4 +1,4 @@
--- The pieces of a type's text, and what they cost, as lists of them grow.
+-- The pieces of a type's text, and their cost, as lists of them grow.
 use Rattle.std.proofs.Common.{◌≡◌, ℕ, suc, ◌+◌, Bool, List, [], ◌∷◌, ◌++◌, drop, sym, ap, ◌∙◌}
 use Rattle.std.proofs.Common.{arith, add-one, refl, String, string_bytes, Global}
 use Rattle.std.proofs.lemmas.List.{append-nil, append_assoc}
@@ -39,7 +39,7 @@ pub piece_cost_more : (ps new : List Piece) (p : Piece) → new ≡ ps ++ p ∷ 
     → pieces_cost new ≡ pieces_cost ps + piece_cost p
 piece_cost_more ps new p e = ap pieces_cost e ∙ pieces_cost_push ps p
 
--- a type that is made of no other is its opening and its mark
+-- a type without types inside is its opening and its mark
 pub flat_text : (t : LogicalType) → ¬ HasParts t → opening t ++ null_mark t ≡ type_text t
 flat_text null_type h = refl
 flat_text (bool_type n) h = refl
@@ -51,7 +51,7 @@ flat_text (list_type t n) h = absurd (h tt)
 flat_text (fixed_size_list_type t s n) h = absurd (h tt)
 flat_text (map_type k v n) h = absurd (h tt)
 
--- what is listed behind an opening is the rest of a type
+-- what is listed after an opening is the rest of a type
 pub listed_as : (t u : LogicalType) (inside pieces below : List ℕ) → t ≡ u
     → pieces ≡ inside ++ (ending t ++ below)
     → opening u ++ (inside ++ (ending u ++ below)) ≡ type_text u ++ below
@@ -119,7 +119,7 @@ struct_whole fs n below =
     ∙ regrouped (codes "struct{") (joined comma (field_type_texts fs)) (codes "}")
     (null_mark (struct_type fs n)) below
 
--- the field at a place, and those behind it
+-- the field at an index, and the fields after it
 pub fields_at : (s : StructFields) (k : ℕ) (f : String Global × DType)
     → drop k s.fields.items ≡ f ∷ drop (k + 1) s.fields.items
     → fields_text s k

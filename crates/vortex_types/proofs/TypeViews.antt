@@ -1,4 +1,4 @@
--- The type that a `DType` stands for, level by level.
+-- The type that a `DType` represents, level by level.
 use Rattle.std.proofs.Common.{◌≡◌, ℕ, Box, zero, suc, ◌<◌, List, [], ◌∷◌, ◌++◌, String}
 use Rattle.std.proofs.Common.{string_bytes, Global, length, get_or, ap, refl, ◌∙◌, arith, rules}
 use Rattle.vortex_types.specs.LogicalTypes.{LogicalType, text_type, bytes_type, struct_type}

@@ -1,4 +1,4 @@
--- The values around those that are being copied, and how much of the work is left.
+-- The values around those being copied, and how much work is left.
 use Rattle.std.proofs.Common.{◌≡◌, ℕ, suc, ◌+◌, ◌*◌, List, [], ◌∷◌, ◌++◌, map, Option, Some, Vec}
 use Rattle.std.proofs.Common.{Global, refl, sym, ap, ◌∙◌, arith}
 use Rattle.std.proofs.lemmas.List.{append-nil, append_assoc, map-append}
@@ -10,7 +10,7 @@ use Rattle.vortex_types.specs.declared.scalar_value.ScalarValue.{List as ListVal
 use Rattle.vortex_types.specs.declared.scalar_value.copying.Copying.{Copying}
 use Rattle.vortex_types.proofs.ScalarViews.{view-List}
 
--- the values of a list with that one in the place that is being copied
+-- the values of a list, with that one at the index being copied
 abbrev pub around : Copying → Value → Values
 around f v = values_of (map value_or_null f.copies.items ++ v ∷ map value_or_null f.rest.now)
 
@@ -24,7 +24,7 @@ plug_push : (fs : List Copying) (f : Copying) (vs : Values)
 plug_push [] f vs = refl
 plug_push (g ∷ fs) f vs = ap (λ ws. around g (list ws)) (plug_push fs f vs)
 
--- the first of the values that are left
+-- the first of the remaining values
 first_left : (copies ys rest : List (Option ScalarValue)) (x : Option ScalarValue) → ys ≡ x ∷ rest
     → values_or_null (copies ++ ys)
     ≡ values_of (map value_or_null copies ++ value_or_null x ∷ map value_or_null rest)
@@ -57,7 +57,7 @@ left fs f new rest copies pushed none =
     (ap (λ xs. plug (fs ++ f ∷ []) (values_or_null xs))
     (ap (λ ys. copies.items ++ ys) none ∙ append-nil copies.items))
 
--- how much is left behind the lists that are being copied
+-- the work left after the lists that are being copied
 abbrev pub left_above : List Copying → ℕ
 left_above [] = 0
 left_above (f ∷ fs) = suc (2 * value_weights f.rest.now) + left_above fs

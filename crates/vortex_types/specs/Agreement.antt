@@ -1,5 +1,5 @@
--- Agreement of two types, with nullability or without: the test by which both equalities of types
--- are decided.
+-- Agreement of two types, with or without nullability: the test that decides both equalities of
+-- types.
 use Rattle.std.specs.Prelude.{Bool, true, false, ◌&&◌, nat_eq}
 use Rattle.std.specs.Cmp.Lexicographic.{pointwise}
 use Rattle.vortex_types.specs.LogicalTypes.{LogicalType, null_type, bool_type, integer_type}
@@ -13,7 +13,7 @@ abbrev pub nulls_agree : Bool → Bool → Bool → Bool
 nulls_agree true n m = bool_eq n m
 nulls_agree false n m = true
 
--- types that are made of no other
+-- types without types inside
 abbrev pub leaves_agree : Bool → LogicalType → LogicalType → Bool
 leaves_agree e null_type null_type = true
 leaves_agree e (bool_type n) (bool_type m) = nulls_agree e n m

@@ -1,5 +1,5 @@
--- Codes of values and types: each is written as a tree of numbers that gives it back. No contract
--- cites what stands here.
+-- Codes of values and types: each is encoded as a tree of numbers that can be decoded. No contract
+-- cites this module.
 use Rattle.std.specs.Prelude.{◌≡◌, ℕ, zero, suc, ℤ, pos, negsuc, Bool, true, false, List, [], ◌∷◌}
 use Rattle.std.specs.Prelude.{refl}
 use Rattle.std.specs.Coded.{Coded, code_by}

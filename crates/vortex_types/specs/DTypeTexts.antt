@@ -8,12 +8,12 @@ use Rattle.vortex_types.specs.LogicalTypes.{field, is_nullable}
 use Rattle.vortex_types.specs.TypeTexts.{ptype_text}
 use Rattle.vortex_types.specs.Texts.{joined, comma}
 
--- what tells that a type has null; Null needs no mark
+-- the mark of a type that has null; Null needs none
 abbrev pub null_mark : LogicalType → List ℕ
 null_mark null_type = []
 null_mark t = if is_nullable t then codes "?" else []
 
--- what stands before the types inside; all but the mark where there are none
+-- what comes before the types inside; everything but the mark if there are none
 abbrev pub opening : LogicalType → List ℕ
 opening null_type = codes "null"
 opening (bool_type n) = codes "bool"
@@ -25,7 +25,7 @@ opening (list_type t n) = codes "list["
 opening (fixed_size_list_type t size n) = codes "list["
 opening (map_type k v n) = codes "map["
 
--- what stands behind them
+-- what follows them
 abbrev pub closing : LogicalType → List ℕ
 closing (struct_type fs n) = codes "}"
 closing (list_type t n) = codes "]"
@@ -50,7 +50,7 @@ abbrev mutual
       codes "map[" ++ (kind_text k ++ null_mark k) ++ codes ", " ++ (kind_text v ++ null_mark v)
       ++ codes "]"
 
-  -- each type after its field's name
+  -- each field's name, then its type
   pub field_type_texts : Fields → List (List ℕ)
   field_type_texts no_fields = []
   field_type_texts (field name t fs) =

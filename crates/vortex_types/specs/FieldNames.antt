@@ -2,7 +2,7 @@
 use Rattle.std.specs.Prelude.{ℕ, zero, suc, List, []}
 use Rattle.vortex_types.specs.LogicalTypes.{Fields, no_fields, field}
 
--- the name of a field, by its place
+-- the name of a field, by its index
 abbrev pub field_name : ℕ → Fields → List ℕ
 field_name k no_fields = []
 field_name zero (field name t fs) = name

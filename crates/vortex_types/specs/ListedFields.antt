@@ -9,6 +9,6 @@ abbrev pub listed_fields : List (Bor (List ℕ) × DType) → Fields
 listed_fields [] = no_fields
 listed_fields (f ∷ fs) = field f.0.now (type_of f.1) (listed_fields fs)
 
--- no name stands twice
+-- names are distinct
 abbrev pub NameEachOnce : List (Bor (List ℕ) × DType) → Type 0
 NameEachOnce fs = AllPairs (λ a b. a ≢ b) (map (λ f. f.0.now) fs)

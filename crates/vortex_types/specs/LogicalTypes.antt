@@ -1,11 +1,11 @@
--- Logical types: what kind of value a row holds, whatever the memory behind it.
+-- Logical types: what kind of value a row holds, whatever the memory layout.
 use Rattle.std.specs.Prelude.{ℕ, zero, suc, max, List, Bool, true, false, Option, Some, None}
 use Rattle.std.specs.Prelude.{nat_eq, if◌then◌else◌}
 use Rattle.std.specs.Cmp.Lexicographic.{pointwise}
 use Rattle.vortex_types.specs.declared.dtype.PType.{PType}
 
--- The truth value in a type is true where the type has null. A struct's fields stand in declared
--- order, each a name and a type.
+-- The flag in a type is true where the type has null. A struct's fields are in declared order, each
+-- a name and a type.
 mutual
   pub data LogicalType : Type 0 where
     null_type : LogicalType
@@ -34,7 +34,7 @@ is_nullable (list_type t n) = n
 is_nullable (fixed_size_list_type t s n) = n
 is_nullable (map_type k v n) = n
 
--- the type with another nullability at the top; Null has no other form
+-- the type with another nullability at the top; Null is unchanged
 abbrev pub with_nullability : LogicalType → Bool → LogicalType
 with_nullability null_type m = null_type
 with_nullability (bool_type n) m = bool_type m
@@ -82,12 +82,12 @@ abbrev pub field_count : Fields → ℕ
 field_count no_fields = 0
 field_count (field name t fs) = suc (field_count fs)
 
--- one field more, behind the others
+-- one more field at the end
 abbrev pub with_field : Fields → List ℕ → LogicalType → Fields
 with_field no_fields name t = field name t no_fields
 with_field (field n u fs) name t = field n u (with_field fs name t)
 
--- the type of a field, by its place
+-- the type of a field, by its index
 abbrev pub field_type : ℕ → Fields → LogicalType
 field_type k no_fields = null_type
 field_type zero (field name t fs) = t
@@ -110,7 +110,7 @@ abbrev mutual
   fields_depth no_fields = 0
   fields_depth (field name t fs) = max (type_depth t) (fields_depth fs)
 
--- the first field of a name: how many stand before it, and its type
+-- the first field with a name: how many come before it, and its type
 abbrev pub after_one : Option (ℕ × LogicalType) → Option (ℕ × LogicalType)
 after_one None = None
 after_one (Some p) = Some (suc p.0, p.1)

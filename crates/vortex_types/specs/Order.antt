@@ -7,8 +7,8 @@ use Rattle.std.specs.Cmp.Lexicographic.{slice_cmp}
 use Rattle.vortex_types.specs.Values.{Value, null, truth, number, text, bytes, list, Values}
 use Rattle.vortex_types.specs.Values.{no_values, value}
 
--- Null is least and equal to itself. Two kinds of value that are not null have no type in common:
--- any total order of the kinds serves.
+-- Null is least and equal to itself. Two different kinds of value other than null have no type in
+-- common, so any total order of the kinds will do.
 abbrev pub kind_rank : Value → ℕ
 kind_rank null = 0
 kind_rank (truth b) = 1
@@ -17,9 +17,8 @@ kind_rank (text bs) = 3
 kind_rank (bytes bs) = 4
 kind_rank (list vs) = 5
 
--- false is below true, numbers go by value, texts and bytes by their first byte that differs, lists
--- and records by their
--- first value that differs; a beginning is below what continues it
+-- false is below true; numbers by value; texts and bytes by their first different byte; lists and
+-- records by their first different value; a prefix is below what continues it
 abbrev mutual
   pub compare_values : Value → Value → Ordering
   compare_values (truth a) (truth b) = bool_cmp a b

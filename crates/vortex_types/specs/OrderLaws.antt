@@ -1,5 +1,5 @@
--- The order of values is total: antisymmetric, transitive, and alike for values that it holds
--- equal; and these are the same.
+-- The order of values is total: antisymmetric, transitive, and compatible with equality; values
+-- equal in the order are the same.
 use Rattle.std.specs.Prelude.{◌≡◌, Bool, true, false, refl}
 use Rattle.std.proofs.Common.{sym, ap, ◌∙◌}
 use Rattle.std.specs.declared.cmp.Ordering.{Ordering}
@@ -37,7 +37,7 @@ mutual
       (λ i. ordering_then (antisymmetric v w i) (lists_antisymmetric vs ws i))
       ∙ then_flip (compare_values w v) (compare_lists ws vs)
 
--- the first of two orders decides, and else the second: alike for what both hold equal
+-- the first of two orders decides, else the second; values equal in both compare alike
 then_alike : (a b c p q s : Ordering) → (a ≡ Equal → b ≡ c) → (p ≡ Equal → q ≡ s)
     → ordering_then a p ≡ Equal → ordering_then b q ≡ ordering_then c s
 then_alike Less b c p q s f g e = cc
@@ -89,7 +89,7 @@ below_null (text a) e = cc
 below_null (bytes a) e = cc
 below_null (list a) e = cc
 
--- each pair of kinds is spelled out as far as the order asks for it
+-- each pair of kinds is spelled out as far as the order needs it
 mutual
   transitive : (v w x : Value) → compare_values v w ≡ Less → compare_values w x ≡ Less
       → compare_values v x ≡ Less
@@ -136,7 +136,7 @@ pub record EqualsAreSame : Type 0 where
   pub same : (v w : Value) → compare_values v w ≡ Equal → v ≡ w
   pub equal : (v : Value) → compare_values v v ≡ Equal
 
--- the first of two orders, and the second, are Equal where together they are
+-- two orders, one after the other, are Equal only where both are
 then_first : (a b : Ordering) → ordering_then a b ≡ Equal → a ≡ Equal
 then_first Less b e = cc
 then_first Equal b e = refl
@@ -174,7 +174,7 @@ mutual
       value (same_values v w (then_first (compare_values v w) (compare_lists vs ws) e) i)
       (same_lists vs ws (then_second (compare_values v w) (compare_lists vs ws) e) i)
 
--- an order is its own reverse at Equal alone
+-- only Equal is its own reverse
 own_reverse : (o : Ordering) → o ≡ ordering_reverse o → o ≡ Equal
 own_reverse Less e = cc
 own_reverse Equal e = refl

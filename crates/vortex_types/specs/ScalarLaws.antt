@@ -1,4 +1,4 @@
--- Scalars are partially ordered: those of types that agree apart from nullability by their values.
+-- Scalars are partially ordered: by their values, where their types agree apart from nullability.
 use Rattle.std.specs.Prelude.{◌≡◌, Bool, true, false, Option, Some, None, refl, if◌then◌else◌}
 use Rattle.std.specs.Prelude.{option_map}
 use Rattle.std.proofs.Common.{ap, ◌∙◌}
@@ -62,7 +62,7 @@ compare_scalars-laws = record {
       (compare_values_total.congr x.value y.value z.value p.1 i));
 }
 
--- where x equals y, the two compare alike with every z
+-- where x equals y, both compare alike with every z
 equal_alike : (x y z : ScalarView) → scalar_eq x y ≡ true → scalar_eq x z ≡ scalar_eq y z
 equal_alike x y z h = ap (is_some_and is_eq) (compare_scalars-laws.congr x y z h)
 

@@ -1,5 +1,5 @@
--- What is seen of a scalar: its type and its value. Two scalars compare where their types agree
--- apart from nullability.
+-- The view of a scalar: its type and its value. Two scalars compare where their types agree apart
+-- from nullability.
 use Rattle.std.specs.Prelude.{Bool, Option, Some, None, refl, if◌then◌else◌}
 use Rattle.std.specs.Coded.{Coded, code_by, coded×}
 use Rattle.std.specs.declared.cmp.Ordering.{Ordering}

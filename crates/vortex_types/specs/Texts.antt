@@ -1,4 +1,4 @@
--- Texts that are written one behind the other, in the bytes of UTF-8.
+-- Texts written one after another, in the bytes of UTF-8.
 use Rattle.std.specs.Prelude.{◌≡◌, ℕ, zero, suc, List, [], ◌∷◌, ◌++◌, codes, string_bytes, String}
 use Rattle.std.specs.declared.alloc.Global.{Global}
 use Rattle.std.specs.List.{join_by}
@@ -7,7 +7,7 @@ use Rattle.std.specs.List.{join_by}
 abbrev pub joined : List ℕ → List (List ℕ) → List ℕ
 joined = join_by (λ piece. piece)
 
--- what stands before the k-th of them
+-- what comes before the k-th of them
 abbrev pub separator_before : List ℕ → ℕ → List ℕ
 separator_before separator zero = []
 separator_before separator (suc k) = separator
@@ -18,6 +18,6 @@ comma = codes ", "
 abbrev pub quote : List ℕ
 quote = 34 ∷ []
 
--- the text is written behind what was there
+-- the text is appended to what was there
 abbrev pub Appends : String Global → List ℕ → String Global → Type 0
 Appends old text new = string_bytes new ≡ string_bytes old ++ text

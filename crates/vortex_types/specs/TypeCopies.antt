@@ -1,4 +1,4 @@
--- The steps of a copy, over the types that were made so far, the last on top.
+-- The steps of a copy, over a stack of types made so far.
 use Rattle.std.specs.Prelude.{ℕ, suc, ◌+◌, ◌*◌, List, [], ◌∷◌, String, map, reverse, drop, ⊤}
 use Rattle.std.specs.Prelude.{string_bytes}
 use Rattle.std.specs.declared.alloc.Global.{Global}
@@ -19,11 +19,11 @@ HasParts (fixed_size_list_type t s n) = ⊤
 HasParts (map_type k v n) = ⊤
 HasParts leaf = ⊥
 
--- what was made, the last first
+-- the types made so far, the last first
 abbrev pub tops : List DType → List LogicalType
 tops ts = reverse (map type_of ts)
 
--- what lies on top is put into lists or maps as of that type
+-- the top is wrapped into lists or maps like that type
 abbrev pub wrapped : LogicalType → List LogicalType → List LogicalType
 wrapped (list_type e n) [] = []
 wrapped (list_type e n) (t ∷ ts) = list_type t n ∷ ts
@@ -34,18 +34,18 @@ wrapped (map_type k v n) (t ∷ []) = []
 wrapped (map_type k v n) (t ∷ u ∷ ts) = map_type u t n ∷ ts
 wrapped other ts = ts
 
--- a struct with one field more; any other type as it is
+-- a struct with one more field; any other type unchanged
 abbrev pub grown : LogicalType → List ℕ → LogicalType → LogicalType
 grown (struct_type fs n) name t = struct_type (with_field fs name t) n
 grown other name t = other
 
--- what lies on top becomes a field of what lies below
+-- the top becomes a field of the type below
 abbrev pub named : List ℕ → List LogicalType → List LogicalType
 named name [] = []
 named name (t ∷ []) = []
 named name (t ∷ u ∷ ts) = grown u name t ∷ ts
 
--- all those become fields of what lies on top
+-- all those become fields of the top
 abbrev pub more : List (String Global × DType) → List LogicalType → List LogicalType
 more [] ts = ts
 more (f ∷ fs) ts = more fs (named (string_bytes f.0) (type_of f.1 ∷ ts))
@@ -56,7 +56,7 @@ effect (Wrap t) ts = wrapped (type_of t.now) ts
 effect (Name s) ts = named (string_bytes s.now) ts
 effect (steps.Fields f k) ts = more (drop k f.now.fields.items) ts
 
--- the last step goes first
+-- the last step is done first
 abbrev pub effects : List Step → List LogicalType → List LogicalType
 effects [] ts = ts
 effects (s ∷ ss) ts = effect s (effects ss ts)

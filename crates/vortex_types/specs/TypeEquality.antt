@@ -151,10 +151,10 @@ mutual
       (fields_yes fs gs (and_right (type_eq t u) _ k) i)
   fields_yes fs gs h = cc
 
--- the test says yes exactly where the types are the same
+-- the test is true exactly where the types are the same
 pub type_eq-decides : (t u : LogicalType) → Decides (type_eq t u) (t ≡ u)
 type_eq-decides t u = (type_yes t u, λ e. ap (type_eq t) (sym e) ∙ type_refl t)
 
--- so does that of fields
+-- so is that of fields
 pub fields_eq-decides : (fs gs : Fields) → Decides (fields_eq fs gs) (fs ≡ gs)
 fields_eq-decides fs gs = (fields_yes fs gs, λ e. ap (fields_eq fs) (sym e) ∙ fields_refl fs)

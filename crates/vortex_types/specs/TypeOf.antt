@@ -1,4 +1,4 @@
--- The logical type that a `DType` stands for.
+-- The logical type that a `DType` represents.
 use Rattle.std.specs.Prelude.{◌≡◌, ◌≢◌, Bool, true, false, List, [], ◌∷◌, String, string_bytes}
 use Rattle.std.specs.Prelude.{length, map, AllPairs}
 use Rattle.std.specs.List.{zip}
@@ -51,7 +51,7 @@ fields_view fs = fields_of (map (λ f. (f.0, type_of f.1)) fs)
 abbrev pub named_types : List (String Global) → List DType → Fields
 named_types names types = fields_view (zip names types)
 
--- as many names as types, and no name stands twice
+-- as many names as types, and distinct names
 abbrev pub AllDiffer : List (String Global) → Type 0
 AllDiffer = AllPairs (λ a b. string_bytes a ≢ string_bytes b)
 

@@ -16,7 +16,7 @@ all_agree e = list_all (pair_agrees e)
 abbrev pub weight_of : List Pair → ℕ
 weight_of = sum_by (λ p. type_weight p.own.now)
 
--- the one that is there, before the others
+-- the current pair, before the others
 abbrev pub with_first : Option Pair → List Pair → List Pair
 with_first None ps = ps
 with_first (Some p) ps = p ∷ ps

@@ -1,4 +1,4 @@
--- How many types a type is made of, and how deep they lie.
+-- How many types a type is made of, and how deep they are.
 use Rattle.std.specs.Prelude.{ℕ, suc, ◌+◌, List, [], ◌∷◌, String, map, max, Option, Some, None}
 use denote.Param.Weighed.{most}
 use Rattle.std.specs.declared.alloc.Global.{Global}

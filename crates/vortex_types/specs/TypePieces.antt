@@ -1,4 +1,4 @@
--- The pieces of a type's text that are still to be written, the last on top.
+-- The pieces of a type's text that are still to be written, as a stack.
 use Rattle.std.specs.Prelude.{ℕ, suc, ◌+◌, ◌*◌, List, [], ◌∷◌, ◌++◌, codes, drop}
 use Rattle.std.specs.Fmt.{decimal}
 use Rattle.vortex_types.specs.declared.dtype.StructFields.{StructFields}
@@ -12,16 +12,16 @@ use Rattle.vortex_types.specs.TypeCopies.{fields_cost}
 use Rattle.vortex_types.specs.Texts.{comma, separator_before}
 use Rattle.vortex_types.specs.DTypeTexts.{type_text, field_type_texts, closing, null_mark}
 
--- how many elements each list has, where the type tells
+-- how many elements each list has, where the type fixes it
 abbrev pub size_text : LogicalType → List ℕ
 size_text (fixed_size_list_type t size n) = codes "; " ++ decimal size
 size_text t = []
 
--- what stands behind the types inside
+-- what follows the types inside
 abbrev pub ending : LogicalType → List ℕ
 ending t = size_text t ++ closing t ++ null_mark t
 
--- texts from the k-th of a list on, each behind the separator but the first of the list
+-- texts from the k-th of a list on, each after the separator except the first of the list
 abbrev pub joined_from : List ℕ → ℕ → List (List ℕ) → List ℕ
 joined_from separator k [] = []
 joined_from separator k (t ∷ ts) =
@@ -36,7 +36,7 @@ piece_text Comma = comma
 piece_text (Ending t) = ending (type_of t.now)
 piece_text (pieces.Fields f k) = fields_text f.now k
 
--- the last piece goes first
+-- the last piece is written first
 abbrev pub pieces_text : List Piece → List ℕ
 pieces_text [] = []
 pieces_text (p ∷ ps) = pieces_text ps ++ piece_text p

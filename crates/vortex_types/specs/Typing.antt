@@ -33,7 +33,7 @@ greatest_of U64 = pos 18446744073709551615
 abbrev pub FitsPType : PType → ℤ → Type 0
 FitsPType p z = (least_of p ≤ℤ z) × (z ≤ℤ greatest_of p)
 
--- null where the type has it, and else P
+-- null if the type has it, else P
 abbrev pub OrNull : Bool → (Value → Type 0) → Value → Type 0
 OrNull n P null = IsTrue n
 OrNull n P v = P v
@@ -74,10 +74,9 @@ abbrev pub IsFirst : (Value → Type 0) → (Values → Type 0) → Values → T
 IsFirst P Q (value v vs) = P v × Q vs
 IsFirst P Q vs = ⊥
 
--- the value has the type: null every nullable type, a number an integer type whose range it lies
--- in, a list, fixed-size list
--- or map the type of its elements or entries, and a record the types of its fields in declared
--- order
+-- the value has the type: null has every nullable type; a number, an integer type that holds it; a
+-- list, fixed-size list or map, the type of its elements or entries; a record, the types of its
+-- fields in declared order
 abbrev mutual
   pub HasType : LogicalType → Value → Type 0
   HasType null_type = OrNull true (λ v. ⊥)

@@ -1,4 +1,4 @@
--- A copy of a value that is begun: whole, or the values of a list that are still to be copied.
+-- A started copy: whole, or the values of a list that are still to be copied.
 use Rattle.std.specs.Prelude.{ℕ}
 use Rattle.vortex_types.specs.Values.{Value, list}
 use Rattle.vortex_types.specs.ValueOf.{value_of, values_or_null}

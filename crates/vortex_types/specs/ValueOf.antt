@@ -1,4 +1,4 @@
--- The value that a `ScalarValue` stands for; no value is null.
+-- The value that a `ScalarValue` represents, which is never null.
 use Rattle.std.specs.Prelude.{List, map, Option, Some, None, string_bytes}
 use Rattle.vortex_types.specs.declared.scalar_value.ScalarValue.{ScalarValue, fold-ScalarValue}
 use Rattle.vortex_types.specs.declared.scalar_value.ScalarValue.TheOpen.{ScalarValue-F}

@@ -1,11 +1,11 @@
--- How many values a value is made of, and how deep they lie.
+-- How many values a value is made of, and how deep they are.
 use Rattle.std.specs.Prelude.{ℕ, suc, ◌+◌, List, [], ◌∷◌, map, Option, Some, None}
 use denote.Param.Weighed.{most}
 use Rattle.vortex_types.specs.declared.scalar_value.ScalarValue.{ScalarValue, fold-ScalarValue}
 use Rattle.vortex_types.specs.declared.scalar_value.ScalarValue.{size-ScalarValue}
 use Rattle.vortex_types.specs.declared.scalar_value.ScalarValue.TheOpen.{ScalarValue-F}
 
--- a place weighs one more than what stands in it
+-- an element weighs one more than its value
 abbrev pub places_weight : List (Option ℕ) → ℕ
 places_weight [] = 0
 places_weight (None ∷ places) = suc (places_weight places)

@@ -1,4 +1,5 @@
--- The value of one row. A record is the list of its fields' values: its type tells it from a list.
+-- The value of one row. A record is the list of its fields' values; its type distinguishes it from
+-- a list.
 use Rattle.std.specs.Prelude.{ℕ, zero, suc, max, ℤ, List, [], ◌∷◌, Bool, true, false, Option, Some}
 use Rattle.std.specs.Prelude.{None}
 
@@ -23,7 +24,7 @@ abbrev pub value_count : Values → ℕ
 value_count no_values = 0
 value_count (value v vs) = suc (value_count vs)
 
--- the value in place k, and null past the end
+-- the value at index k, and null past the end
 abbrev pub nth_value : ℕ → Values → Value
 nth_value k no_values = null
 nth_value zero (value v vs) = v
@@ -33,7 +34,7 @@ abbrev pub is_null : Value → Bool
 is_null null = true
 is_null v = false
 
--- a truth value or null, as Kleene's tables take and give it
+-- a truth value or null, as in Kleene's tables
 abbrev pub truth_of : Value → Option Bool
 truth_of (truth b) = Some b
 truth_of v = None

@@ -57,7 +57,7 @@ impl Nullability {
     }
 }
 
-/// An integer type, by its sign and its bits.
+/// An integer type, by its sign and width.
 #[derive(Clone, Copy, Debug, PartialEq, Eq)]
 pub enum PType {
     I8,
@@ -73,7 +73,7 @@ pub enum PType {
 /// The type of a column or a scalar.
 #[cycle(dtype)]
 pub enum DType {
-    /// Null alone, which counts as nullable.
+    /// Only null, which counts as nullable.
     Null,
     /// Truth values.
     Bool(Nullability),
@@ -93,15 +93,15 @@ pub enum DType {
     Map(Box<DType>, Box<DType>, Nullability),
 }
 
-/// Names and types of fields, in declared order; no name stands twice.
+/// Names and types of fields, in declared order; names are distinct.
 #[cycle(dtype)]
 #[derive(Drop)]
 pub struct StructFields {
     fields: Vec<(String, DType)>,
 }
 
-/// A type is dropped by a list of what is still to go, so its depth takes no stack; and lists within
-/// lists take no memory. Where the list cannot grow, what it has no place for goes by a call.
+/// A type is dropped with a work list, so deep nesting uses no stack, and lists within lists
+/// allocate nothing. If the list cannot grow, the remaining types are dropped recursively.
 impl Drop for DType {
     #[tactic(auto, using(crate::proofs::TypeWeights::weights))]
     fn drop(self) {
@@ -127,7 +127,7 @@ impl Drop for DType {
                         Some((_name, last)) => last,
                         None => DType::Null,
                     };
-                    // what found no place goes with `fields`
+                    // what did not fit is dropped with `fields`
                     let _grown = list.append(&mut fields);
                     last
                 }
@@ -168,7 +168,7 @@ impl DType {
         self.nullability().is_nullable()
     }
 
-    /// The type with another nullability at the top; Null has no other form.
+    /// The type with another nullability at the top; Null is unchanged.
     pub fn with_nullability(self, nullability: Nullability) -> DType
         ensures { type_of result ≡ with_nullability (type_of self) (allows_null nullability) }
     {
@@ -224,7 +224,7 @@ impl DType {
         }
     }
 
-    /// A copy that is seen as its source is.
+    /// A copy with the same view.
     pub fn try_clone(&self, _alloc: Global) -> VortexResult<DType>
         ensures { AnswersUnlessMemory result (λ t. type_of t ≡ type_of self.now) }
     {
@@ -241,7 +241,7 @@ impl DType {
     }
 }
 
-/// A copy that is seen as its source is.
+/// A copy with the same view.
 impl Clone for DType {
     ghost use Rattle.vortex_types.specs.TypeOf.{type_of};
 
@@ -255,7 +255,7 @@ impl Clone for DType {
 impl StructFields {
     ghost use Rattle.vortex_types.specs.TypeOf.{struct_fields};
 
-    /// A copy that is seen as its source is.
+    /// A copy with the same view.
     pub fn try_clone(&self, _alloc: Global) -> VortexResult<StructFields>
         ensures { AnswersUnlessMemory result (λ f. struct_fields f ≡ struct_fields self.now) }
     {
@@ -274,7 +274,7 @@ impl StructFields {
     }
 }
 
-/// The same names with types that are seen as their sources are.
+/// The same names, with types that have the same views.
 impl Clone for StructFields {
     ghost use Rattle.vortex_types.specs.TypeOf.{struct_fields};
 

@@ -44,7 +44,7 @@ impl Ints {
         }
     }
 
-    /// The number in place `i`.
+    /// The number at index `i`.
     pub fn at(&self, i: usize) -> i128
         requires { i < length (numbers self.now) }
         ensures { result ≡ slice_index_or (numbers self.now) i (pos 0) }
@@ -61,7 +61,7 @@ impl Ints {
         }
     }
 
-    /// A copy of the same numbers of the same type.
+    /// A copy with the same numbers and type.
     pub fn try_clone(&self, _alloc: Global) -> VortexResult<Ints>
         ensures ptype { AnswersUnlessMemory result (λ xs. ptype_of xs ≡ ptype_of self.now) }
         ensures values { AnswersUnlessMemory result (λ xs. numbers xs ≡ numbers self.now) }
@@ -103,7 +103,7 @@ pub trait NativePType: Copy + Drop {
 
     ghost ptype: { PType };
 
-    /// The number, which lies in the range of the type.
+    /// The number, which is in the range of the type.
     fn to_i128(self) -> i128
         ensures value { result ≡ number self }
         ensures fits { FitsPType ptype (number self) };
@@ -116,7 +116,7 @@ pub trait NativePType: Copy + Drop {
     fn total_compare(self, other: Self) -> Ordering
         ensures { result ≡ int_cmp (number self) (number other) };
 
-    /// Zero. Takes no memory.
+    /// Zero. Allocates nothing.
     fn zero() -> Self
         ensures { number result ≡ pos 0 };
 
@@ -125,18 +125,18 @@ pub trait NativePType: Copy + Drop {
         ensures { MatchOption result (¬ FitsPType ptype value)
             (λ x. FitsPType ptype value × (number x ≡ value)) };
 
-    /// The same integers, as a list of one of the eight types. Takes no memory.
+    /// The same integers, as a list of one of the eight types. Allocates nothing.
     fn wrap(values: Vec<Self>) -> Ints
         ensures kind { ptype_of result ≡ ptype }
         ensures values { numbers result ≡ map number values.items };
 
-    /// The integers, where they are of this type.
+    /// The integers, if they are of this type.
     fn of(ints: &Ints) -> Option<&[Self]>
         ensures { MatchOption result (¬ (ptype_of ints.now ≡ ptype))
             (λ xs. (ptype_of ints.now ≡ ptype) × (numbers ints.now ≡ map number xs.now)) };
 }
 
-/// The number of the integer in place `i`.
+/// The number at index `i`.
 #[inline]
 fn number_at<T: NativePType>(values: &Vec<T>, i: usize) -> i128
     requires { i < length values.now.items }
@@ -155,8 +155,7 @@ fn copy_of<T: NativePType>(values: &Vec<T>) -> Result<Ints, AllocError>
     Ok(T::wrap(copy))
 }
 
-/// Looks at each number, so that a caller knows that it lies in the range of its type. Changes
-/// nothing.
+/// Proves to the caller that each number is in the range of its type. Changes nothing.
 pub fn learn_ranges<T: NativePType>(values: &[T])
     ensures { All (FitsPType T.ptype) (map T.number values.now) }
 {

@@ -1,4 +1,4 @@
-//! What follows from the order of values. The function does nothing: its contract is proved.
+//! Laws of the order of values. The function is empty; its contract is the law, proved.
 ghost use Rattle.vortex_types.specs.OrderLaws.{EqualsAreSame};
 
 /// Two values are equal in the order exactly where they are the same value.

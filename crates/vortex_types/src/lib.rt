@@ -1,5 +1,4 @@
-//! Types of columns, integers of each type, and values of scalars; with the refusals that stand
-//! below.
+//! Types of columns, integers of each type, values of scalars, and the errors of the crates below.
 #![tactic(auto)]
 
 pub mod dtype;

@@ -14,7 +14,7 @@ use vortex_errors::VortexResult;
 pub enum ScalarValue {
     /// A truth value.
     Bool(bool),
-    /// An integer of any of the eight types; the type tells which.
+    /// An integer of any of the eight types, given by the type.
     Int(i128),
     /// A text.
     Utf8(String),
@@ -25,9 +25,8 @@ pub enum ScalarValue {
     List(Vec<Option<ScalarValue>>),
 }
 
-/// A value is dropped by a list of what is still to go, so its depth takes no stack; and lists of
-/// one value within one another take no memory. Where the list cannot grow, what it has no place
-/// for goes by a call.
+/// A value is dropped with a work list, so deep nesting uses no stack, and lists of one value each,
+/// nested, allocate nothing. If the list cannot grow, the remaining values are dropped recursively.
 impl Drop for ScalarValue {
     #[tactic(auto, using(crate::proofs::ValueWeights::weights))]
     fn drop(self) {
@@ -39,7 +38,7 @@ impl Drop for ScalarValue {
             if let Some(value) = item {
                 if let Some(items) = value.items() {
                     let mut items = items;
-                    // what found no place goes with `items`
+                    // what did not fit is dropped with `items`
                     let _grown = list.append(&mut items);
                 }
             }
@@ -50,7 +49,7 @@ impl Drop for ScalarValue {
 impl ScalarValue {
     ghost use Rattle.vortex_types.specs.ValueOf.{value_of};
 
-    /// Takes a value apart; none of a value that is made of no other.
+    /// Takes a value apart; no parts for a value without values inside.
     fn items(self) -> Option<Vec<Option<ScalarValue>>>
         ensures fewer { IfSome result (λ items. value_weights items.items ≤ value_weight self) }
         ensures falls { IfSome result
@@ -65,7 +64,7 @@ impl ScalarValue {
         }
     }
 
-    /// A copy that is seen as its source is.
+    /// A copy with the same view.
     pub fn try_clone(&self, _alloc: Global) -> VortexResult<ScalarValue>
         ensures { AnswersUnlessMemory result (λ v. value_of v ≡ value_of self.now) }
     {
@@ -82,7 +81,7 @@ impl ScalarValue {
     }
 }
 
-/// A copy that is seen as its source is.
+/// A copy with the same view.
 impl Clone for ScalarValue {
     ghost use Rattle.vortex_types.specs.ValueOf.{value_of};
 

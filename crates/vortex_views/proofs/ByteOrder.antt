@@ -48,7 +48,7 @@ shorter : {m l n : ℕ} → (suc m ≤ suc n) ⊎ (suc l ≤ suc n) → (m ≤ n
 shorter (inl h) = inl (omega arith)
 shorter (inr h) = inr (omega arith)
 
--- where one of the two has at most n bytes, their first n bytes decide, or else their lengths
+-- where one has at most n bytes, their first n bytes decide, else their lengths
 pub by_words_and_lengths : (n : ℕ) (xs ys : List ℕ) → AreBytes xs → AreBytes ys
     → (length xs ≤ n) ⊎ (length ys ≤ n)
     → compare_bytes xs ys
@@ -71,7 +71,7 @@ by_words_and_lengths (suc n) (x ∷ xs) (y ∷ ys) h k s =
     ∙ ap (λ o. ordering_then (nat_cmp (digits (suc n) 0 (x ∷ xs)) (digits (suc n) 0 (y ∷ ys))) o)
     (sym (lengths (length xs) (length ys) (cases_order (length xs) (length ys))))
 
--- where both have n bytes, their first n bytes decide, or else what follows
+-- where both have n bytes, their first n bytes decide, else the bytes after them
 pub by_words_and_rests : (n : ℕ) (xs ys : List ℕ) → AreBytes xs → AreBytes ys
     → n ≤ length xs → n ≤ length ys
     → compare_bytes xs ys
@@ -88,7 +88,7 @@ by_words_and_rests (suc n) (x ∷ xs) (y ∷ ys) h k p q =
     ∙ ap (λ o. ordering_then o (compare_bytes (drop n xs) (drop n ys)))
     (sym (first_of_both n x y xs ys h k))
 
--- equal numbers of n bytes are of equal bytes
+-- equal numbers of n bytes come from equal bytes
 pub same_start : (n : ℕ) (xs ys : List ℕ) → AreBytes xs → AreBytes ys
     → n ≤ length xs → n ≤ length ys → digits n 0 xs ≡ digits n 0 ys → take n xs ≡ take n ys
 same_start zero xs ys h k p q e = refl
@@ -105,7 +105,7 @@ same_start (suc n) (x ∷ xs) (y ∷ ys) h k p q e =
     ∙ ap (λ zs. y ∷ zs) (same_start n xs ys (λ i. h (suc i)) (λ i. k (suc i)) (omega arith)
     (omega arith) both.1)
 
--- after an equal start of n bytes the rest decides
+-- after n equal bytes the rest decides
 pub after_same_start : (n : ℕ) (xs ys : List ℕ) → n ≤ length xs → n ≤ length ys
     → take n xs ≡ take n ys
     → compare_bytes xs ys ≡ compare_bytes (drop n xs) (drop n ys)
@@ -140,7 +140,7 @@ room n m xs h = omega (arith, length-drop n xs)
 pub later : (n : ℕ) (xs : List ℕ) → AreBytes xs → AreBytes (drop n xs)
 later n xs h i = rw (get_or-drop n xs i 0) (h (n + i))
 
--- words at two places are equal where so many bytes are
+-- words at two offsets are equal where that many bytes are
 pub same_bytes_at : (n i j : ℕ) (xs ys : List ℕ) → AreBytes xs → AreBytes ys
     → i + n ≤ length xs → j + n ≤ length ys
     → digits n 0 (drop i xs) ≡ digits n 0 (drop j ys) → take n (drop i xs) ≡ take n (drop j ys)
@@ -179,12 +179,12 @@ eight_more n xs ys h k p q same e =
     (sym (eight_digits (drop n xs)) ∙ e ∙ eight_digits (drop n ys)))
     ∙ sym (take-add n 8 ys)
 
--- a beginning of an equal beginning
+-- a prefix of an equal prefix
 pub shorter_start : (m n : ℕ) (xs ys : List ℕ) → m ≤ n → take n xs ≡ take n ys
     → take m xs ≡ take m ys
 shorter_start m n xs ys h e = sym (take-take m n xs h) ∙ ap (λ zs. take m zs) e ∙ take-take m n ys h
 
--- equal to the last eight, and these too
+-- equal up to the last eight bytes, and these too
 pub all_same : (n m : ℕ) (xs ys : List ℕ) → AreBytes xs → AreBytes ys → length xs ≡ length ys
     → length xs ≡ m + 8
     → m ≤ n → take n xs ≡ take n ys
@@ -226,7 +226,7 @@ one_less : {m l n : ℕ} → (suc m ≡ suc n) ⊎ (suc l ≡ suc n) → (m ≡ 
 one_less (inl h) = inl (omega arith)
 one_less (inr h) = inr (omega arith)
 
--- where the shorter ends, after equal bytes, lengths decide
+-- where the shorter one ends after equal bytes, lengths decide
 pub lengths_decide : (n : ℕ) (xs ys : List ℕ) → n ≤ length xs → n ≤ length ys
     → (length xs ≡ n) ⊎ (length ys ≡ n) → take n xs ≡ take n ys
     → compare_bytes xs ys ≡ nat_cmp (length xs) (length ys)
@@ -244,7 +244,7 @@ lengths_decide (suc n) (x ∷ xs) (y ∷ ys) p q s e =
     ∙ lengths_decide n xs ys (omega arith) (omega arith) (one_less s) rest
     ∙ sym (lengths (length xs) (length ys) (cases_order (length xs) (length ys)))
 
--- the order of two different words is that of the lists
+-- two different words are ordered as the lists are
 pub word_answer : (n : ℕ) (xs ys : List ℕ) (r : Ordering) (l m : ℕ) → AreBytes xs → AreBytes ys
     → n + 8 ≤ length xs → n + 8 ≤ length ys → take n xs ≡ take n ys
     → l ≡ from_be_bytes w64 (padded 8 (drop n xs)) → m ≡ from_be_bytes w64 (padded 8 (drop n ys))
@@ -259,6 +259,6 @@ ends_by : (m n k : ℕ) → k ≡ min m n → 8 ≤ m → 8 ≤ n → (m < n) �
 ends_by m n k e p q (inl h) = inl (omega arith)
 ends_by m n k e p q (inr h) = inr (omega arith)
 
--- the shorter of two ends there
+-- the shorter one ends there
 pub shorter_ends : (m n k : ℕ) → k ≡ min m n → 8 ≤ m → 8 ≤ n → (m ≡ k - 8 + 8) ⊎ (n ≡ k - 8 + 8)
 shorter_ends m n k e p q = ends_by m n k e p q (cases_lt m n)

@@ -1,4 +1,4 @@
--- Numbers whose digits are bytes, the first of them the highest, are ordered by their digits.
+-- Big-endian numbers are ordered by their digits.
 use Rattle.std.proofs.Common.{◌≡◌, ℕ, zero, suc, ◌+◌, ◌*◌, ◌^◌, ◌<◌, ◌≤◌, List, [], ◌∷◌, get_or}
 use Rattle.std.proofs.Common.{refl, sym, ◌∙◌, ap, arith, inl, inr, ◌⊎◌, Fits, w8, rules}
 use Rattle.std.proofs.Math.Nat.{mul-le-mul_right, pow-suc}
@@ -63,7 +63,7 @@ decides x y a b p h k (inr (inr l)) =
     cmp_greater (x * p + a) (y * p + b) (apart y x b a p l k)
     ∙ ap (λ o. ordering_then o (nat_cmp a b)) (sym (cmp_greater x y l))
 
--- the first digit decides, or else the others
+-- the first digit decides, else the others
 pub first_decides : (x y a b p : ℕ) → a < p → b < p
     → nat_cmp (x * p + a) (y * p + b) ≡ ordering_then (nat_cmp x y) (nat_cmp a b)
 first_decides x y a b p h k = decides x y a b p h k (cases_order x y)
@@ -81,6 +81,6 @@ same_first x y a b p h k s = same x y a b p h k (cases_order x y) s
 fit : (x : ℕ) → Fits w8 x → x < 256
 fit x h = search rules
 
--- what a slice of bytes is known by
+-- a slice of bytes is determined by its bytes
 pub are_bytes : (xs : List ℕ) → ((i : ℕ) → Fits w8 (get_or xs i 0)) → AreBytes xs
 are_bytes xs h i = fit (get_or xs i 0) (h i)

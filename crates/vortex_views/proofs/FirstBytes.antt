@@ -1,4 +1,4 @@
--- The first bytes of values by the first digits of their words.
+-- The first bytes of values, from the first digits of their words.
 use Rattle.std.proofs.Common.{◌≡◌, ℕ, zero, suc, ◌+◌, ◌-◌, ◌*◌, ◌/◌, ◌^◌, ◌<◌, ◌≤◌, List, length}
 use Rattle.std.proofs.Common.{take, get_or, sym, ◌∙◌, ap, subst, arith, refl}
 use Rattle.std.proofs.Math.Nat.{mul_assoc, mul-add-div_right, pow-suc}
@@ -41,7 +41,7 @@ first_digits (suc n) (suc t) i xs h le =
     ∙ shifted g (256 ^ n) d p (positive (t - n))
     ∙ ap (λ z. g * 256 ^ n + z) (first_digits n t (suc i) xs h (omega arith))
 
--- equal first digits of two words are of equal first bytes
+-- equal first digits of two words come from equal first bytes
 pub same_first_bytes : (n t x y : ℕ) (xs ys : List ℕ) → AreBytes xs → AreBytes ys → n ≤ t
     → n ≤ length xs → n ≤ length ys → x ≡ digits t 0 xs → y ≡ digits t 0 ys
     → x / 256 ^ (t - n) ≡ y / 256 ^ (t - n) → take n xs ≡ take n ys

@@ -1,4 +1,4 @@
--- What is gathered, place by place.
+-- Items gathered place by place.
 use Rattle.std.proofs.Common.{◌≡◌, ℕ, ◌+◌, ◌<◌, List, [], ◌∷◌, ◌++◌, length, map, get_or, take}
 use Rattle.std.proofs.Common.{refl, sym, ap, ◌∙◌, subst, arith}
 use Rattle.std.specs.Prelude.{All}
@@ -27,7 +27,7 @@ gathered_more f items places taken i p x d so b p_is within x_is =
     ∙ ap (λ ps. map g (map f (take i places ++ ps ∷ []))) p_is
     ∙ ap (λ ps. map g (map f ps)) (sym (take_more places i p b))
 
--- what is made of each item that is gathered, gathered from what is made of each item
+-- mapping the gathered items is gathering the mapped items
 pub map_gathered : {A B : Type 0} (g : A → B) (items : List A) (d : A) (e : B) (places : List ℕ)
     → All (λ i. i < length items) places
     → map g (map (λ i. get_or items i d) places) ≡ map (λ i. get_or (map g items) i e) places
@@ -37,7 +37,7 @@ map_gathered g items d e (p ∷ ps) h =
     sym (get_or-map g items p d e (All-head (λ i. i < length items) p ps h)) j
     ∷ map_gathered g items d e ps (All-tail (λ i. i < length items) p ps h) j
 
--- views that are gathered, over the same buffers
+-- gathered views, over the same buffers
 module _ (bufs bufs' : List (List ℕ)) (views views' : List BinaryView) (places : List ℕ)
     (same : bufs' ≡ bufs) (within : All (λ i. i < length (values_in bufs views)) places)
     (so : (d : BinaryView) → views' ≡ map (λ i. get_or views i d) places) where

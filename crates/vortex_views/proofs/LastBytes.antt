@@ -1,4 +1,4 @@
--- The last bytes of values that lie in their views, as numbers.
+-- The last bytes of inlined values, as numbers.
 use Rattle.std.proofs.Common.{◌≡◌, ℕ, zero, suc, ◌+◌, ◌*◌, ◌/◌, ◌^◌, ◌<◌, ◌≤◌, List, [], ◌∷◌}
 use Rattle.std.proofs.Common.{length, drop, get_or, sym, ◌∙◌, ap, arith, refl}
 use Rattle.std.proofs.Math.Nat.{div-div-eq-div-mul, pow-succ'}
@@ -11,7 +11,7 @@ use Rattle.vortex_views.proofs.ByteOrder.{later}
 use Rattle.vortex_views.proofs.FirstBytes.{small, positive}
 use Rattle.vortex_views.proofs.Layouts.{short_len}
 
--- all bytes, the first of them the lowest
+-- all bytes, least significant first
 abbrev pub number : List ℕ → ℕ
 number [] = 0
 number (x ∷ xs) = x + 256 * number xs
@@ -35,7 +35,7 @@ all_digits zero (x ∷ xs) h = absurd (omega arith)
 all_digits (suc n) (x ∷ xs) h =
     ap (λ r. x + 256 * r) (past n 0 x xs ∙ all_digits n xs (omega arith))
 
--- behind k bytes
+-- after k bytes
 behind : (k : ℕ) (xs : List ℕ) → AreBytes xs → number xs / 256 ^ k ≡ number (drop k xs)
 behind zero xs h = omega arith
 behind (suc k) [] h = small 0 (256 ^ suc k) (positive (suc k))
@@ -47,7 +47,7 @@ behind (suc k) (x ∷ xs) h =
     ∙ ap (λ z. z / 256 ^ k) whole
     ∙ behind k xs (λ i. h (suc i))
 
--- equal numbers of as many bytes are of equal bytes
+-- equal numbers of as many bytes come from equal bytes
 same_numbers : (xs ys : List ℕ) → AreBytes xs → AreBytes ys → length xs ≡ length ys
     → number xs ≡ number ys → xs ≡ ys
 same_numbers [] [] h k l e = refl
@@ -67,7 +67,7 @@ view_number : (value : List ℕ)
     ≡ digits_up 12 0 value * 2 ^ 32 + view_len (inlined_view value)
 view_number value = omega arith
 
--- the number of a short value is that of its view, behind the length
+-- the number of a short value is that of its view, after the length
 pub inlined_number : (value : List ℕ) → length value ≤ 12
     → from_le_bytes w128 (inlined_view value) / 2 ^ 32 ≡ number value
 inlined_number value h =
@@ -77,7 +77,7 @@ inlined_number value h =
     ∙ ap (λ z. z * 2 ^ 32 + length value) (all_digits 12 value h))
     ∙ div-mul-add (number value) (2 ^ 32) (length value) (omega arith)
 
--- a short value ends with a literal where the numbers say so
+-- a short value ends with a literal exactly where the numbers agree
 pub same_ends : (at x y : ℕ) (value literal : List ℕ) → AreBytes value → AreBytes literal
     → length value ≤ 12 → at + length literal ≡ length value
     → x ≡ from_le_bytes w128 (inlined_view value) / 2 ^ 32 / 256 ^ at

@@ -1,4 +1,4 @@
--- What is read from the 16 bytes of a view is what they were made of.
+-- Reading the 16 bytes of a view gives back what they were made of.
 use Rattle.std.proofs.Common.{◌≡◌, ℕ, zero, suc, ◌+◌, ◌*◌, ◌^◌, ◌<◌, ◌≤◌, List, [], ◌∷◌, ◌++◌}
 use Rattle.std.proofs.Common.{get_or, length, take, drop, refl, sym, ◌∙◌, ap, arith}
 use Rattle.std.proofs.lemmas.List.{get_or-drop, ext_get_or}
@@ -97,7 +97,7 @@ eight v h (suc (suc (suc (suc (suc (suc zero)))))) = h 6
 eight v h (suc (suc (suc (suc (suc (suc (suc zero))))))) = h 7
 eight v h (suc (suc (suc (suc (suc (suc (suc (suc i)))))))) = omega arith
 
--- equal words are of equal bytes
+-- equal words come from equal bytes
 pub same_word : (v w : List ℕ) → AreBytes v → AreBytes w → from_le_bytes w64 v ≡ from_le_bytes w64 w
     → padded 8 v ≡ padded 8 w
 same_word v w h k e =

@@ -1,4 +1,4 @@
--- Buffers that grow hold what they held, and the value that was put last.
+-- Growing buffers keep their bytes, and hold the value that was added last.
 use Rattle.std.proofs.Common.{◌≡◌, ℕ, ◌+◌, ◌<◌, ◌≤◌, ◌⊎◌, inl, inr, cond, nat_le, false, List, []}
 use Rattle.std.proofs.Common.{◌∷◌, ◌++◌}
 use Rattle.std.proofs.Common.{map, length, get_or, take, drop, refl, sym, ap, ◌∙◌, subst, arith}
@@ -19,7 +19,7 @@ use Rattle.vortex_views.specs.Building.{filled, AreInRange}
 use Rattle.vortex_views.proofs.Layouts.{long_len, long_buffer, long_offset}
 use Rattle.vortex_views.proofs.Resolving.{long_in, above}
 
--- a list whose last item is another one
+-- a list whose last item is replaced
 pub last_set : (vs ws : List (Vec ℕ Global)) (new last : Vec ℕ Global) (n : ℕ) → n ≡ length vs
     → ws ≡ vs ++ new ∷ []
     → map (λ v. v.items) (slice_set ws n last) ≡ map (λ v. v.items) vs ++ last.items ∷ []
@@ -41,7 +41,7 @@ first_four (a ∷ b ∷ []) h = absurd (omega arith)
 first_four (a ∷ b ∷ c ∷ []) h = absurd (omega arith)
 first_four (a ∷ b ∷ c ∷ d ∷ rest) h = refl
 
--- a value at the end of the last buffer, whose view tells that
+-- a value at the end of the last buffer, with its view
 module _ (fs : List (List ℕ)) (l value view : List ℕ) (long : 12 < length value)
     (most : length value ≤ 4294967295) (few : length fs ≤ 4294967295) (low : length l ≤ 4294967295)
     (is : view ≡ long_view (length value) value (length fs) (length l)) where

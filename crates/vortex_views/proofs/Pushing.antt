@@ -1,4 +1,4 @@
--- One more view, over buffers that grew.
+-- One more view, over growing buffers.
 use Rattle.std.proofs.Common.{◌≡◌, ℕ, suc, ◌+◌, ◌<◌, ◌≤◌, ◌⊎◌, inl, inr, cond, nat_le, true, false}
 use Rattle.std.proofs.Common.{List, [], ◌∷◌, ◌++◌, Bool}
 use Rattle.std.proofs.Common.{map, length, get_or, take, drop, refl, sym, ap, ◌∙◌, subst, arith}
@@ -22,7 +22,7 @@ use Rattle.vortex_errors.specs.declared.error.VortexError.TheVariants.{InvalidCo
 use Rattle.vortex_errors.proofs.Answering.{UnlessMemory-weaker}
 use Rattle.vortex_views.proofs.Resolving.{short_in, long_in}
 
--- bytes that lie in a buffer lie there still where more is behind it
+-- bytes of a buffer are still there after more are appended
 part_stays : (b more : List ℕ) (o n : ℕ) → o + n ≤ length b
     → take n (drop o (b ++ more)) ≡ take n (drop o b)
 part_stays b more o n h =

@@ -155,12 +155,12 @@ four_by : (value v : List ℕ) → IsViewOf value v → (12 < length value) ⊎ 
 four_by value v h (inl l) = same_four (drop 4 v) value (h.start l)
 four_by value v h (inr s) = ap (λ z. from_le_bytes w32 (drop 4 z)) (h.inlined s)
 
--- the same word, the first byte the lowest
+-- the same word, in little-endian order
 pub four_of_view : (value v : List ℕ) → IsViewOf value v
     → from_le_bytes w32 (drop 4 v) ≡ from_le_bytes w32 (padded 4 value)
 four_of_view value v h = four_by value v h (cases_lt 12 (length value))
 
--- and the second, of a short one
+-- and the second word of a short value
 pub tail_of_view : (value v : List ℕ) → IsViewOf value v → view_len v ≤ 12
     → from_be_bytes w64 (drop 8 v) ≡ order_tail_word value
 tail_of_view value v h s =

@@ -1,4 +1,4 @@
--- What tests by words say of values.
+-- What tests of words mean for values.
 use Rattle.std.proofs.Common.{◌≡◌, ℕ, ◌+◌, ◌-◌, ◌*◌, ◌/◌, ◌^◌, ◌<◌, ◌≤◌, ◌&&◌, Bool, List, ◌++◌}
 use Rattle.std.proofs.Common.{true, false, take, drop, length, sym, ◌∙◌, ap, subst, arith, nat_eq}
 use Rattle.std.proofs.Common.{leb, refl}
@@ -25,7 +25,7 @@ use Rattle.vortex_views.proofs.Layouts.{short_len, short_value, head_to_bytes, e
 use Rattle.vortex_views.proofs.Resolving.{prefix_of_view, four_of_view}
 use Rattle.vortex_views.proofs.WordOrder.{prefix_digits, tail_digits}
 
--- the view of a short literal is that of a value that is it
+-- a value is a short literal exactly where the views are equal
 pub short_whole : (value v literal : List ℕ) (b : Bool) → IsViewOf value v
     → length literal ≤ 12 → (IsTrue b ↔ (v ≡ inlined_view literal)) → b ≡ bytes_eq literal value
 short_whole value v literal b h short told =
@@ -76,7 +76,7 @@ head_of_view value v h most =
     (h.len ∙ sym (from_le_bytes-to_le_bytes_4 (length value) (omega arith)))
     ∙ sym (split_head (to_le_bytes w32 (length value) ++ padded 4 value))
 
--- a value with another head is no literal
+-- a value with another head is not the literal
 pub other_heads : (value v literal : List ℕ) → IsViewOf value v → length literal ≤ 4294967295
     → (from_le_bytes w64 v ≡ head_word literal → ⊥) → false ≡ bytes_eq literal value
 other_heads value v literal h most differ =
@@ -88,7 +88,7 @@ other_heads value v literal h most differ =
     )
     (bytes_eq-Decides literal value)
 
--- a value whose head is a literal's is as long and begins alike
+-- a value with a literal's head has its length and its first bytes
 pub heads_begin : (value own v bytes literal : List ℕ) → own ≡ value → bytes ≡ v → IsViewOf value v
     → AreBytes bytes → AreBytes literal → length literal ≤ 4294967295
     → from_le_bytes w64 v ≡ head_word literal
@@ -100,7 +100,7 @@ heads_begin value own v bytes literal e d h low k most same =
     )
 
 module _ (value literal : List ℕ) where
-  -- what the front of a value says
+  -- what the prefix of a value decides
   pub front_by : (b : Bool) → (b ≡ true → take (length literal) value ≡ literal)
       → (take (length literal) value ≡ literal → b ≡ true) → b ≡ starts_with nat_eq value literal
   front_by b f g =
@@ -143,7 +143,7 @@ module _ (value literal : List ℕ) where
           Decides-and (leb (length literal) len) (nat_eq x y)
           (leb-true (length literal) len, le-leb (length literal) len) (Decides-eqb x y)
 
-  -- of a literal that is longer the first four bytes are a part
+  -- the first four bytes of a longer literal are a part of it
   pub first_four : 4 ≤ length literal → take (length literal) value ≡ literal
       → take 4 value ≡ take 4 literal
   first_four long e = sym (take-take 4 (length literal) value long) ∙ ap (λ z. take 4 z) e
@@ -156,7 +156,7 @@ module _ (value literal : List ℕ) where
       (λ e. absurd (differ (prefix_digits value
       ∙ same_words 4 value literal (first_four (omega arith) e) ∙ sym (prefix_digits literal))))
 
-  -- behind equal first four bytes by the next eight
+  -- after equal first four bytes, by the next eight
   pub middle_front : (x y : ℕ) → AreBytes value → AreBytes literal → 4 < length literal
       → length literal ≤ 12 → length literal ≤ length value
       → take 4 value ≡ take 4 literal
@@ -208,7 +208,7 @@ module _ (value literal : List ℕ) where
         length-drop (length value - length literal) value,
       )))
 
-  -- the end of a value that lies in its view
+  -- the end of an inlined value
   pub inlined_end : (at x y : ℕ) (v : List ℕ) → AreBytes value → AreBytes literal → IsViewOf value v
       → view_len v ≤ 12 → length literal ≤ length value → at ≡ length value - length literal
       → x ≡ from_le_bytes w128 v / 2 ^ 32 / 256 ^ at

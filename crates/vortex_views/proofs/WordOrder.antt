@@ -107,7 +107,7 @@ tail_by_size xs ys h k (inr (inl s)) e differ =
 tail_by_size xs ys h k (inr (inr s)) e differ =
     decided _ _ _ differ (decided_by _ _ _ e (long_order xs ys h k s.0 s.1))
 
--- after equal first words different second ones decide
+-- after equal first words, different second words decide
 pub different_tails : (xs ys : List ℕ) → AreBytes xs → AreBytes ys
     → order_prefix_word xs ≡ order_prefix_word ys
     → (order_tail_word xs ≡ order_tail_word ys → ⊥)
@@ -118,7 +118,7 @@ different_tails xs ys h k e differ =
     (cmp_equal (order_prefix_word xs) (order_prefix_word ys) e)
     (cmp_differ (order_tail_word xs) (order_tail_word ys) differ)
 
--- after equal words the lengths decide of a short value
+-- after equal words of a short value, the lengths decide
 pub short_lengths : (xs ys : List ℕ) → AreBytes xs → AreBytes ys
     → order_prefix_word xs ≡ order_prefix_word ys → order_tail_word xs ≡ order_tail_word ys
     → (length xs ≤ 12) ⊎ (length ys ≤ 12) → compare_bytes xs ys ≡ nat_cmp (length xs) (length ys)
@@ -128,7 +128,7 @@ short_lengths xs ys h k e f s =
     (decided_by (nat_cmp (order_prefix_word xs) (order_prefix_word ys)) _ _
     (cmp_equal (order_prefix_word xs) (order_prefix_word ys) e) (short_order xs ys h k s))
 
--- equal words of longer values are of equal bytes
+-- equal words of longer values come from equal bytes
 pub long_starts : (xs ys : List ℕ) → AreBytes xs → AreBytes ys
     → order_prefix_word xs ≡ order_prefix_word ys → order_tail_word xs ≡ order_tail_word ys
     → 12 ≤ length xs → 12 ≤ length ys → take 12 xs ≡ take 12 ys
@@ -137,7 +137,7 @@ long_starts xs ys h k e f p q =
     (twelve_digits xs ∙ ap (λ z. z * 256 ^ 8 + order_tail_word xs) e
     ∙ ap (λ z. order_prefix_word ys * 256 ^ 8 + z) f ∙ sym (twelve_digits ys))
 
--- equal lengths and words of short values are of equal values
+-- short values with equal lengths and words are equal
 pub short_equal : (xs ys : List ℕ) → AreBytes xs → AreBytes ys → length xs ≡ length ys
     → length xs ≤ 12
     → order_prefix_word xs ≡ order_prefix_word ys → order_tail_word xs ≡ order_tail_word ys

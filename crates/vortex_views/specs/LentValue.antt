@@ -1,4 +1,4 @@
--- The value of a view that is borrowed with its buffers, and of a constant with its words.
+-- The value of a borrowed view, and of a constant with its words.
 use Rattle.std.specs.Prelude.{ℕ, List, map}
 use Rattle.vortex_views.specs.declared.ordered.Row.{Row}
 use Rattle.vortex_views.specs.declared.ordered.ConstantBytes.{ConstantBytes}

@@ -1,4 +1,4 @@
--- Views that are borrowed with their buffers, and their values.
+-- Borrowed views with their buffers, and their values.
 use Rattle.std.specs.Prelude.{ℕ, List, map}
 use Rattle.vortex_views.specs.declared.view.BinaryView.{BinaryView}
 use Rattle.vortex_views.specs.declared.resolved.ResolvedViews.{ResolvedViews}

@@ -1,4 +1,4 @@
--- The places that are named, whatever form names them.
+-- The places that are named, in whichever form.
 use Rattle.std.specs.Prelude.{ℕ, List}
 use Rattle.vortex_views.specs.declared.places.Places.{Places}
 use Rattle.vortex_views.specs.declared.places.Places.TheVariants.{Codes, Indices}

@@ -1,4 +1,4 @@
--- What views stand for among buffers, and what a view says of its value.
+-- What views refer to among buffers, and what a view contains of its value.
 use Rattle.std.specs.Prelude.{◌≡◌, ℕ, ◌+◌, ◌<◌, ◌≤◌, cond, nat_le, List, [], length, map, take}
 use Rattle.std.specs.Prelude.{drop}
 use Rattle.std.specs.Prelude.{slice_index_or}
@@ -6,7 +6,7 @@ use Rattle.vortex_views.specs.declared.view.BinaryView.{BinaryView}
 use Rattle.vortex_views.specs.ViewBytes.{view_bytes, view_len, view_buffer, view_offset}
 use Rattle.vortex_views.specs.ViewBytes.{inlined_view, inlined_value}
 
--- the bytes that a long view names
+-- the bytes that a long view refers to
 abbrev pub long_value : List (List ℕ) → List ℕ → List ℕ
 long_value buffers view =
     take (view_len view) (drop (view_offset view) (slice_index_or buffers (view_buffer view) []))
@@ -16,17 +16,17 @@ abbrev pub value_in : List (List ℕ) → List ℕ → List ℕ
 value_in buffers view =
     cond (nat_le (view_len view) 12) (inlined_value view) (long_value buffers view)
 
--- the bytes are in the buffer, and the view tells the first four of them
+-- the bytes are in the buffer, and the view has their first four
 pub record LiesInBuffer (buffer : List ℕ) (view : List ℕ) : Type 0 where
   pub within : view_offset view + view_len view ≤ length buffer
   pub start : take 4 (drop 4 view) ≡ take 4 (drop (view_offset view) buffer)
 
--- the buffer is there, and the bytes are in it
+-- the buffer exists, and the bytes are in it
 pub record LiesIn (buffers : List (List ℕ)) (view : List ℕ) : Type 0 where
   pub there : view_buffer view < length buffers
   pub lies : LiesInBuffer (slice_index_or buffers (view_buffer view) []) view
 
--- a short value is padded with zeros, a longer one lies in a buffer
+-- a short value is padded with zeros, a longer one is in a buffer
 pub record IsViewIn (buffers : List (List ℕ)) (view : List ℕ) : Type 0 where
   pub inlined : view_len view ≤ 12 → view ≡ inlined_view (inlined_value view)
   pub long : 12 < view_len view → LiesIn buffers view
@@ -39,7 +39,7 @@ AreViewsIn buffers views = (i : ℕ) → i < length views
 abbrev pub values_in : List (List ℕ) → List BinaryView → List (List ℕ)
 values_in buffers views = map (λ v. value_in buffers (view_bytes v)) views
 
--- a view tells a short value, and a longer one's length and first four bytes
+-- a view determines a short value, and a longer one's length and first four bytes
 pub record IsViewOf (value : List ℕ) (view : List ℕ) : Type 0 where
   pub len : view_len view ≡ length value
   pub inlined : length value ≤ 12 → view ≡ inlined_view value

@@ -6,7 +6,7 @@ use Rattle.std.specs.Ordering.{nat_cmp}
 use Rattle.std.specs.declared.cmp.Ordering.{Ordering}
 use Rattle.vortex_views.specs.ViewBytes.{padded}
 
--- by the first byte that differs; a beginning is below what continues it
+-- by the first different byte; a prefix is below what continues it
 abbrev pub compare_bytes : List ℕ → List ℕ → Ordering
 compare_bytes a b = slice_cmp nat_cmp a b
 
@@ -14,10 +14,10 @@ compare_bytes a b = slice_cmp nat_cmp a b
 abbrev pub head_word : List ℕ → ℕ
 head_word value = from_le_bytes w64 (to_le_bytes w32 (length value) ++ padded 4 value)
 
--- the first four bytes, the first of them the highest
+-- the first four bytes, big-endian
 abbrev pub order_prefix_word : List ℕ → ℕ
 order_prefix_word value = from_be_bytes w32 (padded 4 value)
 
--- the next eight bytes, likewise
+-- the next eight bytes, big-endian
 abbrev pub order_tail_word : List ℕ → ℕ
 order_tail_word value = from_be_bytes w64 (padded 8 (drop 4 value))

@@ -1,5 +1,4 @@
--- The 16 bytes of a view (Arrow's layout): how they are made of a value, and what is read from
--- them.
+-- The 16 bytes of a view (Arrow's layout): how they are made from a value, and how they are read.
 use Rattle.std.specs.Prelude.{ℕ, ◌≤◌, List, ◌++◌, length, map, slice_index, take, drop}
 use Rattle.std.specs.List.{range_with_len}
 use Rattle.std.specs.Int.{w32, to_le_bytes, from_le_bytes}
@@ -8,16 +7,15 @@ use Rattle.vortex_views.specs.declared.view.BinaryView.{BinaryView}
 abbrev pub view_bytes : BinaryView → List ℕ
 view_bytes v = v.bytes
 
--- the first n bytes, zero where there is none
+-- the first n bytes, padded with zeros
 abbrev pub padded : ℕ → List ℕ → List ℕ
 padded n value = map (λ i. slice_index value i) (range_with_len 0 n)
 
--- the length, then the value itself where it has at most 12 bytes
+-- the length, then the value itself if it has at most 12 bytes
 abbrev pub inlined_view : List ℕ → List ℕ
 inlined_view value = to_le_bytes w32 (length value) ++ padded 12 value
 
--- the length, then the first four bytes of what begins a longer value, its buffer's number and its
--- offset there
+-- the length, then the first four bytes of a longer value, its buffer's number and its offset there
 abbrev pub long_view : ℕ → List ℕ → ℕ → ℕ → List ℕ
 long_view len start buffer offset =
     to_le_bytes w32 len ++ padded 4 start ++ to_le_bytes w32 buffer ++ to_le_bytes w32 offset
@@ -29,7 +27,7 @@ view_len view = from_le_bytes w32 view
 abbrev pub IsInlined : List ℕ → Type 0
 IsInlined view = view_len view ≤ 12
 
--- the bytes of a value that lies in the view
+-- the bytes of an inlined value
 abbrev pub inlined_value : List ℕ → List ℕ
 inlined_value view = take (view_len view) (drop 4 view)
 

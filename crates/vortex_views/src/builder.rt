@@ -1,4 +1,4 @@
-//! Views that are made value by value, with the buffers that longer values lie in.
+//! Views made value by value, with the buffers that store longer values.
 ghost use Rattle.std.specs.Prelude.{◌≡◌, ◌<◌, ◌≤◌, ◌+◌, length, IfOk, OnErr};
 ghost use Rattle.vortex_errors.specs.Answers.{AnswersUnlessMemory, AnswersWhere};
 ghost use Rattle.vortex_errors.specs.declared.error.VortexError.TheVariants.{InvalidColumn};
@@ -14,20 +14,20 @@ use std::marker::Model;
 use std::mem;
 use vortex_errors::{VortexError, VortexResult};
 
-/// The most bytes of a value, and of a buffer that values are placed in.
+/// The greatest size of a value, and of a buffer that values are stored in.
 const MOST_BYTES: usize = BinaryView::MAX_SIZE;
 
 /// The most buffers.
 const MOST_BUFFERS: usize = 4294967296;
 
-/// Buffers that are full, and the one that still grows.
+/// The full buffers, and the one that still grows.
 #[derive(Drop)]
 struct Buffers {
     full: Vec<Vec<u8>>,
     last: Vec<u8>,
 }
 
-/// The view of a longer value that lies in this buffer from byte `offset` on.
+/// The view of a longer value that is in this buffer from byte `offset` on.
 fn long_view(value: &[u8], buffer: usize, offset: usize) -> BinaryView
     requires long { 12 < length value.now }
     requires most { length value.now ≤ 4294967295 }
@@ -44,7 +44,7 @@ fn long_view(value: &[u8], buffer: usize, offset: usize) -> BinaryView
 }
 
 impl Buffers {
-    /// Puts a value behind the last buffer's bytes.
+    /// Appends a value to the last buffer.
     fn append(&mut self, value: &[u8]) -> VortexResult<BinaryView>
         requires long { 12 < length value.now }
         requires most { length value.now ≤ 4294967295 }
@@ -75,7 +75,7 @@ impl Buffers {
         Ok(long_view(value, number + 1, 0))
     }
 
-    /// Puts a value behind what there is. E12 exactly where that would take too many buffers.
+    /// Stores a value. E12 exactly where that would take too many buffers.
     fn place(&mut self, value: &[u8]) -> VortexResult<BinaryView>
         requires long { 12 < length value.now }
         requires most { length value.now ≤ 4294967295 }
@@ -95,7 +95,7 @@ impl Buffers {
         self.begin(value)
     }
 
-    /// The view of a value, which is placed where it does not lie in its view.
+    /// The view of a value, which is stored in a buffer unless it is inlined.
     fn put(&mut self, value: &[u8]) -> VortexResult<BinaryView>
         requires most { length value.now ≤ 4294967295 }
         requires range { AreInRange (filled self.old) }
@@ -112,7 +112,7 @@ impl Buffers {
     }
 }
 
-/// Views that are made one by one: longer values are placed in buffers, one behind another.
+/// Views made one by one: longer values are stored in buffers, one after another.
 #[derive(Drop)]
 pub struct ViewsBuilder {
     views: Vec<BinaryView>,
@@ -134,7 +134,7 @@ impl ViewsBuilder {
     ghost use Rattle.std.specs.Prelude.{◌++◌, ◌∷◌, []};
     ghost use Rattle.vortex_views.specs.Built.{HasRoomFor};
 
-    /// No value yet. Takes no memory.
+    /// No value yet. Allocates nothing.
     pub fn new(alloc: Global) -> ViewsBuilder
         ensures { result ≡ [] }
     {
@@ -148,8 +148,8 @@ impl ViewsBuilder {
     }
 
     /// Adds a value. E12 exactly where it is longer than 4,294,967,295 bytes, or more than
-    /// 4,294,967,296 buffers of so many bytes would be needed; a builder that refuses stays as it
-    /// was.
+    /// 4,294,967,296 buffers of that many bytes would be needed; an error leaves the builder
+    /// unchanged.
     pub fn push(&mut self, value: &[u8]) -> VortexResult<()>
         ensures answer { AnswersWhere result
             (HasRoomFor self.old value.now)

@@ -7,7 +7,7 @@ ghost use Rattle.vortex_views.specs.ValueWords.{compare_bytes};
 use crate::words::eight_at;
 use std::cmp::Ordering;
 
-/// The eight bytes from byte `at` on, the first of them the highest.
+/// The eight bytes from byte `at` on, big-endian.
 #[inline(always)]
 pub(crate) fn order_word(bytes: &[u8], at: usize) -> u64
     requires { at + 8 ≤ length bytes.now }
@@ -16,8 +16,8 @@ pub(crate) fn order_word(bytes: &[u8], at: usize) -> u64
     u64::from_be_bytes(eight_at(bytes, at))
 }
 
-/// Whether two byte strings of one length, at least eight, that begin alike are equal: by words,
-/// the last eight bytes once more in place of a rest.
+/// Whether two byte strings of one length, at least eight, are equal, given that their first
+/// `start` bytes are: by words; the last eight bytes are compared again instead of a remainder.
 pub(crate) fn equal_after(a: &[u8], b: &[u8], start: usize) -> bool
     requires lengths { length a.now ≡ length b.now }
     requires room { 8 ≤ length a.now }
@@ -40,7 +40,7 @@ pub(crate) fn equal_after(a: &[u8], b: &[u8], start: usize) -> bool
     last_left == last_right
 }
 
-/// The order of two byte strings of at least eight bytes that begin alike, likewise.
+/// The order of two byte strings of at least eight bytes whose first `start` bytes are equal.
 pub(crate) fn compare_after(a: &[u8], b: &[u8], start: usize) -> Ordering
     requires a_room { 8 ≤ length a.now }
     requires b_room { 8 ≤ length b.now }

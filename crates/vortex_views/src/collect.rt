@@ -1,4 +1,4 @@
-//! Views of texts and byte strings that lie each on their own.
+//! Views of separate texts and byte strings.
 ghost use Rattle.std.specs.Prelude.{◌≡◌, List, ℕ, map, string_bytes};
 ghost use Rattle.vortex_errors.specs.Answers.{AnswersWhere};
 ghost use Rattle.vortex_errors.specs.declared.error.VortexError.TheVariants.{InvalidColumn};
@@ -9,11 +9,11 @@ use crate::values::BinaryViews;
 use std::alloc::Global;
 use vortex_errors::VortexResult;
 
-/// A text or a byte string, which lends its bytes.
+/// A text or a byte string that can be borrowed as bytes.
 pub trait ByteString: Drop {
     ghost bytes: { Self → List ℕ };
 
-    /// The bytes, where they lie.
+    /// The bytes, borrowed.
     fn lend_bytes(&self) -> &[u8]
         ensures { result.now ≡ bytes self.now };
 }
@@ -43,7 +43,7 @@ impl ByteString for Vec<u8> {
 }
 
 /// The views of values. E12 exactly where a value is longer than 4,294,967,295 bytes, or the longer
-/// ones take more than 4,294,967,296 buffers of so many bytes.
+/// ones take more than 4,294,967,296 buffers of that many bytes.
 pub fn collect_views<T: ByteString>(alloc: Global, values: &[T]) -> VortexResult<BinaryViews>
     ensures { AnswersWhere result
         (HaveRoom (map T.bytes values.now))

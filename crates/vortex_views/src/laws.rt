@@ -1,4 +1,4 @@
-//! What the words of values and of views say. These functions do nothing: their contracts are
+//! Laws of the words of values and of views. The functions are empty: their contracts are the laws,
 //! proved.
 ghost use Rattle.std.specs.Prelude.{◌≡◌, ◌≢◌, ◌≤◌, ◌<◌, ◌⊎◌, ◌↔◌, ℕ, length, take, drop};
 ghost use Rattle.std.specs.Prelude.{slice_index};
@@ -13,7 +13,7 @@ ghost use Rattle.vortex_views.specs.declared.view.BinaryView.{BinaryView};
 use crate::view::BinaryView;
 
 /// Where one of two values has at most twelve bytes, their first four bytes order them, then their
-/// next eight, then their lengths: a beginning is below what continues it.
+/// next eight, then their lengths; a prefix is below what continues it.
 pub fn order_words_then_lengths_order_values(a: &[u8], b: &[u8])
     requires { (length a.now ≤ 12) ⊎ (length b.now ≤ 12) }
     ensures { compare_bytes a.now b.now
@@ -23,7 +23,7 @@ pub fn order_words_then_lengths_order_values(a: &[u8], b: &[u8])
 {}
 
 /// Two values of at least twelve bytes are ordered by their first four bytes, then by their next
-/// eight, then by what follows these.
+/// eight, then by the bytes after these.
 pub fn order_words_then_rests_order_long_values(a: &[u8], b: &[u8])
     requires a_long { 12 ≤ length a.now }
     requires b_long { 12 ≤ length b.now }
@@ -40,7 +40,7 @@ pub fn different_order_prefixes_order_values(a: &[u8], b: &[u8])
         ≡ nat_cmp (order_prefix_word a.now) (order_prefix_word b.now) }
 {}
 
-/// Equal heads say equal lengths and equal first four bytes.
+/// Equal heads mean equal lengths and equal first four bytes.
 pub fn equal_heads_say_equal_lengths_and_starts(a: &[u8], b: &[u8])
     requires a_len { length a.now ≤ 4294967295 }
     requires b_len { length b.now ≤ 4294967295 }
@@ -81,7 +81,7 @@ pub fn inlined_views_have_the_words_of_their_values(value: &[u8])
         ≡ order_tail_word value.now }
 {}
 
-/// The view of a longer value has the value's words, and says where it lies.
+/// The view of a longer value has the value's words, and its position.
 pub fn long_views_have_the_words_of_their_values(value: &[u8], buffer: u32, offset: u32)
     requires { length value.now ≤ 4294967295 }
     ensures len { view_len (long_view (length value.now) value.now buffer offset)
@@ -132,7 +132,7 @@ pub fn words_order_values(a: &[u8], b: &[u8])
         → 12 ≤ length a.now → 12 ≤ length b.now → take 12 a.now ≡ take 12 b.now }
 {}
 
-/// How the words of two values tell that they are equal, or begin alike.
+/// How the words of two values show that they are equal, or begin alike.
 pub fn words_tell_equal_values(a: &[u8], b: &[u8])
     ensures short { length a.now ≡ length b.now → length a.now ≤ 12
         → order_prefix_word a.now ≡ order_prefix_word b.now

@@ -1,5 +1,5 @@
-//! Tests of values against one byte string, whose words are made once: the words of a value's view
-//! decide first, and its buffer is read only where they do not.
+//! Tests of values against one byte string, whose words are precomputed. The words of a value's
+//! view decide first; its buffer is read only where they do not.
 ghost use Rattle.std.specs.Prelude.{◌≡◌, ◌≤◌, ◌<◌, ◌-◌, ◌/◌, ◌^◌, ◌↔◌, ℕ, List, Bool, IsTrue};
 ghost use Rattle.std.specs.Prelude.{length, slice_index, take, drop, nat_eq};
 ghost use Rattle.std.specs.Int.{w128, from_le_bytes};
@@ -16,12 +16,12 @@ use crate::resolved::is_same_view;
 use crate::view::BinaryView;
 use crate::words::{first_four, next_eight};
 
-/// A test of values, each where it lies.
+/// A test of values, each in place.
 pub trait ValueTest {
-    /// The values that it may read.
+    /// The values that the test may read.
     ghost can_read: { Self → List ℕ → Type 0 };
 
-    /// What it says of them.
+    /// The result for a value.
     ghost said: { Self → List ℕ → Bool };
 
     fn passes(&self, row: &Row<'_>) -> bool
@@ -29,7 +29,7 @@ pub trait ValueTest {
         ensures { result ≡ said self.now (row_value row.now) };
 }
 
-/// Whether a value is this one, of at most twelve bytes: by the two words of its view.
+/// Equality with a literal of at most twelve bytes: by the two words of the view.
 #[derive(Clone, Copy)]
 pub struct ShortWhole<'a> {
     literal: &'a [u8],
@@ -61,8 +61,8 @@ impl ValueTest for ShortWhole<'_> {
     }
 }
 
-/// Whether a value is this one, of more bytes: by the length and the first four bytes, which are
-/// one word, then by the bytes.
+/// Equality with a longer literal: by the length and the first four bytes, which are one word, then
+/// by the bytes.
 #[derive(Clone, Copy)]
 pub struct LongWhole<'a> {
     literal: &'a [u8],
@@ -104,7 +104,7 @@ impl ValueTest for LongWhole<'_> {
     }
 }
 
-/// The first so many of four bytes, as a number.
+/// The first `len` of four bytes, as a number.
 #[inline(always)]
 fn first_of_four(word: u32, len: usize) -> u64
     requires { len ≤ 4 }
@@ -113,7 +113,7 @@ fn first_of_four(word: u32, len: usize) -> u64
     u64::from(word) >> (32 - 8 * len)
 }
 
-/// The first so many of eight bytes, at least one, as a number.
+/// The first `len` of eight bytes, at least one, as a number.
 #[inline(always)]
 fn first_of_eight(word: u64, len: usize) -> u64
     requires some { 0 < len }
@@ -185,8 +185,8 @@ impl<'a> LongFront<'a> {
     }
 }
 
-/// Whether a value as long as the literal or longer, that begins with its first four bytes, begins
-/// with all of it.
+/// Whether a value begins with the literal, given that it is at least as long and has the same
+/// first four bytes.
 #[inline]
 fn begins_after(value: &[u8], literal: &[u8]) -> bool
     requires within { length literal.now ≤ length value.now }
@@ -221,8 +221,7 @@ impl ValueTest for LongFront<'_> {
     }
 }
 
-/// The bytes of a value that lies in its view from byte `at` on, as a number, the first of them the
-/// lowest.
+/// The bytes of an inlined value from byte `at` on, as a little-endian number.
 #[inline(always)]
 fn inlined_from(view: &BinaryView, at: usize) -> u128
     requires { at ≤ 12 }
@@ -242,8 +241,8 @@ fn short_number(literal: &[u8]) -> u128
     inlined_from(&BinaryView::new_inlined(literal), 0)
 }
 
-/// Whether a value ends with these bytes: by its length, then by the words of its view where it
-/// lies there, else by its last bytes.
+/// Whether a value ends with these bytes: by its length, then by the words of its view where it is
+/// inlined, else by its last bytes.
 #[derive(Clone, Copy)]
 pub struct WholeEnd<'a> {
     literal: &'a [u8],

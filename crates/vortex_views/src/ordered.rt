@@ -1,4 +1,4 @@
-//! Values compared by their words, and by their bytes where words do not tell.
+//! Values compared by their words, and by their bytes where words do not decide.
 ghost use Rattle.std.specs.Prelude.{◌≡◌, ◌≤◌, ◌↔◌, ℕ, List, IsTrue, length, map};
 ghost use Rattle.vortex_views.specs.ViewBytes.{view_bytes};
 ghost use Rattle.vortex_views.specs.Resolved.{IsViewIn, IsViewOf};
@@ -19,7 +19,7 @@ pub trait WordsOfBytes {
     fn value_len(&self) -> usize
         ensures { result ≡ length (value self.now) };
 
-    /// The first four bytes, zero padded, the first of them the highest.
+    /// The first four bytes, zero padded, big-endian.
     fn order_prefix(&self) -> u32
         ensures { result ≡ order_prefix_word (value self.now) };
 
@@ -27,12 +27,12 @@ pub trait WordsOfBytes {
     fn order_tail(&self) -> u64
         ensures { result ≡ order_tail_word (value self.now) };
 
-    /// The bytes, where they lie.
+    /// The bytes, borrowed.
     fn value_bytes(&self) -> &[u8]
         ensures { result.now ≡ value self.now };
 }
 
-/// One value of a list of views, where it lies.
+/// One value of a list of views, in place.
 #[derive(Clone, Copy)]
 pub struct Row<'a> {
     view: &'a BinaryView,
@@ -40,7 +40,7 @@ pub struct Row<'a> {
     ghost fit: { IsViewIn (map (λ b. b.items) buffers.now) (view_bytes view.now) },
 }
 
-/// A byte string whose words are made once.
+/// A byte string whose words are precomputed.
 #[derive(Clone, Copy)]
 pub struct ConstantBytes<'a> {
     bytes: &'a [u8],
@@ -153,8 +153,8 @@ impl<'a> WordsOfBytes for Row<'a> {
     }
 }
 
-/// The order of two byte strings: by their first four bytes; then, where both have more than
-/// twelve, by words of eight bytes, else by the next eight, then by lengths.
+/// The order of two byte strings: by their first four bytes; then, if both have more than twelve,
+/// by words of eight bytes, else by the next eight, then by lengths.
 #[inline]
 pub fn compare<A: WordsOfBytes, B: WordsOfBytes>(a: &A, b: &B) -> Ordering
     ensures { result ≡ compare_bytes (A.value a.now) (B.value b.now) }
@@ -180,7 +180,7 @@ pub fn compare<A: WordsOfBytes, B: WordsOfBytes>(a: &A, b: &B) -> Ordering
 }
 
 /// Whether two byte strings are equal: by their lengths and first four bytes, then by their next
-/// eight where they have no more than twelve, else by words of eight bytes.
+/// eight if they have no more than twelve, else by words of eight bytes.
 #[inline]
 pub fn equal<A: WordsOfBytes, B: WordsOfBytes>(a: &A, b: &B) -> bool
     ensures { IsTrue result ↔ (A.value a.now ≡ B.value b.now) }

@@ -1,10 +1,10 @@
-//! Places in a list, and the one loop that gathers what lies there.
+//! Indices into a list, and the one loop that gathers items.
 ghost use Rattle.std.specs.Prelude.{◌≡◌, ◌<◌, ℕ, All, IfOk, length, map, slice_index_or};
 ghost use Rattle.vortex_views.specs.Places.{places_of};
 
 use std::alloc::{AllocError, Global};
 
-/// A number that names a place in a list.
+/// A number that is an index into a list.
 pub trait Place: Copy + Drop {
     ghost number: { Self → ℕ };
 
@@ -28,8 +28,7 @@ impl Place for usize {
     }
 }
 
-/// Places in a list, in any order, each as often as it is named: as a caller's codes, or as places
-/// of any size.
+/// Indices into a list, in any order, repeats allowed: a caller's codes, or indices of any size.
 #[derive(Clone, Copy)]
 pub enum Places<'a> {
     Codes(&'a [u32]),
@@ -37,7 +36,7 @@ pub enum Places<'a> {
 }
 
 impl Places<'_> {
-    /// How many places are named.
+    /// How many indices there are.
     pub fn len(&self) -> usize
         ensures { result ≡ length (places_of self.now) }
     {
@@ -48,7 +47,7 @@ impl Places<'_> {
     }
 }
 
-/// The items at these places, in their order. Memory is taken once.
+/// The items at these indices, in their order. Allocates once.
 fn gather_at<T: Copy + Drop, P: Place>(
     alloc: Global,
     items: &[T],
@@ -65,7 +64,7 @@ fn gather_at<T: Copy + Drop, P: Place>(
     Ok(taken)
 }
 
-/// The items at these places, in their order. Memory is taken once.
+/// The items at these indices, in their order. Allocates once.
 pub fn gather<T: Copy + Drop>(
     alloc: Global,
     items: &[T],

@@ -1,4 +1,4 @@
-//! Views and the buffers that their long values lie in, borrowed together.
+//! Views and the buffers of their long values, borrowed together.
 ghost use Rattle.std.specs.Prelude.{◌≡◌, ◌<◌, ◌≤◌, ◌+◌, ◌↔◌, [], IsTrue, length, map};
 ghost use Rattle.std.specs.Prelude.{slice_index_or};
 ghost use Rattle.std.specs.Prelude.{take, drop};
@@ -12,7 +12,7 @@ use crate::ordered::Row;
 use crate::view::BinaryView;
 use crate::words::same_four;
 
-/// The values of a list of views, each where it lies. Takes no memory.
+/// The values of a list of views, in place. Allocates nothing.
 #[derive(Clone, Copy)]
 pub struct ResolvedViews<'a> {
     views: &'a [BinaryView],
@@ -24,7 +24,7 @@ impl<'a> ResolvedViews<'a> {
     ghost use Rattle.vortex_views.specs.LentValues.{lent_values, lent_views, lent_buffers};
     ghost use Rattle.vortex_views.specs.LentValue.{row_value};
 
-    /// These views over these buffers, in which each of them lies.
+    /// These views over the buffers that they refer to.
     pub fn new(views: &'a [BinaryView], buffers: &'a [Vec<u8>]) -> ResolvedViews<'a>
         requires { AreViewsIn (map (λ b. b.items) buffers.now) views.now }
         ensures values { lent_values result
@@ -43,8 +43,8 @@ impl<'a> ResolvedViews<'a> {
         self.views.len()
     }
 
-    /// The view of value `i`, byte for byte as it was borrowed: a longer value's with the number of its
-    /// buffer and its offset there.
+    /// The view of value `i`, unchanged: a longer value's with the number of its buffer and its
+    /// offset there.
     #[inline(always)]
     pub fn view(&self, i: usize) -> &'a BinaryView
         requires { i < length (lent_values self.now) }
@@ -66,7 +66,7 @@ impl<'a> ResolvedViews<'a> {
         Row::new(view_at(self.views, i), self.buffers)
     }
 
-    /// The bytes of value `i`, where they lie: in its view or in a buffer.
+    /// The bytes of value `i`, borrowed from its view or from a buffer.
     #[inline]
     pub fn bytes(&self, i: usize) -> &'a [u8]
         requires { i < length (lent_values self.now) }
@@ -85,7 +85,7 @@ fn view_at<'a>(views: &'a [BinaryView], i: usize) -> &'a BinaryView
     &views[i]
 }
 
-/// So many bytes from byte `at` on.
+/// The `len` bytes from byte `at` on.
 #[inline(always)]
 fn part(buffer: &[u8], at: usize, len: usize) -> &[u8]
     requires { at + len ≤ length buffer.now }
@@ -103,7 +103,7 @@ fn buffer_at<'a>(buffers: &'a [Vec<u8>], k: usize) -> &'a [u8]
     buffers[k].as_slice()
 }
 
-/// The bytes that a long view names.
+/// The bytes that a long view refers to.
 #[inline(always)]
 fn long_value<'a>(view: &BinaryView, buffers: &'a [Vec<u8>]) -> &'a [u8]
     requires { LiesIn (map (λ b. b.items) buffers.now) (view_bytes view.now) }
@@ -148,7 +148,7 @@ fn is_padded(view: &BinaryView) -> bool
     is_same_view(view, &padded)
 }
 
-/// Whether the bytes of a long view lie in this buffer, and begin as the view says.
+/// Whether the bytes of a long view are in this buffer, and begin as in the view.
 fn lies_in_buffer(view: &BinaryView, buffer: &[u8]) -> bool
     requires { 12 < view_len (view_bytes view.now) }
     ensures { IsTrue result ↔ LiesInBuffer buffer.now (view_bytes view.now) }
@@ -161,7 +161,7 @@ fn lies_in_buffer(view: &BinaryView, buffer: &[u8]) -> bool
     same_four(view.as_bytes(), 4, buffer, at)
 }
 
-/// Whether a long view lies among buffers.
+/// Whether a long view refers to bytes in the buffers.
 fn lies_in(view: &BinaryView, buffers: &[Vec<u8>]) -> bool
     requires { 12 < view_len (view_bytes view.now) }
     ensures { IsTrue result ↔ LiesIn (map (λ b. b.items) buffers.now) (view_bytes view.now) }
@@ -173,7 +173,7 @@ fn lies_in(view: &BinaryView, buffers: &[Vec<u8>]) -> bool
     lies_in_buffer(view, buffer_at(buffers, number))
 }
 
-/// Whether a view lies among buffers.
+/// Whether a view is valid for the buffers.
 pub fn fits(view: &BinaryView, buffers: &[Vec<u8>]) -> bool
     ensures { IsTrue result ↔ IsViewIn (map (λ b. b.items) buffers.now) (view_bytes view.now) }
 {
@@ -184,7 +184,7 @@ pub fn fits(view: &BinaryView, buffers: &[Vec<u8>]) -> bool
     }
 }
 
-/// Whether each view lies among the buffers. Takes no memory.
+/// Whether each view is valid for the buffers. Allocates nothing.
 pub fn check_views(views: &[BinaryView], buffers: &[Vec<u8>]) -> bool
     ensures { IsTrue result ↔ AreViewsIn (map (λ b. b.items) buffers.now) views.now }
 {

@@ -1,4 +1,4 @@
-//! Values kept as views, with the buffers that longer ones lie in.
+//! Values stored as views, with the buffers of the longer ones.
 ghost use Rattle.std.specs.Prelude.{◌≡◌, ◌<◌, All, IfOk, [], length, map, slice_index_or};
 ghost use Rattle.vortex_errors.specs.Answers.{MadeWhere};
 ghost use Rattle.vortex_errors.specs.declared.error.VortexError.TheVariants.{InvalidColumn};
@@ -13,8 +13,8 @@ use std::alloc::{AllocError, Global};
 use std::marker::Model;
 use vortex_errors::{VortexError, VortexResult};
 
-/// A list of byte strings: a view of 16 bytes for each, and the buffers that the longer ones lie
-/// in, where they may share bytes and overlap.
+/// A list of byte strings: a view of 16 bytes for each, and the buffers of the longer ones, which
+/// may share bytes and overlap.
 #[derive(Drop)]
 pub struct BinaryViews {
     views: Vec<BinaryView>,
@@ -33,10 +33,10 @@ impl Model for BinaryViews {
 }
 
 impl BinaryViews {
-    /// These views over these buffers, which are taken over as they are. Takes no memory.
+    /// These views over these buffers, unchanged. Allocates nothing.
     ///
-    /// E12 exactly where a view names bytes that no buffer has, tells another beginning than its
-    /// value's, or is not padded with zeros.
+    /// E12 exactly where a view refers to bytes that no buffer has, has other first bytes than its
+    /// value, or is not padded with zeros.
     pub fn try_new(views: Vec<BinaryView>, buffers: Vec<Vec<u8>>) -> VortexResult<BinaryViews>
         ensures { MadeWhere result
             (AreViewsIn (map (λ b. b.items) buffers.items) views.items)
@@ -50,7 +50,7 @@ impl BinaryViews {
         }
     }
 
-    /// The same of views that are known to lie among the buffers.
+    /// The same for views that are known to be valid.
     pub(crate) fn of_parts(views: Vec<BinaryView>, buffers: Vec<Vec<u8>>) -> BinaryViews
         requires { AreViewsIn (map (λ b. b.items) buffers.items) views.items }
         ensures { result ≡ values_in (map (λ b. b.items) buffers.items) views.items }
@@ -65,14 +65,14 @@ impl BinaryViews {
         self.views.len()
     }
 
-    /// The values, each where it lies. Takes no memory.
+    /// The values, in place. Allocates nothing.
     pub fn resolved(&self) -> ResolvedViews<'_>
         ensures { lent_values result ≡ self.now }
     {
         ResolvedViews::new(self.views.as_slice(), self.buffers.as_slice())
     }
 
-    /// The values at these places, in their order: their views, over a copy of all buffers.
+    /// The values at these indices, in their order: their views, over a copy of all buffers.
     pub fn gather(&self, alloc: Global, places: &Places<'_>) -> Result<BinaryViews, AllocError>
         requires { All (λ i. i < length self.now) (places_of places.now) }
         ensures { IfOk result
@@ -96,7 +96,7 @@ fn copy_buffers(buffers: &Vec<Vec<u8>>) -> Result<Vec<Vec<u8>>, AllocError>
     Ok(copies)
 }
 
-/// The same values; views and buffers are copied as they are.
+/// The same values; views and buffers are copied unchanged.
 impl Clone for BinaryViews {
     ghost is_clone = { λ values copy. copy ≡ values };
 

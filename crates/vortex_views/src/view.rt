@@ -7,7 +7,7 @@ ghost use Rattle.vortex_views.specs.ValueWords.{head_word, order_prefix_word, or
 
 use crate::words::{eight_at, first_four, four_at, next_eight};
 
-/// The 16 bytes of a view: the length of a value (four bytes, the lowest first), then a value of at
+/// The 16 bytes of a view: the length of a value (four bytes, little-endian), then a value of at
 /// most 12 bytes, zero padded; or a longer value's first four bytes, the number of its buffer and
 /// its offset there, four bytes each.
 #[derive(Clone, Copy)]
@@ -16,13 +16,13 @@ pub struct BinaryView {
 }
 
 impl BinaryView {
-    /// A value of so many bytes lies in its view.
+    /// The greatest size of an inlined value.
     pub const MAX_INLINED_SIZE: usize = 12;
 
-    /// The most bytes of a value that a view tells.
+    /// The greatest size of a value that a view can have.
     pub const MAX_SIZE: usize = 4294967295;
 
-    /// The view of a short value, which lies in it.
+    /// The view of a short value, which is inlined.
     #[inline]
     pub fn new_inlined(value: &[u8]) -> BinaryView
         requires { length value.now ≤ 12 }
@@ -36,7 +36,7 @@ impl BinaryView {
         }
     }
 
-    /// The view of a value of `len` bytes, more than 12, that begins with `prefix` and lies at
+    /// The view of a value of `len` bytes, more than 12, that begins with `prefix` and is at
     /// `offset` of a buffer.
     #[inline]
     pub fn new_long(len: u32, prefix: [u8; 4], buffer: u32, offset: u32) -> BinaryView
@@ -52,7 +52,7 @@ impl BinaryView {
         }
     }
 
-    /// These bytes, whatever they say.
+    /// A view with these bytes, unchecked.
     #[inline(always)]
     pub fn from_bytes(bytes: [u8; 16]) -> BinaryView
         ensures { view_bytes result ≡ bytes }
@@ -60,7 +60,7 @@ impl BinaryView {
         BinaryView { bytes }
     }
 
-    /// The bytes as they stand.
+    /// The bytes, unchanged.
     #[inline(always)]
     pub fn as_bytes(&self) -> &[u8]
         ensures value { result.now ≡ view_bytes self.now }
@@ -77,7 +77,7 @@ impl BinaryView {
         u32::from_le_bytes(four_at(&self.bytes, 0))
     }
 
-    /// Whether the value lies in the view.
+    /// Whether the value is inlined.
     #[inline(always)]
     pub fn is_inlined(&self) -> bool
         ensures { IsTrue result ↔ IsInlined (view_bytes self.now) }
@@ -85,7 +85,7 @@ impl BinaryView {
         self.len() <= 12
     }
 
-    /// The first eight bytes, length and prefix, the first of them the lowest.
+    /// The first eight bytes, length and prefix, little-endian.
     #[inline(always)]
     pub fn head(&self) -> u64
         ensures { result ≡ from_le_bytes w64 (view_bytes self.now) }
@@ -93,7 +93,7 @@ impl BinaryView {
         u64::from_le_bytes(eight_at(&self.bytes, 0))
     }
 
-    /// The last eight bytes, the first of them the lowest.
+    /// The last eight bytes, little-endian.
     #[inline(always)]
     pub fn rest(&self) -> u64
         ensures { result ≡ from_le_bytes w64 (drop 8 (view_bytes self.now)) }
@@ -101,7 +101,7 @@ impl BinaryView {
         u64::from_le_bytes(eight_at(&self.bytes, 8))
     }
 
-    /// Bytes 4 to 7 as they stand.
+    /// Bytes 4 to 7, unchanged.
     #[inline(always)]
     pub fn prefix(&self) -> [u8; 4]
         ensures { result ≡ take 4 (drop 4 (view_bytes self.now)) }
@@ -109,7 +109,7 @@ impl BinaryView {
         four_at(&self.bytes, 4)
     }
 
-    /// Bytes 4 to 7, the first of them the highest: those of the value, zero padded.
+    /// Bytes 4 to 7, big-endian: those of the value, zero padded.
     #[inline(always)]
     pub fn order_prefix(&self) -> u32
         ensures { result ≡ from_be_bytes w32 (drop 4 (view_bytes self.now)) }
@@ -117,8 +117,7 @@ impl BinaryView {
         u32::from_be_bytes(four_at(&self.bytes, 4))
     }
 
-    /// Bytes 8 to 15, the first of them the highest: those of a value that lies in the view, zero
-    /// padded.
+    /// Bytes 8 to 15, big-endian: those of an inlined value, zero padded.
     #[inline(always)]
     pub fn order_tail(&self) -> u64
         requires { IsInlined (view_bytes self.now) }
@@ -127,7 +126,7 @@ impl BinaryView {
         u64::from_be_bytes(eight_at(&self.bytes, 8))
     }
 
-    /// All 16 bytes, the first of them the lowest.
+    /// All 16 bytes, little-endian.
     #[inline(always)]
     pub fn as_u128(&self) -> u128
         ensures { result ≡ from_le_bytes w128 (view_bytes self.now) }
@@ -135,7 +134,7 @@ impl BinaryView {
         u128::from_le_bytes(self.bytes)
     }
 
-    /// The number of the buffer that a long value lies in.
+    /// The number of the buffer of a long value.
     #[inline(always)]
     pub fn buffer(&self) -> u32
         ensures { result ≡ view_buffer (view_bytes self.now) }
@@ -143,7 +142,7 @@ impl BinaryView {
         u32::from_le_bytes(four_at(&self.bytes, 8))
     }
 
-    /// The place of a long value's first byte in its buffer.
+    /// The offset of a long value in its buffer.
     #[inline(always)]
     pub fn offset(&self) -> u32
         ensures { result ≡ view_offset (view_bytes self.now) }
@@ -151,7 +150,7 @@ impl BinaryView {
         u32::from_le_bytes(four_at(&self.bytes, 12))
     }
 
-    /// The head of the views of a value.
+    /// The first eight bytes of a value's views.
     #[inline]
     pub fn head_of(value: &[u8]) -> u64
         requires { length value.now ≤ 4294967295 }
@@ -171,7 +170,7 @@ impl BinaryView {
         first_four(value)
     }
 
-    /// The first four bytes of a value, zero padded, the first of them the highest.
+    /// The first four bytes of a value, zero padded, big-endian.
     #[inline]
     pub fn order_prefix_of(value: &[u8]) -> u32
         requires { length value.now ≤ 4294967295 }

@@ -3,8 +3,8 @@ ghost use Rattle.std.specs.Prelude.{◌≡◌, None};
 ghost use Rattle.yurkije.specs.Views.{program_in, answers_in};
 ghost use Rattle.yurkije.specs.Answering.{Runs, AsksAnswer, Sizes, Copies, Selects};
 
-use crate::giving::{put_answer, put_size, put_true_rows, run_held};
 use crate::handle::Handle;
+use crate::running::{put_answer, put_size, put_true_rows, run_held};
 use crate::statuses::EMPTY_HANDLE;
 use std::alloc::Global;
 use yurkije_columns::{LentColumn, Room, Size, placed};

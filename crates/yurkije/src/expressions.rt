@@ -6,11 +6,11 @@ ghost use Rattle.yurkije.specs.Asking.{Asks, SameRoom, TellsFieldName, TellsFiel
 ghost use Rattle.yurkije.specs.Asking.{TellsAnswerName, TellsAnswerType, TellsAnswerText};
 ghost use Rattle.yurkije.specs.Reading.{Reads, HoldsRead};
 
-use crate::asking::{
-    answer_count, answer_name, answer_text, answer_type, field_count, field_name, field_type,
-};
 use crate::handle::Handle;
 use crate::held::Held;
+use crate::queries::{
+    answer_count, answer_name, answer_text, answer_type, field_count, field_name, field_type,
+};
 use crate::statuses::{EMPTY_HANDLE, OUT_OF_MEMORY};
 use std::alloc::Global;
 use yurkije_columns::{LentField, Type, placed, read_fields, scope_words};

@@ -3,13 +3,13 @@
 #![tactic(auto)]
 
 mod answers;
-mod asking;
 mod content;
 mod expressions;
-mod giving;
 mod handle;
 mod held;
 mod parts;
+mod queries;
+mod running;
 mod statuses;
 mod version;
 

@@ -2,7 +2,7 @@
 ghost use Rattle.std.specs.Prelude.{◌≡◌, codes};
 ghost use Rattle.yurkije.specs.Asking.{IsPut};
 
-use crate::asking::put;
+use crate::queries::put;
 
 /// The version of the interface.
 #[unsafe(no_mangle)]

@@ -1,4 +1,6 @@
 pub mod Kinds
+pub mod Checking
+pub mod Joining
 pub mod Lent
 pub mod Scopes
 pub mod Batches

@@ -1,6 +1,6 @@
 //! The columns of a batch, read over the fields of a scope.
-ghost use Rattle.std.specs.Prelude.{◌≡◌, map, MatchResult};
-ghost use Rattle.vortex_types.specs.LogicalTypes.{integer_type};
+ghost use Rattle.std.specs.Prelude.{◌≡◌, ℕ, length, map, MatchResult};
+ghost use Rattle.vortex_types.specs.LogicalTypes.{integer_type, field_count};
 ghost use Rattle.vortex_types.specs.TypeOf.{type_of, struct_fields, allows_null};
 ghost use Rattle.vortex_arrow.specs.Columns.{arrow_column};
 ghost use Rattle.yurkije_columns.specs.Batches.{type_lent, Serves, RefusesColumn, AllServe};
@@ -58,15 +58,14 @@ fn dtype_of(column: &ArrowColumn<'_>) -> DType
     }
 }
 
-/// The column of a field of that type.
-fn read_field(
-    alloc: Global,
+/// Refuses a column of another type than its field, or of another number of rows.
+pub(crate) fn check_shape(
     dtype: &DType,
     column: &ArrowColumn<'_>,
     rows: usize,
-) -> Result<Column, ColumnFault>
+) -> Result<(), ColumnFault>
     ensures { MatchResult result
-        (λ c. Serves (type_of dtype.now) rows column.now × (c ≡ arrow_column column.now))
+        (λ _. (type_lent column.now ≡ type_of dtype.now) × (column.now.length ≡ rows))
         (RefusesColumn (type_of dtype.now) rows column.now) }
 {
     if dtype_of(column) != *dtype {
@@ -77,10 +76,49 @@ fn read_field(
             rows: column.length,
         });
     }
+    Ok(())
+}
+
+/// The column of a field of that type.
+pub(crate) fn read_field(
+    alloc: Global,
+    dtype: &DType,
+    column: &ArrowColumn<'_>,
+    rows: usize,
+) -> Result<Column, ColumnFault>
+    ensures { MatchResult result
+        (λ c. Serves (type_of dtype.now) rows column.now × (c ≡ arrow_column column.now))
+        (RefusesColumn (type_of dtype.now) rows column.now) }
+{
+    check_shape(dtype, column, rows)?;
     match to_column(alloc, column) {
         Ok(column) => Ok(column),
         Err(error) => Err(ColumnFault::Unread(error)),
     }
+}
+
+/// Refuses a batch of fewer or more columns than fields.
+pub(crate) fn check_count(
+    scope: &StructFields,
+    columns: &[ArrowColumn<'_>],
+) -> Result<(), BatchError>
+    ensures { MatchResult result
+        (λ _. length columns.now ≡ field_count (struct_fields scope.now))
+        (λ e. (rows : ℕ) → RefusesBatch (struct_fields scope.now) rows columns.now e) }
+{
+    if columns.len() < scope.len() {
+        return Err(BatchError {
+            column: columns.len(),
+            fault: ColumnFault::Missing,
+        });
+    }
+    if scope.len() < columns.len() {
+        return Err(BatchError {
+            column: scope.len(),
+            fault: ColumnFault::Unasked,
+        });
+    }
+    Ok(())
 }
 
 /// The columns of a batch of so many rows, one for each field of the scope, each copied once.
@@ -97,18 +135,7 @@ pub fn read_batch(
         × (read.items ≡ map arrow_column columns.now))
         (RefusesBatch (struct_fields scope.now) rows columns.now) }
 {
-    if columns.len() < scope.len() {
-        return Err(BatchError {
-            column: columns.len(),
-            fault: ColumnFault::Missing,
-        });
-    }
-    if scope.len() < columns.len() {
-        return Err(BatchError {
-            column: scope.len(),
-            fault: ColumnFault::Unasked,
-        });
-    }
+    check_count(scope, columns)?;
     let Ok(mut read) = Vec::with_capacity(alloc, columns.len()) else {
         return Err(BatchError {
             column: 0,

@@ -3,7 +3,9 @@
 #![tactic(auto)]
 
 pub mod batch;
+pub mod checking;
 pub mod fields;
+pub mod joined;
 pub mod kinds;
 pub mod lent;
 pub mod rooms;
@@ -12,7 +14,9 @@ pub mod texts;
 mod words;
 
 pub use batch::{BatchError, ColumnFault, read_batch};
+pub use checking::{check_batch, is_flat};
 pub use fields::{LentField, ScopeError, ScopeFault, read_fields};
+pub use joined::Joined;
 pub use kinds::{Kind, Type, kind_numbered, type_told};
 pub use lent::{LentColumn, LentError, arrow_columns, placed};
 pub use rooms::{Room, RoomError, Size, copy_answer, size_of};

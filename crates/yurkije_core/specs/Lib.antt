@@ -3,3 +3,4 @@ pub mod Running
 pub mod Statuses
 pub mod Reports
 pub mod Messages
+pub mod Chunks

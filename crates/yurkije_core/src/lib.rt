@@ -2,6 +2,7 @@
 //! handles.
 #![tactic(auto)]
 
+mod chunks;
 pub mod reading;
 pub mod report;
 pub mod running;

@@ -1,14 +1,16 @@
 //! A program run over a batch of columns that a caller lends.
-ghost use Rattle.std.specs.Prelude.{MatchResult};
+ghost use Rattle.std.specs.Prelude.{◌<◌, All, IsTrue, MatchResult};
+ghost use Rattle.yurkije_columns.specs.Checking.{IsFlat};
 ghost use Rattle.vortex_types.specs.TypeOf.{struct_fields};
 ghost use Rattle.vortex_program.specs.Programs.{trees_of, AreRewrites};
 ghost use Rattle.yurkije_core.specs.Running.{AnswersBatch, RefusesRun};
 
+use crate::chunks::{WHOLE, begun, run_chunks};
 use std::alloc::Global;
 use vortex_arrow::ArrowColumn;
 use vortex_columns::Column;
 use vortex_program::Program;
-use yurkije_columns::{BatchError, read_batch};
+use yurkije_columns::{BatchError, check_batch, is_flat, read_batch};
 
 /// Why a program returns no columns for a batch.
 #[derive(Debug, Drop)]
@@ -17,6 +19,74 @@ pub enum RunError {
     Batch(BatchError),
     /// A row faults, or memory ran out as the program ran.
     Program(vortex_program::RunError),
+}
+
+/// Whether all columns are of truth values or of integers.
+fn are_flat(columns: &[ArrowColumn<'_>]) -> bool
+    ensures { IsTrue result → All IsFlat columns.now }
+{
+    for k in 0..columns.len() {
+        if !is_flat(&columns[k]) {
+            return false;
+        }
+    }
+    true
+}
+
+/// What `run_program` answers, where the columns are read as a whole.
+fn run_whole(
+    alloc: Global,
+    program: &Program,
+    columns: &[ArrowColumn<'_>],
+    rows: usize,
+) -> Result<Vec<Column>, RunError>
+    ensures { AreRewrites program.now.written.items program.now.optimized.items
+        → MatchResult result
+        (λ answers. AnswersBatch (struct_fields program.now.scope) rows columns.now
+        (trees_of program.now.written.items) answers.items)
+        (RefusesRun (struct_fields program.now.scope) rows columns.now
+        (trees_of program.now.written.items) (trees_of program.now.optimized.items)) }
+{
+    let columns = match read_batch(alloc, &program.scope, columns, rows) {
+        Ok(columns) => columns,
+        Err(error) => return Err(RunError::Batch(error)),
+    };
+    match program.run(alloc, &columns, rows) {
+        Ok(answers) => Ok(answers),
+        Err(error) => Err(RunError::Program(error)),
+    }
+}
+
+/// What `run_program` answers, where the columns are of truth values or of integers: chunk by chunk,
+/// where the answers are so too.
+fn run_flat(
+    alloc: Global,
+    program: &Program,
+    columns: &[ArrowColumn<'_>],
+    rows: usize,
+) -> Result<Vec<Column>, RunError>
+    requires flat { All IsFlat columns.now }
+    requires some { 0 < rows }
+    ensures { AreRewrites program.now.written.items program.now.optimized.items
+        → MatchResult result
+        (λ answers. AnswersBatch (struct_fields program.now.scope) rows columns.now
+        (trees_of program.now.written.items) answers.items)
+        (RefusesRun (struct_fields program.now.scope) rows columns.now
+        (trees_of program.now.written.items) (trees_of program.now.optimized.items)) }
+{
+    match check_batch(alloc, &program.scope, columns, rows) {
+        Ok(()) => {}
+        Err(error) => return Err(RunError::Batch(error)),
+    }
+    let begun = match begun(alloc, &program.optimized, rows) {
+        Ok(Some(begun)) => begun,
+        Ok(None) => return run_whole(alloc, program, columns, rows),
+        Err(_) => return Err(RunError::Program(vortex_program::RunError::OutOfMemory)),
+    };
+    match run_chunks(alloc, program, columns, rows, begun) {
+        Ok(answers) => Ok(answers),
+        Err(error) => Err(RunError::Program(error)),
+    }
 }
 
 /// What the program returns for a batch of so many rows: a column for each answer, which has its
@@ -39,12 +109,9 @@ pub fn run_program(
         (RefusesRun (struct_fields program.now.scope) rows columns.now
         (trees_of program.now.written.items) (trees_of program.now.optimized.items)) }
 {
-    let columns = match read_batch(alloc, &program.scope, columns, rows) {
-        Ok(columns) => columns,
-        Err(error) => return Err(RunError::Batch(error)),
-    };
-    match program.run(alloc, &columns, rows) {
-        Ok(answers) => Ok(answers),
-        Err(error) => Err(RunError::Program(error)),
+    if rows > WHOLE && are_flat(columns) {
+        run_flat(alloc, program, columns, rows)
+    } else {
+        run_whole(alloc, program, columns, rows)
     }
 }

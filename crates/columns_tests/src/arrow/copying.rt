@@ -4,7 +4,8 @@ use crate::questions::sure;
 use fixtures::{Made, bools, kept, nullable_bools, same};
 use std::alloc::Global;
 use vortex_arrow::{
-    CopyError, byte_count, copy_bools, copy_integers, copy_texts, copy_true_rows, true_count,
+    CopyError, byte_count, copy_bools, copy_integers, copy_mask, copy_texts, copy_true_rows,
+    true_count,
 };
 use vortex_columns::{Column, VortexResult};
 
@@ -83,6 +84,37 @@ fn true_rows_are_copied(rt: HostRuntime) {
     rows[64] = true;
     rows[129] = true;
     sure(&rt, selects(rt, bools(alloc, &rows), 3, [63, 64, 129, 77]));
+}
+
+/// Whether all rows are selected but rows 70 and 129.
+fn selects_most(rt: HostRuntime, column: Made) -> VortexResult<bool> {
+    let mut numbers = [999u32; 130];
+    let copied = copy_true_rows(&*column?, &mut numbers);
+    let told = [numbers[69], numbers[70], numbers[127], numbers[128]];
+    Ok(same(rt, copied, Ok(128)) && same(rt, told, [69, 71, 128, 999]))
+}
+
+/// Words that are full, nearly full, and short.
+#[test]
+fn many_true_rows_are_copied(rt: HostRuntime) {
+    let mut rows = [true; 130];
+    rows[70] = false;
+    rows[129] = false;
+    sure(&rt, selects_most(rt, bools(rt.alloc(), &rows)));
+}
+
+/// Whether a column of truth values is copied as these bytes, and one behind them is kept.
+fn copies_mask(rt: HostRuntime, column: Made, wanted: [u8; 5]) -> VortexResult<bool> {
+    let mut mask = [9; 5];
+    let copied = copy_mask(&*column?, &mut mask);
+    Ok(copied.is_ok() && same(rt, mask, wanted))
+}
+
+#[test]
+fn true_rows_are_copied_as_bytes(rt: HostRuntime) {
+    let rows = [Some(false), Some(true), None, Some(true)];
+    let column = nullable_bools(rt.alloc(), &rows);
+    sure(&rt, copies_mask(rt, column, [0, 1, 0, 1, 9]));
 }
 
 /// Whether texts are refused as integers, and so in these words.

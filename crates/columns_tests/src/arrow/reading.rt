@@ -29,7 +29,7 @@ fn reads(rt: HostRuntime, column: ArrowColumn<'_>, wanted: &str) -> bool {
     }
 }
 
-/// Rows from an item on, of a column that is nullable.
+/// Rows from an item on, of a nullable column.
 fn nullable<'a>(
     validity: &'a [u8],
     offset: usize,
@@ -89,7 +89,7 @@ fn texts_by_offsets_are_read(rt: HostRuntime) {
     assert!(rt; reads(rt, plain(2, 2, binary), "binary: 0x 0x6d61726b"));
 }
 
-/// A view of 12 bytes, one of 13 in the second buffer from byte 2 on, and one that says nothing.
+/// A view of 12 bytes, one of 13 in the second buffer from byte 2 on, and one with arbitrary bytes.
 const VIEWS: [[u8; 16]; 3] = [
     *b"\x0c\0\0\0twelve bytes",
     *b"\x0d\0\0\0thir\x01\0\0\0\x02\0\0\0",
@@ -106,7 +106,7 @@ fn texts_by_views_are_read(rt: HostRuntime) {
     assert!(rt; reads(rt, nullable(&[0b00000011], 0, 3, values), text));
 }
 
-/// Whether the buffers are refused so, in these words.
+/// Whether the buffers are an error, with these words.
 fn refuses(rt: HostRuntime, column: ArrowColumn<'_>, wanted: ArrowError, words: &str) -> bool {
     match made(rt.alloc(), &column) {
         Ok(_) => false,
@@ -135,4 +135,43 @@ fn offsets_are_refused_under_nulls_too(rt: HostRuntime) {
             "row 1: offsets fall"
         )
     );
+}
+
+/// Texts by these offsets, from an item on.
+fn spanned<'a>(from: usize, offsets: &'a [i32], data: &'a [u8]) -> ArrowColumn<'a> {
+    plain(
+        from,
+        offsets.len().saturating_sub(1).saturating_sub(from),
+        ArrowValues::Utf8 { offsets, data },
+    )
+}
+
+/// Two characters of two bytes each, one a row; and the rows from the second on.
+#[test]
+fn texts_are_cut_between_characters(rt: HostRuntime) {
+    let data = "éß".as_bytes();
+    assert!(rt; reads(rt, spanned(0, &[0, 2, 4], data), "utf8: \"é\" \"ß\""));
+    assert!(rt; reads(rt, spanned(1, &[0, 2, 4], data), "utf8: \"ß\""));
+}
+
+/// The same data cut within the second character, and data whose last byte is none of a text.
+#[test]
+fn texts_that_are_no_utf8_are_told_by_their_row(rt: HostRuntime) {
+    let split = spanned(0, &[0, 2, 3, 4], "éß".as_bytes());
+    let first = ArrowError::NotUtf8 { row: 1 };
+    assert!(rt; refuses(rt, split, first, "row 1: not UTF-8"));
+    let last = ArrowError::NotUtf8 { row: 2 };
+    let bad = spanned(0, &[0, 1, 2, 3], b"ab\xff");
+    assert!(rt; refuses(rt, bad, last, "row 2: not UTF-8"));
+}
+
+/// Bytes that are no UTF-8 may lie under a null.
+#[test]
+fn texts_under_nulls_are_not_looked_at(rt: HostRuntime) {
+    let utf8 = ArrowValues::Utf8 {
+        offsets: &[0, 1, 2, 3],
+        data: b"a\xffb",
+    };
+    let column = nullable(&[0b101], 0, 3, utf8);
+    assert!(rt; reads(rt, column, "utf8?: \"a\" null \"b\""));
 }

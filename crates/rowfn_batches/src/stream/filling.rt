@@ -1,11 +1,11 @@
 //! How a stream reads the rows of a batch.
-ghost use Rattle.std.specs.Prelude.{◌≡◌, ◌≢◌, ◌&&◌, not, Bool, List};
+ghost use Rattle.std.specs.Prelude.{◌≡◌, ◌≢◌, ◌&&◌, not, Bool, List, Some, length};
 ghost use Rattle.csv.specs.Records.{fields_of};
 ghost use Rattle.rowfn_csv.specs.KeptLines.{last_bytes, is_ended};
 ghost use Rattle.rowfn_csv.specs.Records.{Field, SaysFields};
 ghost use Rattle.rowfn_batches.specs.Passing.{IsRefilled, is_full, is_end, error_behind};
-ghost use Rattle.rowfn_batches.specs.Taking.{rows_before};
-ghost use Rattle.rowfn_batches.specs.Widths.{has_width, is_whole};
+ghost use Rattle.rowfn_batches.specs.Filtering.{rows_before};
+ghost use Rattle.rowfn_batches.specs.Widths.{first_width, row_width, has_width, is_whole};
 
 use super::Stream;
 use crate::answering::row_number;
@@ -73,14 +73,39 @@ fn add_last<R: Read>(
 }
 
 impl<'a, R: Read + Drop> Stream<'a, R> {
-    /// Settles how many fields a row has, where the last record, which is the first row, tells it.
+    /// How many fields each row has where the last record is the first row: as many as that, but no
+    /// fewer than reach to each column of the answers and of the condition.
+    #[cold]
+    #[inline(never)]
+    fn first_width(&self) -> usize
+        ensures { result ≡ first_width self.now.layout.places.items self.now.condition
+            (length (fields_of self.now.records.last)) }
+    {
+        let width = self.layout.width_by(self.records.record().len());
+        match &self.condition {
+            Some(condition) => condition.layout.width_by(width),
+            None => width,
+        }
+    }
+
+    /// How many fields each row has, where the last record is the first row unless that is known.
+    #[inline(always)]
+    fn row_width(&self) -> usize
+        ensures { result ≡ row_width self.now }
+    {
+        match self.width {
+            Some(width) => width,
+            None => self.first_width(),
+        }
+    }
+
+    /// Settles how many fields each row has, by the first row where no header says it.
     #[inline(always)]
     fn settle_width(&mut self)
-        ensures { IsRefilled self.old self.new }
+        ensures refilled { IsRefilled self.old self.new }
+        ensures width { self.new.width ≡ Some (row_width self.old) }
     {
-        if self.width.is_none() {
-            self.width = Some(self.layout.width_by(self.records.record().len()));
-        }
+        self.width = Some(self.row_width());
     }
 
     /// How many rows stand before the batch, those before the input among them.

@@ -2,12 +2,12 @@
 ghost use Rattle.std.specs.Prelude.{◌≡◌, OnOk, MatchResult, map, option_map};
 ghost use Rattle.rowfn_batches.specs.Fields.{field_in};
 ghost use Rattle.rowfn_batches.specs.Passing.{IsAnswered, PassesUpTo, PassesOn, IsBehind};
-ghost use Rattle.rowfn_batches.specs.Taking.{Takes, IsLeft, rows_before};
+ghost use Rattle.rowfn_batches.specs.Filtering.{Takes, IsLeft, rows_before};
 
 use super::{Stream, Summary};
 use crate::answering::{Answered, Task};
 use crate::errors::StreamError;
-use crate::taking::{Taken, slice_of, take_all, take_those};
+use crate::filter::{Taken, slice_of, take_all, take_those};
 use std::io::{Read, Write};
 
 impl<'a, R: Read + Drop> Stream<'a, R> {

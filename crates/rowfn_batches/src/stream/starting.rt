@@ -19,11 +19,11 @@ ghost use Rattle.rowfn_batches.specs.Starts.{RefusesNamesBeside, IsHeaded, DoesN
 use super::{Stream, Summary};
 use crate::asked::Asked;
 use crate::errors::StreamError;
+use crate::filter::Condition;
 use crate::header::{Layout, declared_layout, find_from, named_layout, with_spelling};
 use crate::output::Output;
 use crate::reading_back::check_reading_back;
 use crate::settings::Settings;
-use crate::taking::Condition;
 use rowfn_csv::{Batch, ByteRecord, Found, Records, without_line_end};
 use std::alloc::{AllocError, Global};
 use std::io::Read;
@@ -116,24 +116,9 @@ fn columns_of(
     Ok(declared_layout(alloc, declared, asked.places)?)
 }
 
-/// The same, with the columns whose truth values are read in any spelling.
-fn spelled_layout(
-    alloc: Global,
-    settings: &Settings<'_>,
-    asked: &Asked<'_>,
-    header: &ByteRecord,
-) -> Result<Layout, StreamError>
-    ensures { MatchResult result
-        (IsLaidOut settings.now (fields_of header.now) asked.now)
-        (RefusesLayout settings.now (fields_of header.now) asked.now) }
-{
-    let layout = columns_of(alloc, settings, asked, header)?;
-    let declared = &asked.program.scope;
-    Ok(with_spelling(alloc, declared, settings.format.any_truths, layout)?)
-}
-
-/// The same. A header with further fields, which no column names, is accepted, and they change
-/// nothing: the places of the columns are the only ones at which their names are.
+/// The same, with the columns whose truth values are read in any spelling. A header with further
+/// fields, which no column names, is accepted, and they change nothing: the places of the columns are
+/// the only ones at which their names are.
 fn layout_of(
     alloc: Global,
     settings: &Settings<'_>,
@@ -149,7 +134,9 @@ fn layout_of(
         → MatchResult result (λ layout. layout.places.items ≡ places)
         (λ e. e ≡ end.OutOfMemory) }
 {
-    spelled_layout(alloc, settings, asked, header)
+    let layout = columns_of(alloc, settings, asked, header)?;
+    let declared = &asked.program.scope;
+    Ok(with_spelling(alloc, declared, settings.format.any_truths, layout)?)
 }
 
 /// The condition, if there is one, and where its columns are.

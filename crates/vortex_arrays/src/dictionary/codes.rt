@@ -1,4 +1,4 @@
-//! The codes of a dictionary's rows: how they are kept, and which values they name.
+//! The codes of a dictionary's rows: how they are stored, and which values they refer to.
 ghost use Rattle.std.specs.Prelude.{◌≡◌, ◌<◌, ◌↔◌, ℕ, All, IsTrue, false, length, slice_index_or};
 ghost use Rattle.std.specs.Prelude.{true};
 ghost use Rattle.vortex_arrays.specs.Words.{AnswersUnlessMemory, AreCoded, Contains};
@@ -8,10 +8,10 @@ use std::alloc::Global;
 use std::rc::Rc;
 use vortex_columns::VortexResult;
 
-/// A code for each row, as they are kept.
+/// A code for each row, as stored.
 #[derive(Drop)]
 pub(crate) enum Codes {
-    /// As they were handed over.
+    /// As passed.
     Owned(Vec<u32>),
     /// Shared among dictionaries, and whether each of their values has a code.
     Shared(Rc<Vec<u32>>, bool),
@@ -28,7 +28,7 @@ impl Codes {
         }
     }
 
-    /// Whether each of so many values has a code: found here, but of shared codes known.
+    /// Whether each of that many values has a code: computed here, but stored for shared codes.
     pub(crate) fn all_coded(&self, alloc: Global, count: usize) -> VortexResult<bool>
         requires below { All (λ code. code < count) (codes_in self.now) }
         requires known { AreKnown count self.now }
@@ -40,7 +40,7 @@ impl Codes {
         }
     }
 
-    /// The same codes, put where dictionaries share them.
+    /// The same codes, made shared.
     pub(crate) fn share(self, alloc: Global, count: usize) -> VortexResult<Codes>
         requires below { All (λ code. code < count) (codes_in self) }
         requires known { AreKnown count self }
@@ -56,7 +56,7 @@ impl Codes {
         }
     }
 
-    /// The same codes once more: a copy, but of shared ones the same.
+    /// The same codes again: a copy, or for shared ones the same.
     pub(crate) fn try_clone(&self, alloc: Global) -> VortexResult<Codes>
         ensures { AnswersUnlessMemory result (λ codes. (codes_in codes ≡ codes_in self.now)
             × ((count : ℕ) → AreKnown count self.now → AreKnown count codes)) }
@@ -80,7 +80,7 @@ pub(crate) fn are_below(codes: &[u32], count: usize) -> bool
     true
 }
 
-/// A mark for each of so many values: whether a code names it.
+/// A mark for each of that many values: whether a code refers to it.
 fn marks_of(alloc: Global, codes: &[u32], count: usize) -> VortexResult<Vec<bool>>
     requires { All (λ code. code < count) codes.now }
     ensures { AnswersUnlessMemory result (λ marks. (length marks.items ≡ count)
@@ -106,7 +106,7 @@ fn are_set(marks: &[bool]) -> bool
     true
 }
 
-/// Whether each of so many values has a code.
+/// Whether each of that many values has a code.
 fn are_coded(alloc: Global, codes: &[u32], count: usize) -> VortexResult<bool>
     requires { All (λ code. code < count) codes.now }
     ensures { AnswersUnlessMemory result (λ b. IsTrue b ↔ AreCoded count codes.now) }

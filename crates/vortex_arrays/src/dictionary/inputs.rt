@@ -1,4 +1,4 @@
-//! The arguments of a call: a column, and other arguments that are constants.
+//! The arguments of a call: a column, and others that are constants.
 ghost use Rattle.std.specs.Prelude.{◌≡◌, ◌≤◌, ◌++◌, length, map};
 ghost use Rattle.std.specs.Cow.{cow_value};
 ghost use Rattle.vortex_arrays.specs.Words.{Answers, AnswersUnlessMemory, TakesInputs};
@@ -10,7 +10,7 @@ use std::borrow::Cow;
 use vortex_columns::{Column, DType, Scalar, VortexError, VortexResult};
 use vortex_functions::{ScalarFnRef, ScalarFnVTable};
 
-/// Adds a column for each scalar, which stands in each of so many rows.
+/// Adds a column for each scalar, which is in each of that many rows.
 fn push_constants<'a>(
     alloc: Global,
     scalars: &[Scalar],
@@ -27,7 +27,7 @@ fn push_constants<'a>(
     Ok(())
 }
 
-/// The column, borrowed, in its place among the others.
+/// The column, borrowed, at its index among the others.
 pub(crate) fn inputs_of<'a>(
     alloc: Global,
     column: &'a Column,
@@ -58,8 +58,8 @@ fn dtypes_of(alloc: Global, inputs: &[Cow<'_, Column>]) -> VortexResult<Vec<DTyp
     Ok(dtypes)
 }
 
-/// Refuses what a call's binding refuses. E6 exactly where the count of arguments does not fit the
-/// arity, and then E3 exactly where their types are not accepted.
+/// Fails where binding a call fails. E6 exactly if the count of arguments does not fit the arity,
+/// then E3 exactly if their types are not accepted.
 pub(crate) fn check_inputs<C: ScalarFnVTable>(
     alloc: Global,
     function: &ScalarFnRef<C>,

@@ -11,7 +11,7 @@ use crate::dictionary::DictColumn;
 use vortex_columns::{Column, ExecutionCtx, Scalar, VortexResult};
 use vortex_kernels::{CompareOperator, Operator, execute_boolean, execute_compare};
 
-/// A scalar beside each value.
+/// Each value with one scalar.
 fn beside(values: &Column, scalar: &Scalar, ctx: &mut ExecutionCtx) -> VortexResult<Box<Column>>
     ensures { AnswersUnlessMemory result
         (λ c. c.value ≡ constant_column scalar.now (length values.now.rows)) }

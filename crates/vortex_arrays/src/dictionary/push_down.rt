@@ -1,4 +1,4 @@
-//! A function over a dictionary's values in place of its rows.
+//! A function over a dictionary's values instead of its rows.
 ghost use Rattle.std.specs.Prelude.{◌≤◌, ◌↔◌, IsTrue, length};
 ghost use Rattle.vortex_arrays.specs.Words.{AnswersPushDown, AnswersUnlessMemory, MayRunOver};
 ghost use Rattle.vortex_arrays.specs.Words.{function_of};
@@ -10,7 +10,7 @@ use vortex_columns::{ExecutionCtx, Scalar, VortexResult};
 use vortex_functions::{ScalarFnRef, ScalarFnVTable, VecExecutionArgs};
 
 impl DictColumn {
-    /// Whether what the values do is what the rows do: the function is marked infallible, or each
+    /// Whether the values may be used for the rows: the function is marked infallible, or each
     /// value has a code.
     fn may_run_over<C: ScalarFnVTable>(
         &self,
@@ -23,15 +23,15 @@ impl DictColumn {
         Ok(function.signature().is_infallible || self.all_coded(alloc)?)
     }
 
-    /// The call of the function with this column in place `child_idx` and the others, as constants,
-    /// in the other places: a dictionary of the call's type with the same codes, whose values are
-    /// the function of the values, unused ones too. Of a shared dictionary it costs what the values
-    /// cost, however many rows there are, and its answer is shared too; of another one the codes
-    /// are copied, and of a function that is not marked infallible each code is looked at once.
+    /// The call of the function with this column at index `child_idx` and the others, as constants,
+    /// at the other indices: a dictionary of the call's type with the same codes, whose values are
+    /// the function of the values, unused ones too. For a shared dictionary the cost is that of the
+    /// values, however many rows there are, and the result is shared too. Otherwise the codes are
+    /// copied, and unless the function is marked infallible each code is read once.
     ///
-    /// In order: E6 and E3 as where the call is bound; None exactly where the function is not
-    /// marked infallible and some value has no code; the fault of a value, of a shipped function
-    /// the only one that it has. Each value that can fault has a code, so the fault is a row's.
+    /// In order: E6 and E3 as in binding a call; None exactly if the function is not marked
+    /// infallible and some value has no code; the fault of a value (for a shipped function its only
+    /// one). Each value that can fault has a code, so the fault is a row's.
     pub fn push_down<C: ScalarFnVTable>(
         &self,
         function: &ScalarFnRef<C>,

@@ -1,6 +1,6 @@
-//! The order of two sequences. Those inside go by calls within calls, which take no memory, down to
-//! a depth. The pairs around what lies deeper stand in a list, so that it takes no more stack; where
-//! that list cannot grow, calls go on.
+//! The order of two sequences. Inner sequences are compared recursively, without allocating, down
+//! to a depth. For deeper ones the enclosing pairs are kept in a list, so they use no more stack;
+//! where that list cannot grow, recursion continues.
 ghost use Rattle.std.specs.Prelude.{◌≡◌, ◌<◌, ◌≤◌, ◌++◌, [], ◌∷◌, if◌then◌else◌, MatchOption};
 ghost use Rattle.vortex_columns.specs.Words.{sequence_value, sequence_values, IsSequence, row};
 ghost use Rattle.vortex_columns.specs.PairOrder.{ArePaired, shared, order_at, order_from, on_end};
@@ -11,8 +11,7 @@ use crate::cell::{Cell, LEVELS, Sequence};
 use std::alloc::Global;
 use std::cmp::Ordering;
 
-/// Two sequences that are compared from a place on, with the order where no value differs from
-/// there.
+/// Two sequences that are compared from an index on, with the order if no value differs from there.
 #[derive(Clone, Copy)]
 pub(super) struct Comparing<'a> {
     pub(super) left: Sequence<'a>,
@@ -21,25 +20,25 @@ pub(super) struct Comparing<'a> {
     pub(super) on_equal: Ordering,
 }
 
-/// How far two sequences are compared.
+/// The state of a comparison of two sequences.
 enum Found<'a> {
     /// Their order.
     Order(Ordering),
-    /// They are ordered as these two, which stand last.
+    /// They are ordered as these two, which are the last.
     Last(Comparing<'a>),
-    /// What is left of them, and before it two sequences in one place.
+    /// What is left of them, and before it two sequences at one index.
     Before(Comparing<'a>, Comparing<'a>),
 }
 
-/// The pairs around two sequences, the outermost first; without a list as long as there are none.
+/// The pairs that enclose two sequences, the outermost first; no list while there are none.
 #[derive(Drop)]
 struct Around<'a> {
     pairs: Option<Vec<Comparing<'a>>>,
 }
 
 impl Sequence<'_> {
-    /// An allocator for a list of what is around the values inside; none where nothing stands
-    /// inside, but for the entries of a map.
+    /// An allocator for a list of enclosing pairs; none where nothing is inside, except for entries
+    /// of a map.
     pub(crate) fn allocator(&self) -> Option<Global> {
         match self {
             Sequence::Items(items) => Some(*items.allocator()),
@@ -52,7 +51,7 @@ impl Sequence<'_> {
 }
 
 impl<'a> Around<'a> {
-    /// One pair more, inside the others; whether there was memory for it.
+    /// Adds a pair, inside the others; returns whether the allocation succeeded.
     fn push(&mut self, pair: Comparing<'a>) -> bool
         ensures { pairs_in self.new
             ≡ (if result then pairs_in self.old ++ pair.entry ∷ [] else pairs_in self.old) }
@@ -82,8 +81,8 @@ impl<'a> Around<'a> {
 }
 
 impl<'a> Comparing<'a> {
-    /// The order of what is left. A sequence that stands before the last value of one takes a call
-    /// while levels are left, and else memory, or calls again where that is refused.
+    /// The order of what is left. A sequence that is not the last value is compared recursively
+    /// while levels are left, else with the list, or recursively again where that cannot grow.
     pub(super) fn order(&self, levels: usize) -> Ordering
         requires { ArePaired self.now }
         ensures { result ≡ order_from self.now }
@@ -112,7 +111,7 @@ impl<'a> Comparing<'a> {
         }
     }
 
-    /// Compares what is left, as far as the next place in which two sequences stand.
+    /// Compares what is left, up to the next index at which both have a sequence.
     fn advance(&self) -> Found<'a>
         requires { ArePaired self.now }
         ensures paired { AreFound result }
@@ -134,7 +133,7 @@ impl<'a> Comparing<'a> {
         Found::Order(self.on_end())
     }
 
-    /// What is left where no value before place `k` differs, and these two stand there.
+    /// What is left if no value before index `k` differs and these two are there.
     fn enter(&self, k: usize, left: Sequence<'a>, right: Sequence<'a>) -> Found<'a>
         requires paired { ArePaired self.now }
         requires k_in { k < shared self.now }
@@ -170,7 +169,7 @@ impl<'a> Comparing<'a> {
         Found::Before(outer, inner)
     }
 
-    /// In how many places both have a value.
+    /// How many indices have a value on both sides.
     fn shared(&self) -> usize
         requires { ArePaired self.now }
         ensures { result ≡ shared self.now }

@@ -1,4 +1,4 @@
-//! How columns are made.
+//! Constructors of columns.
 ghost use Rattle.std.specs.Prelude.{◌≡◌, ◌↔◌, IsTrue, All, map, length};
 ghost use Rattle.vortex_columns.specs.Words.{AnswersUnlessMemory, AnswersWhere, InvalidColumn};
 ghost use Rattle.vortex_columns.specs.Words.{AreTyped, FitsRows, type_of, validity_of};
@@ -14,7 +14,7 @@ use vortex_types::ints::learn_ranges;
 use vortex_types::{DType, NativePType, StructFields, VortexError, VortexResult};
 use vortex_views::{BinaryView, BinaryViews, collect_views};
 
-/// Looks at each column, whose rows have its type.
+/// Proves to the caller that the rows of each column have its type.
 fn learn_types(columns: &Vec<Column>)
     ensures { All (λ c. AreTyped c.dtype c.rows) columns.now.items }
 {
@@ -23,7 +23,7 @@ fn learn_types(columns: &Vec<Column>)
     }
 }
 
-/// Whether each column has so many rows.
+/// Whether each column has that many rows.
 fn all_have_len(fields: &Vec<Column>, len: usize) -> bool
     ensures { IsTrue result ↔ All (λ c. length c.rows ≡ len) fields.now.items }
 {
@@ -47,8 +47,8 @@ fn types_of(alloc: Global, columns: &Vec<Column>) -> VortexResult<Vec<DType>>
     Ok(types)
 }
 
-/// Each call that makes a column but `null` is handed an allocator and may refuse for memory (E9),
-/// also where today's form takes what it is handed over as it is.
+/// Each constructor but `null` takes an allocator and may run out of memory (E9), even where the
+/// current form keeps its arguments unchanged.
 impl Column {
     ghost use Rattle.vortex_columns.specs.Words.{constant_column, null_column, bool_column};
     ghost use Rattle.vortex_columns.specs.Words.{int_column, text_column, byte_string_column};
@@ -61,7 +61,7 @@ impl Column {
     ghost use Rattle.vortex_columns.specs.Words.{MakeByteStrings, MakeStructs, MakeLists};
     ghost use Rattle.vortex_columns.specs.Words.{MakeFixedSizeLists, MakeMaps};
 
-    /// The scalar in each of so many rows.
+    /// The scalar in each of `len` rows.
     pub fn constant(alloc: Global, scalar: Scalar, len: usize) -> VortexResult<Column>
         ensures { AnswersUnlessMemory result (λ c. c ≡ constant_column scalar len) }
     {
@@ -73,7 +73,7 @@ impl Column {
         })
     }
 
-    /// So many rows of type Null. Takes no memory.
+    /// That many rows of type Null. Allocates nothing.
     pub fn null(len: usize) -> Column
         ensures { result ≡ null_column len }
     {
@@ -129,7 +129,7 @@ impl Column {
     }
 
     /// A column of texts. E12 exactly where a list of valid bits has another length, a text is
-    /// longer than 4,294,967,295 bytes, or more than 4,294,967,296 buffers of so many bytes would
+    /// longer than 4,294,967,295 bytes, or more than 4,294,967,296 buffers of that many bytes would
     /// be needed.
     pub fn try_utf8(alloc: Global, values: Vec<String>, validity: Validity) -> VortexResult<Column>
         ensures { AnswersWhere result
@@ -144,7 +144,7 @@ impl Column {
         Ok(Column::of_text_values(views, validity))
     }
 
-    /// A column of texts that are borrowed, which are copied once. E12 as for `try_utf8`.
+    /// A column of borrowed texts, which are copied once. E12 as for `try_utf8`.
     pub fn try_texts(alloc: Global, values: &[&str], validity: Validity) -> VortexResult<Column>
         ensures { AnswersWhere result
             (MakeLentTexts values.now (validity_of validity))
@@ -177,9 +177,9 @@ impl Column {
         Ok(Column::of_byte_strings(views, validity))
     }
 
-    /// A column of texts that are views over buffers, which are taken over as they are. E12 exactly
-    /// where a list of valid bits has another length, a view does not lie among the buffers as it
-    /// says, under a null too, or a value of a row that is not null is not UTF-8.
+    /// A column of texts given as views over buffers, which are kept unchanged. E12 exactly where a
+    /// list of valid bits has another length, a view is not valid for the buffers, even under a
+    /// null, or a value of a row that is not null is not UTF-8.
     pub fn try_utf8_views(
         alloc: Global,
         views: Vec<BinaryView>,
@@ -195,9 +195,9 @@ impl Column {
         Column::try_utf8_values(alloc, BinaryViews::try_new(views, buffers)?, validity)
     }
 
-    /// A column of bytes that are views over buffers, which are taken over as they are. E12 exactly
-    /// where a list of valid bits has another length, or a view does not lie among the buffers as
-    /// it says, under a null too.
+    /// A column of bytes given as views over buffers, which are kept unchanged. E12 exactly where a
+    /// list of valid bits has another length, or a view is not valid for the buffers, even under a
+    /// null.
     pub fn try_binary_views(
         alloc: Global,
         views: Vec<BinaryView>,
@@ -213,8 +213,8 @@ impl Column {
         Column::try_binary_values(alloc, BinaryViews::try_new(views, buffers)?, validity)
     }
 
-    /// A column of texts that a builder has made. E12 exactly where a list of valid bits has
-    /// another length, or a value of a row that is not null is not UTF-8.
+    /// A column of the texts of a builder. E12 exactly where a list of valid bits has another
+    /// length, or a value of a row that is not null is not UTF-8.
     pub fn try_utf8_values(
         _alloc: Global,
         values: BinaryViews,
@@ -231,8 +231,8 @@ impl Column {
         Ok(Column::of_text_values(values, validity))
     }
 
-    /// A column of bytes that a builder has made. E12 exactly where a list of valid bits has
-    /// another length.
+    /// A column of the bytes of a builder. E12 exactly where a list of valid bits has another
+    /// length.
     pub fn try_binary_values(
         _alloc: Global,
         values: BinaryViews,
@@ -278,8 +278,8 @@ impl Column {
         }
     }
 
-    /// A column of records, named field by field. E12 exactly where there are not as many names as
-    /// fields, a name stands twice, or a field or a list of valid bits has another length.
+    /// A column of records. E12 exactly where there are not as many names as fields, a name occurs
+    /// twice, or a field or a list of valid bits has another length.
     pub fn try_struct(
         alloc: Global,
         names: Vec<String>,
@@ -305,9 +305,8 @@ impl Column {
         })
     }
 
-    /// A column of lists, each a range of the elements. E12 exactly where offsets and sizes have
-    /// two lengths, a list of valid bits has another, or a range of any row passes the elements'
-    /// end.
+    /// A column of lists, each a range of the elements. E12 exactly where offsets and sizes differ
+    /// in length, a list of valid bits has another, or a range of any row ends past the elements.
     pub fn try_list(
         alloc: Global,
         elements: Column,
@@ -353,8 +352,8 @@ impl Column {
         })
     }
 
-    /// A column of maps, each a range of keys and values. E12 as for lists, and where there are not
-    /// as many keys as values.
+    /// A column of maps, each a range of keys and values. E12 as for lists, and where keys and
+    /// values differ in length.
     pub fn try_map(
         alloc: Global,
         keys: Column,

@@ -1,4 +1,4 @@
-//! Copies of columns: by frames on the heap, so that the depth of a column takes no stack.
+//! Copies of columns, with frames on the heap, so deep nesting uses no stack.
 ghost use Rattle.std.specs.Prelude.{◌≡◌, ◌+◌, ◌*◌, ◌<◌, ◌≤◌, ◌++◌, IfOk};
 ghost use Rattle.vortex_columns.specs.Words.{AnswersUnlessMemory, type_of, validity_of};
 ghost use Rattle.vortex_columns.specs.Stored.{kept, kept_of, stored_of, structs};
@@ -12,18 +12,18 @@ use crate::validity::Validity;
 use std::alloc::{AllocError, Global};
 use vortex_types::{DType, VortexResult};
 
-/// What is told of a column besides its storage.
+/// A column without its storage.
 #[derive(Drop)]
 pub(super) struct Head {
     pub(super) dtype: DType,
     pub(super) len: usize,
 }
 
-/// The parts of a column that are copied, and those that still are to be, but for one that is to be
-/// copied next; with the allocator of the column's parts.
+/// The copied parts of a column, and those still to be copied, except the next one; with the
+/// allocator of the column's parts.
 #[derive(Drop)]
 enum Hole<'a> {
-    /// The fields before it, and those behind it.
+    /// The fields before it, and those after it.
     Field(Vec<Column>, &'a [Column]),
     /// The offsets and sizes of lists.
     Element(Global, Vec<usize>, Vec<usize>),
@@ -43,17 +43,17 @@ struct Frame<'a> {
     hole: Hole<'a>,
 }
 
-/// How far a copy is.
+/// The state of a copy.
 #[derive(Drop)]
 enum Step<'a> {
-    /// It is made.
+    /// It is complete.
     Whole(Column),
-    /// It is made as soon as the frame has a copy of that column.
+    /// It is complete once the frame has a copy of that column.
     Part(Frame<'a>, &'a Column),
 }
 
 impl Head {
-    /// The column that is stored so.
+    /// The column with this storage.
     pub(super) fn with(self, storage: Storage) -> Column
         requires { IsStoredUnder self (stored_of storage) }
         ensures { result ≡ stored_view self (stored_of storage) }
@@ -66,7 +66,7 @@ impl Head {
         }
     }
 
-    /// The column that keeps these values.
+    /// The column with these values.
     pub(super) fn with_rows(self, validity: Validity, elements: Elements) -> Column
         requires { IsStoredUnder self (kept (kept_of elements) (validity_of validity)) }
         ensures { result ≡ stored_view self (kept (kept_of elements) (validity_of validity)) }
@@ -91,7 +91,7 @@ impl Head {
         Step::Part(frame, inside)
     }
 
-    /// A copy of a struct with these fields, of which the rest are still to be copied.
+    /// A copy of a struct with these fields; the rest are still to be copied.
     fn with_fields<'a>(
         self,
         validity: Validity,
@@ -112,7 +112,7 @@ impl Head {
     }
 }
 
-/// A copy of places or sizes.
+/// A copy of offsets or sizes.
 fn copy_places(places: &Vec<usize>) -> Result<Vec<usize>, AllocError>
     ensures { IfOk result (λ copy. copy.items ≡ places.now.items) }
 {
@@ -133,7 +133,7 @@ impl Frame<'_> {
 }
 
 impl<'a> Frame<'a> {
-    /// Takes the copy that the frame stood for.
+    /// The copy that the frame is for.
     fn fill(self, copy: Column) -> Result<Step<'a>, AllocError>
         requires { Fits self copy }
         ensures sound { IfOk result IsSound }
@@ -171,7 +171,7 @@ impl<'a> Frame<'a> {
 }
 
 impl Elements {
-    /// Copies what is no column, and stops at the first column inside.
+    /// Copies everything but columns, and stops at the first column inside.
     fn open(&self, head: Head, validity: Validity) -> Result<Step<'_>, AllocError>
         requires { IsStoredUnder head (kept (kept_of self.now) (validity_of validity)) }
         ensures sound { IfOk result IsSound }
@@ -210,7 +210,7 @@ impl Elements {
     }
 }
 
-/// Fills a frame by a copy of that column: what is found inside waits in frames of its own.
+/// Fills a frame with a copy of that column; columns inside get their own frames.
 fn copy_into(frame: Frame<'_>, inside: &Column) -> Result<Column, AllocError>
     requires { Fits frame inside.now }
     ensures { IfOk result (λ c. c ≡ filled frame.entry inside.now) }
@@ -232,7 +232,7 @@ fn copy_into(frame: Frame<'_>, inside: &Column) -> Result<Column, AllocError>
 }
 
 impl Column {
-    /// A copy that is seen as its source is.
+    /// A copy with the same view.
     pub fn try_clone(&self, _alloc: Global) -> VortexResult<Column>
         ensures { AnswersUnlessMemory result (λ c. c ≡ self.now) }
     {
@@ -248,7 +248,7 @@ impl Column {
         }
     }
 
-    /// Copies what is no column, and stops at the first column inside.
+    /// Copies everything but columns, and stops at the first column inside.
     fn open(&self) -> Result<Step<'_>, AllocError>
         ensures sound { IfOk result IsSound }
         ensures view { IfOk result (λ step. step_view step ≡ self.now) }
@@ -270,7 +270,7 @@ impl Column {
     }
 }
 
-/// A copy that is seen as its source is: of the same type, with the same rows.
+/// A copy with the same view: the same type and rows.
 impl Clone for Column {
     ghost is_clone = { λ column copy. copy ≡ column };
 

@@ -1,4 +1,4 @@
-//! What a column is taken apart into when it is dropped.
+//! The parts of a column while it is dropped.
 ghost use Rattle.std.specs.Prelude.{◌<◌, ◌≤◌};
 ghost use Rattle.vortex_types.specs.LogicalTypes.{type_depth};
 ghost use Rattle.vortex_columns.specs.ColumnParts.{type_weight, weight_within, deepest_within};
@@ -6,7 +6,7 @@ ghost use Rattle.vortex_columns.specs.ColumnParts.{type_weight, weight_within, d
 use super::{Column, Elements, Storage};
 use std::alloc::Global;
 
-/// The columns that a column is made of.
+/// The columns inside a column.
 pub(super) enum Within {
     One(Box<Column>),
     Two(Box<Column>, Box<Column>),
@@ -14,7 +14,7 @@ pub(super) enum Within {
 }
 
 impl Within {
-    /// The allocator of what holds them.
+    /// The allocator that they use.
     pub(super) fn allocator(&self) -> Global {
         match self {
             Within::One(column) => *Box::allocator(column),
@@ -25,7 +25,7 @@ impl Within {
 }
 
 impl Column {
-    /// Takes a column apart; none of a column that is made of no other.
+    /// Takes a column apart; no parts for a column without columns inside.
     pub(super) fn within(self) -> Option<Within>
         ensures fewer { weight_within result < type_weight self.dtype }
         ensures falls { deepest_within result ≤ type_depth self.dtype }

@@ -1,4 +1,4 @@
-//! When columns are equal.
+//! Equality of columns.
 ghost use Rattle.std.specs.Prelude.{◌≡◌};
 ghost use Rattle.vortex_columns.specs.ColumnEquality.{rows_eq};
 
@@ -6,7 +6,7 @@ use super::Column;
 use super::rows::CellRows;
 
 impl Column {
-    /// Whether the rows of both are equal values in their order.
+    /// Whether the rows of both are equal, in their order.
     fn has_rows_of(&self, other: &Column) -> bool
         ensures { result ≡ rows_eq self.now.rows other.now.rows }
     {
@@ -26,7 +26,7 @@ impl Column {
 }
 
 /// Equal where the types are, nullability included, and the values row by row: a constant column
-/// equals one that holds its value in each row. Takes memory as `Cell::compare` does.
+/// equals one that has its value in each row. Allocates as `Cell::compare` does.
 impl PartialEq for Column {
     ghost use Rattle.std.specs.Cmp.{partial_equiv_from_equiv};
     ghost use Rattle.vortex_columns.specs.ColumnEquality.{columns_eq, columns_eq-laws};

@@ -1,5 +1,5 @@
-//! What columns that hold columns are made of: whether the parts make one, their types, and values
-//! with what is put into boxes.
+//! Columns that contain columns: whether the parts make one, their types, and values with boxed
+//! parts.
 ghost use Rattle.std.specs.Prelude.{◌≡◌, ◌↔◌, IfOk, IsTrue, length};
 ghost use Rattle.vortex_columns.specs.Words.{AnswersUnlessMemory, AnswersWhere, InvalidColumn};
 ghost use Rattle.vortex_columns.specs.Words.{AreTyped, type_of, validity_of};
@@ -14,7 +14,7 @@ use crate::validity::Validity;
 use std::alloc::{AllocError, Global};
 use vortex_types::{DType, VortexError, VortexResult};
 
-/// Whether these make lists of so many elements.
+/// Whether these make lists of that many elements.
 fn make_lists(
     elements: usize,
     offsets: &Vec<usize>,
@@ -28,7 +28,7 @@ fn make_lists(
     sizes.len() == len && validity.fits(len) && lie_within(elements, offsets, sizes)
 }
 
-/// Whether these make so many lists of one size.
+/// Whether these make that many lists of one size.
 fn make_fixed_size_lists(elements: &Column, size: u32, len: usize, validity: &Validity) -> bool
     ensures { IsTrue result ↔ MakeFixedSizeLists elements.now size len (validity_of validity.now) }
 {

@@ -1,4 +1,4 @@
-//! Columns of optional values, by their rows.
+//! Columns of optional values, from their rows.
 ghost use Rattle.std.specs.Prelude.{◌≡◌, map, unwrap_or};
 ghost use Rattle.vortex_columns.specs.Words.{AnswersUnlessMemory, validity_of};
 ghost use Rattle.vortex_columns.specs.Options.{option_validity};
@@ -9,7 +9,7 @@ use std::alloc::Global;
 use vortex_bits::BitBuffer;
 use vortex_types::{NativePType, VortexResult};
 
-/// A set bit for each value that is there.
+/// A set bit for each value that is present.
 fn option_validity<T: Copy + Drop>(alloc: Global, rows: &[Option<T>]) -> VortexResult<Validity>
     ensures { AnswersUnlessMemory result (λ v. validity_of v ≡ option_validity rows.now) }
 {
@@ -20,7 +20,7 @@ fn option_validity<T: Copy + Drop>(alloc: Global, rows: &[Option<T>]) -> VortexR
     Ok(Validity::Array(BitBuffer::from_bools(alloc, &valid)?))
 }
 
-/// The values, and `under_null` where there is none.
+/// The values, and `under_null` for none.
 fn values_or<T: Copy + Drop>(
     alloc: Global,
     rows: &[Option<T>],
@@ -36,14 +36,14 @@ fn values_or<T: Copy + Drop>(
     Ok(values)
 }
 
-/// Columns of a nullable type, whose validity is an array of bits, also where each value is there.
+/// Columns of a nullable type, whose validity is an array of bits, even if every value is present.
 impl Column {
     ghost use Rattle.vortex_columns.specs.Options.{optional_bools, optional_ints, optional_texts};
     ghost use Rattle.vortex_columns.specs.Options.{option_text};
     ghost use Rattle.vortex_columns.specs.Words.{AnswersWhere, InvalidColumn};
     ghost use Rattle.vortex_views.specs.Collected.{HaveRoom};
 
-    /// A column of nullable truth values: null where there is none.
+    /// A column of nullable truth values: null for none.
     pub fn of_bools(alloc: Global, rows: &[Option<bool>]) -> VortexResult<Column>
         ensures { AnswersUnlessMemory result (λ c. c ≡ optional_bools rows.now) }
     {
@@ -52,7 +52,7 @@ impl Column {
         Column::try_bool(alloc, bits, option_validity(alloc, rows)?)
     }
 
-    /// A column of nullable integers of one type: null where there is none.
+    /// A column of nullable integers of one type: null for none.
     pub fn of_ints<T: NativePType>(alloc: Global, rows: &[Option<T>]) -> VortexResult<Column>
         ensures { AnswersUnlessMemory result (λ c. c ≡ optional_ints T.ptype T.number rows.now) }
     {
@@ -60,9 +60,8 @@ impl Column {
         Column::try_primitive(alloc, values, option_validity(alloc, rows)?)
     }
 
-    /// A column of nullable texts: null where there is none. E12 exactly where a text is longer
-    /// than 4,294,967,295 bytes, or more than 4,294,967,296 buffers of so many bytes would be
-    /// needed.
+    /// A column of nullable texts: null for none. E12 exactly where a text is longer than
+    /// 4,294,967,295 bytes, or more than 4,294,967,296 buffers of that many bytes would be needed.
     pub fn of_texts(alloc: Global, rows: &[Option<&str>]) -> VortexResult<Column>
         ensures { AnswersWhere result
             (HaveRoom (map option_text rows.now))

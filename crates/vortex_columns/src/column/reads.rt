@@ -1,4 +1,4 @@
-//! What is read of a column: its rows, and the parts that it lends.
+//! Reads of a column: its rows, and its parts, borrowed.
 ghost use Rattle.std.specs.Prelude.{◌≡◌, ◌≢◌, ◌<◌, MatchOption, length, map, not};
 ghost use Rattle.vortex_columns.specs.Words.{row, is_null, type_of, AnswersUnlessMemory};
 
@@ -46,8 +46,8 @@ impl Column {
         self.storage.validity(alloc)
     }
 
-    /// Which rows are not null, borrowed: a list only where the validity's form is an array of bits.
-    /// Takes no memory.
+    /// Which rows are not null, borrowed: a list only if the validity is an array of bits.
+    /// Allocates nothing.
     pub fn valid_rows(&self) -> ValidRows<'_>
         ensures rows { AreValid (valid_view result) self.now.rows }
         ensures listed { IsListed result → self.now.form ≡ array }
@@ -55,9 +55,8 @@ impl Column {
         self.storage.valid_rows()
     }
 
-    /// Does nothing: its contract is what is known of every column. The form of its validity is
-    /// true of each row, and the scalar that it is a constant of has its type, also where there are
-    /// no rows.
+    /// Does nothing. Its contract is what is known of every column: the form of its validity is
+    /// right for each row, and the scalar of a constant column has its type, even with no rows.
     pub fn tells_truly(&self)
         ensures { TellsTruly self.now }
     {
@@ -72,7 +71,7 @@ impl Column {
         self.storage.is_valid(i)
     }
 
-    /// The value of row `i` where it lies. Takes no memory.
+    /// The value of row `i`, borrowed. Allocates nothing.
     pub fn cell(&self, i: usize) -> Cell<'_>
         requires { i < length self.now.rows }
         ensures whole { IsCell result }
@@ -95,7 +94,7 @@ impl Column {
         Scalar::try_new(dtype, value)
     }
 
-    /// The order of row `i` and row `j` of another column. Takes memory as `Cell::compare` does.
+    /// The order of row `i` and row `j` of another column. Allocates as `Cell::compare` does.
     pub fn compare_rows(&self, i: usize, other: &Column, j: usize) -> Ordering
         requires i_in { i < length self.now.rows }
         requires j_in { j < length other.now.rows }
@@ -104,12 +103,12 @@ impl Column {
         self.cell(i).compare(&other.cell(j))
     }
 
-    /// The allocator of what holds the values inside its rows; none where there are none inside.
+    /// The allocator of the values inside its rows; none if there are none.
     pub(crate) fn allocator(&self) -> Option<Global> {
         self.storage.allocator()
     }
 
-    /// The scalar of a constant column, also of one of no rows.
+    /// The scalar of a constant column, even of one without rows.
     pub fn as_constant(&self) -> Option<&Scalar>
         ensures { MatchOption result (self.now.constant ≡ None)
             (λ s. self.now ≡ constant_column s.now (length self.now.rows)) }
@@ -121,7 +120,7 @@ impl Column {
     }
 }
 
-/// The parts of a column that is no constant, borrowed. Takes no memory.
+/// The parts of a column that is not constant, borrowed. Allocates nothing.
 impl Column {
     ghost use Rattle.vortex_columns.specs.Words.{HasBits, AreBits, HasInts, AreInts, HasBytes};
     ghost use Rattle.vortex_columns.specs.Words.{AreBytes, AreBytesAt, lent_values, array};
@@ -130,8 +129,8 @@ impl Column {
     ghost use Rattle.vortex_columns.specs.Words.{AreFixedSizeLists, is_list_type, is_map_type};
     ghost use Rattle.vortex_columns.specs.Words.{is_fixed_size_list_type};
 
-    /// The bits, one a row, of a column of truth values that is no constant. What lies under a null
-    /// says nothing.
+    /// The bits, one a row, of a column of truth values that is not constant. Bits under a null are
+    /// arbitrary.
     pub fn bits(&self) -> Option<&BitBuffer>
         ensures { MatchOption result (¬ HasBits self.now)
             (λ bits. HasBits self.now × AreBits self.now bits.now) }
@@ -142,8 +141,8 @@ impl Column {
         }
     }
 
-    /// The integers, one a row, of a column of this integer type that is no constant. What lies
-    /// under a null says nothing.
+    /// The integers, one a row, of a column of this integer type that is not constant. Values under
+    /// a null are arbitrary.
     pub fn ints<T: NativePType>(&self) -> Option<&[T]>
         ensures { MatchOption result (¬ HasInts T.ptype self.now)
             (λ xs. HasInts T.ptype self.now × AreInts self.now (map T.number xs.now)) }
@@ -154,8 +153,8 @@ impl Column {
         }
     }
 
-    /// The texts or byte strings, one a row, of a column of texts or bytes that is no constant, as
-    /// views with their buffers. What lies under a null says nothing, and need not be UTF-8.
+    /// The texts or byte strings, one a row, of a column of texts or bytes that is not constant, as
+    /// views with their buffers. Values under a null are arbitrary, and need not be UTF-8.
     pub fn views(&self) -> Option<ResolvedViews<'_>>
         ensures { MatchOption result (¬ HasBytes self.now)
             (λ views. HasBytes self.now × AreBytes self.now (lent_values views)) }
@@ -166,8 +165,8 @@ impl Column {
         }
     }
 
-    /// The text's or the bytes' own bytes in row `i` of a column of texts or bytes that is no
-    /// constant. What lies under a null says nothing.
+    /// The bytes of row `i` of a column of texts or bytes that is not constant. Bytes under a null
+    /// are arbitrary.
     pub fn bytes_at(&self, i: usize) -> Option<&[u8]>
         requires { i < length self.now.rows }
         ensures { MatchOption result (¬ HasBytes self.now)
@@ -177,7 +176,7 @@ impl Column {
         Some(views.bytes(i))
     }
 
-    /// The rows that are not null, where the validity's form is an array of bits.
+    /// The rows that are not null, if the validity is an array of bits.
     pub fn valid_bits(&self) -> Option<&BitBuffer>
         ensures { MatchOption result (self.now.form ≢ array)
             (λ bits. (self.now.form ≡ array) × (bits.now ≡ valid_rows self.now.rows)) }
@@ -185,7 +184,7 @@ impl Column {
         self.storage.valid_bits()
     }
 
-    /// The column of a field of a struct column that is no constant.
+    /// The column of a field of a struct column that is not constant.
     pub fn field(&self, k: usize) -> Option<&Column>
         ensures { MatchOption result (¬ HasField k self.now)
             (λ c. HasField k self.now × IsField k self.now c.now) }
@@ -196,7 +195,7 @@ impl Column {
         }
     }
 
-    /// The elements, offsets and sizes of a list column that is no constant.
+    /// The elements, offsets and sizes of a list column that is not constant.
     pub fn list_parts(&self) -> Option<(&Column, &[usize], &[usize])>
         ensures { MatchOption result (¬ HasKind is_list_type self.now)
             (λ p. HasKind is_list_type self.now × AreLists self.now p.0.now p.1.now p.2.now) }
@@ -207,7 +206,7 @@ impl Column {
         }
     }
 
-    /// The elements and the size of a column of fixed-size lists that is no constant.
+    /// The elements and the size of a column of fixed-size lists that is not constant.
     pub fn fixed_parts(&self) -> Option<(&Column, u32)>
         ensures { MatchOption result (¬ HasKind is_fixed_size_list_type self.now)
             (λ p. HasKind is_fixed_size_list_type self.now
@@ -219,7 +218,7 @@ impl Column {
         }
     }
 
-    /// The keys, values, offsets and sizes of a map column that is no constant.
+    /// The keys, values, offsets and sizes of a map column that is not constant.
     pub fn map_parts(&self) -> Option<(&Column, &Column, &[usize], &[usize])>
         ensures { MatchOption result (¬ HasKind is_map_type self.now)
             (λ p. HasKind is_map_type self.now

@@ -1,5 +1,5 @@
-//! The rows of a column as Rust's own values, in their order: none where a row is null. They are
-//! read where they lie, which takes no memory.
+//! The rows of a column as Rust's own values, in their order: none for null. They are borrowed,
+//! which allocates nothing.
 ghost use Rattle.std.specs.Prelude.{◌≡◌, ◌∷◌, [], true, false, MatchOption, IfSome};
 ghost use Rattle.vortex_columns.specs.Words.{IsCell, cell_value, HasType};
 ghost use Rattle.vortex_columns.specs.Words.{bool_type, integer_type, text_type};
@@ -10,7 +10,7 @@ use crate::cell::Cell;
 use std::marker::{Model, PhantomData};
 use vortex_types::{DType, NativePType};
 
-/// The rows of a column from one on, as cells; seen as the values of the rows that are left.
+/// The rows of a column from one on, as cells; the view is the remaining values.
 #[derive(Drop)]
 pub(super) struct CellRows<'a> {
     column: &'a Column,
@@ -87,7 +87,7 @@ fn text_in<'a>(cell: Cell<'a>) -> Option<&'a str>
     }
 }
 
-/// The rows of a column of Bool; seen as the values of the rows that are left.
+/// The rows of a column of Bool; the view is the remaining values.
 #[derive(Drop)]
 pub struct BoolRows<'a> {
     cells: CellRows<'a>,
@@ -124,7 +124,7 @@ impl<'a> Iterator for BoolRows<'a> {
     }
 }
 
-/// The rows of a column of integers of one type; seen as the values of the rows that are left.
+/// The rows of a column of integers of one type; the view is the remaining values.
 #[derive(Drop)]
 pub struct IntRows<'a, T: NativePType> {
     cells: CellRows<'a>,
@@ -162,7 +162,7 @@ impl<'a, T: NativePType> Iterator for IntRows<'a, T> {
     }
 }
 
-/// The rows of a column of Utf8; seen as the values of the rows that are left.
+/// The rows of a column of Utf8; the view is the remaining values.
 #[derive(Drop)]
 pub struct TextRows<'a> {
     cells: CellRows<'a>,
@@ -199,12 +199,12 @@ impl<'a> Iterator for TextRows<'a> {
     }
 }
 
-/// The rows in their order, none where a row is null; also of constants. Takes no memory.
+/// The rows in their order, none for null; also of constants. Allocates nothing.
 impl Column {
     ghost use Rattle.vortex_types.specs.LogicalTypes.{is_bool_type, is_text_type};
     ghost use Rattle.vortex_columns.specs.ColumnView.{IsIntegerType};
 
-    /// The truth values of a column of Bool; none of another type.
+    /// The truth values of a column of Bool; none for another type.
     pub fn bool_rows(&self) -> Option<BoolRows<'_>>
         ensures { MatchOption result (is_bool_type self.now.dtype ≡ false)
             (λ rows. (is_bool_type self.now.dtype ≡ true) × (rows ≡ self.now.rows)) }
@@ -217,7 +217,7 @@ impl Column {
         }
     }
 
-    /// The integers of a column of that integer type; none of another type.
+    /// The integers of a column of that integer type; none for another type.
     pub fn int_rows<T: NativePType>(&self) -> Option<IntRows<'_, T>>
         ensures { MatchOption result (¬ IsIntegerType T.ptype self.now.dtype)
             (λ rows. IsIntegerType T.ptype self.now.dtype × (rows ≡ self.now.rows)) }
@@ -231,7 +231,7 @@ impl Column {
         }
     }
 
-    /// The texts of a column of Utf8, borrowed; none of another type.
+    /// The texts of a column of Utf8, borrowed; none for another type.
     pub fn text_rows(&self) -> Option<TextRows<'_>>
         ensures { MatchOption result (is_text_type self.now.dtype ≡ false)
             (λ rows. (is_text_type self.now.dtype ≡ true) × (rows ≡ self.now.rows)) }

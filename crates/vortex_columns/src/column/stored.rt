@@ -1,4 +1,4 @@
-//! The stored rows of a column, read where they lie.
+//! The stored rows of a column, borrowed.
 ghost use Rattle.std.specs.Prelude.{◌≡◌, ◌≢◌, ◌+◌, ◌*◌, ◌<◌, ◌≤◌, MatchOption, length, map};
 ghost use Rattle.std.specs.Prelude.{[], true, slice_index_or};
 ghost use Rattle.vortex_columns.specs.Words.{cell_value, IsCell, lent_values, part};
@@ -18,7 +18,7 @@ fn fixed_cell(elements: &Column, size: usize, i: usize) -> Cell<'_>
     ensures whole { IsCell result }
     ensures value { cell_value result ≡ part elements.now.rows (size * i) size }
 {
-    // so that the place is known to fit
+    // so that the index is known not to overflow
     let _ = elements.len();
     Cell::Sequence(Sequence::Elements(elements, size * i, size))
 }
@@ -38,7 +38,7 @@ impl Elements {
     ghost use Rattle.vortex_columns.specs.KeptParts.{IsKeptField, KeptLists, KeptFixedSizeLists};
     ghost use Rattle.vortex_columns.specs.KeptParts.{KeptMaps, kept_bytes};
 
-    /// The value in place `i`.
+    /// The value at index `i`.
     pub(super) fn cell(&self, i: usize) -> Cell<'_>
         requires place { HasPlace i (kept_of self.now) }
         requires text { IsTextAt i (kept_of self.now) }
@@ -63,7 +63,7 @@ impl Elements {
         }
     }
 
-    /// The allocator of what holds the columns inside; none where there are none.
+    /// The allocator of the columns inside; none if there are none.
     fn allocator(&self) -> Option<Global> {
         match self {
             Elements::Struct(fields) => Some(*fields.allocator()),
@@ -182,7 +182,7 @@ impl Storage {
         }
     }
 
-    /// The allocator of what holds the values inside the rows; none where there are none inside.
+    /// The allocator of the values inside the rows; none if there are none.
     pub(super) fn allocator(&self) -> Option<Global> {
         match self {
             Storage::Null => None,
@@ -219,7 +219,7 @@ impl Storage {
         }
     }
 
-    /// The bits of the validity, where its form is an array.
+    /// The bits of the validity, if it is an array.
     pub(super) fn valid_bits(&self) -> Option<&BitBuffer>
         ensures { MatchOption result ((stored_validity (stored_of self.now)).form ≢ array)
             (λ bits. stored_validity (stored_of self.now)

@@ -1,5 +1,5 @@
-//! Rows of a column that are taken by their numbers: by words of bits and by gathering, as the
-//! column keeps them.
+//! Rows of a column, taken by their row numbers: by words of bits and by gathering, depending on
+//! the storage.
 ghost use Rattle.std.specs.Prelude.{◌≡◌, ◌+◌, ◌*◌, ◌^◌, ◌<◌, ◌≤◌, ◌++◌, ℕ, All, IfOk, map, length};
 ghost use Rattle.std.specs.Prelude.{pos, false};
 ghost use Rattle.std.specs.Prelude.{[], slice_index, slice_index_or};
@@ -26,7 +26,7 @@ use vortex_bits::{BitBuffer, RowBits, collect_rows};
 use vortex_types::{ExecutionCtx, Ints, VortexError, VortexResult};
 use vortex_views::{Place, Places, gather};
 
-/// The bit at each place.
+/// The bit at each index.
 #[derive(Clone, Copy)]
 struct BitsAt<'a, P: Place> {
     bits: &'a BitBuffer,
@@ -47,7 +47,7 @@ impl<P: Place> RowBits for BitsAt<'_, P> {
     }
 }
 
-/// The bits at these places.
+/// The bits at these indices.
 fn bits_at<P: Place>(alloc: Global, bits: &BitBuffer, places: &[P]) -> VortexResult<BitBuffer>
     requires { All (λ i. i < length bits.now) (map P.number places.now) }
     ensures { AnswersUnlessMemory result
@@ -56,7 +56,7 @@ fn bits_at<P: Place>(alloc: Global, bits: &BitBuffer, places: &[P]) -> VortexRes
     collect_rows(alloc, &BitsAt { bits, places }, places.len())
 }
 
-/// The bits at these places, 64 to a word.
+/// The bits at these indices, 64 to a word.
 fn take_bits(alloc: Global, bits: &BitBuffer, places: &Places<'_>) -> VortexResult<BitBuffer>
     requires { All (λ i. i < length bits.now) (places_of places.now) }
     ensures { AnswersUnlessMemory result
@@ -68,7 +68,7 @@ fn take_bits(alloc: Global, bits: &BitBuffer, places: &Places<'_>) -> VortexResu
     }
 }
 
-/// The integers at these places: one loop, of the one type that they have.
+/// The integers at these indices: one loop for each type.
 fn take_ints(alloc: Global, ints: &Ints, places: &Places<'_>) -> Result<Ints, AllocError>
     requires { All (λ i. i < length (numbers ints.now)) (places_of places.now) }
     ensures { IfOk result (λ xs. (ptype_of xs ≡ ptype_of ints.now)
@@ -87,7 +87,7 @@ fn take_ints(alloc: Global, ints: &Ints, places: &Places<'_>) -> Result<Ints, Al
     }
 }
 
-/// Adds the places of one list's elements, for which there is room.
+/// Adds the indices of one list's elements, within the capacity.
 fn push_range(places: &mut Vec<usize>, from: usize, count: usize)
     requires room { vec_len places.old + count ≤ vec_capacity places.old }
     requires fits { from + count < 2 ^ 64 }
@@ -100,8 +100,8 @@ fn push_range(places: &mut Vec<usize>, from: usize, count: usize)
     }
 }
 
-/// The places of the elements of lists of one size. E9 also where they are more than a usize
-/// counts.
+/// The indices of the elements of lists of one size. E9 also where there are more than a usize can
+/// count.
 fn elements_at<P: Place>(alloc: Global, size: usize, places: &[P]) -> VortexResult<Vec<usize>>
     requires { All (λ i. size * i + size < 2 ^ 64) (map P.number places.now) }
     ensures { AnswersUnlessMemory result
@@ -118,7 +118,7 @@ fn elements_at<P: Place>(alloc: Global, size: usize, places: &[P]) -> VortexResu
     Ok(elements)
 }
 
-/// The places of the elements of the lists of one size at these places. E9 as above.
+/// The indices of the elements of the lists of one size at these indices. E9 as above.
 fn element_places(alloc: Global, size: usize, places: &Places<'_>) -> VortexResult<Vec<usize>>
     requires { All (λ i. size * i + size < 2 ^ 64) (places_of places.now) }
     ensures { AnswersUnlessMemory result
@@ -130,7 +130,7 @@ fn element_places(alloc: Global, size: usize, places: &Places<'_>) -> VortexResu
     }
 }
 
-/// Which rows are null among those at these places.
+/// Which rows at these indices are null.
 fn take_validity(alloc: Global, validity: &Validity, places: &Places<'_>) -> VortexResult<Validity>
     requires { All (λ i. Reaches (validity_of validity.now) i) (places_of places.now) }
     ensures { AnswersUnlessMemory result
@@ -144,7 +144,7 @@ fn take_validity(alloc: Global, validity: &Validity, places: &Places<'_>) -> Vor
     }
 }
 
-/// The lists at these places, of a copy of the elements.
+/// The lists at these indices, over a copy of the elements.
 fn take_lists(
     alloc: Global,
     elements: &Column,
@@ -168,7 +168,7 @@ fn take_lists(
     )?)
 }
 
-/// The maps at these places, of copies of the keys and values.
+/// The maps at these indices, over copies of the keys and values.
 fn take_maps(
     alloc: Global,
     keys: &Column,
@@ -191,8 +191,8 @@ fn take_maps(
 }
 
 impl Elements {
-    /// Takes the rows of what is no column, and stops at the first column inside. Of lists and maps
-    /// only the ranges are taken: their elements stay as they are.
+    /// Takes rows of everything but columns, and stops at the first column inside. For lists and
+    /// maps only the ranges are taken: their elements are unchanged.
     fn open_rows<'a>(
         &'a self,
         alloc: Global,
@@ -226,7 +226,7 @@ impl Elements {
                 take_lists(alloc, elements, offsets, sizes, &places)?
             }
             Elements::FixedSizeList(elements, size) => {
-                // so that the places are known to fit
+                // so that the indices are known not to overflow
                 let _ = elements.len();
                 let places = element_places(alloc, *size as usize, &places)?;
                 return Ok(head.with_taken_elements(validity, *size, rows, elements, places));
@@ -243,13 +243,13 @@ impl Column {
     ghost use Rattle.vortex_columns.specs.Words.{AnswersUnlessMemory, AreRowsOf, IsTaken};
     ghost use Rattle.vortex_columns.specs.Taken.{taken};
 
-    /// The rows with these numbers, in the order of the codes, each as often as it is named: a
-    /// column of the same type with a row for each code. A constant stays a constant, and a column
-    /// whose validity is no list of bits keeps its form. The elements of lists and maps are copied
-    /// as they are, whichever rows name them.
+    /// The rows with these numbers, in the order of the codes, repeats allowed: a column of the
+    /// same type with one row for each code. A constant stays a constant, and a column whose
+    /// validity is no list of bits keeps its form. All elements of lists and maps are copied, used
+    /// or not.
     ///
-    /// Refuses for want of memory alone (E9), also where lists of one size would have more elements
-    /// than a usize counts.
+    /// Fails only where memory runs out (E9), also where lists of one size would have more elements
+    /// than a usize can count.
     pub fn take(&self, codes: &[u32], ctx: &mut ExecutionCtx) -> VortexResult<Column>
         requires { AreRowsOf self.now codes.now }
         ensures { AnswersUnlessMemory result (IsTaken self.now codes.now) }
@@ -257,7 +257,7 @@ impl Column {
         self.take_rows(ctx.alloc(), Rows::Codes(codes))
     }
 
-    /// What is found inside the column waits in frames of its own.
+    /// Columns inside get their own frames.
     fn take_rows<'a>(&'a self, alloc: Global, rows: Rows<'a>) -> VortexResult<Column>
         requires { AreRowsOf self.now (rows_in rows) }
         ensures { AnswersUnlessMemory result (λ c. c ≡ taken (rows_in rows.entry) self.now) }
@@ -278,7 +278,7 @@ impl Column {
         }
     }
 
-    /// Takes the rows of what is no column, and stops at the first column inside.
+    /// Takes rows of everything but columns, and stops at the first column inside.
     fn open_rows<'a>(&'a self, alloc: Global, rows: Rows<'a>) -> VortexResult<Step<'a>>
         requires { AreRowsOf self.now (rows_in rows) }
         ensures sound { AnswersUnlessMemory result IsSound }

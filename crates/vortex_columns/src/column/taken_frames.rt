@@ -1,5 +1,4 @@
-//! Columns of which rows are being taken: by frames on the heap, so that the depth of a column
-//! takes no stack.
+//! Columns whose rows are being taken, with frames on the heap, so deep nesting uses no stack.
 ghost use Rattle.std.specs.Prelude.{◌≡◌, ◌+◌, ◌*◌, ◌≤◌, ◌++◌, All, IfOk, map};
 ghost use Rattle.vortex_columns.specs.Words.{AreRowsOf, validity_of};
 ghost use Rattle.vortex_columns.specs.Stored.{kept, structs, fixed_size_lists};
@@ -16,20 +15,19 @@ use crate::validity::Validity;
 use std::alloc::{AllocError, Global};
 use vortex_views::Places;
 
-/// The numbers of the rows that are taken.
+/// The numbers of the taken rows.
 #[derive(Drop)]
 pub(super) enum Rows<'a> {
-    /// As a caller names them.
+    /// As the caller gives them.
     Codes(&'a [u32]),
     /// Of the elements of lists.
     Indices(Vec<usize>),
 }
 
-/// The parts of a column that are taken, and those that still are to be, but for one that is to be
-/// taken next.
+/// The taken parts of a column, and those still to be taken, except the next one.
 #[derive(Drop)]
 enum Hole<'a> {
-    /// The fields before it, and those behind it.
+    /// The fields before it, and those after it.
     Field(Vec<Column>, &'a [Column]),
     /// The size of each list, and which lists are taken.
     FixedElement(u32, Rows<'a>),
@@ -43,17 +41,17 @@ pub(super) struct Frame<'a> {
     hole: Hole<'a>,
 }
 
-/// How far the taking of rows is.
+/// The state of taking rows.
 #[derive(Drop)]
 pub(super) enum Step<'a> {
-    /// They are taken.
+    /// It is complete.
     Whole(Column, Rows<'a>),
-    /// They are taken as soon as the frame has those rows of that column.
+    /// It is complete once the frame has those rows of that column.
     Part(Frame<'a>, &'a Column, Rows<'a>),
 }
 
 impl Rows<'_> {
-    /// The places of the rows.
+    /// The indices of the rows.
     pub(super) fn places(&self) -> Places<'_>
         ensures { places_of result ≡ rows_in self.now }
     {
@@ -65,7 +63,7 @@ impl Rows<'_> {
 }
 
 impl Head {
-    /// Rows of a struct of which these fields are taken, and the rest still are to be.
+    /// Rows of a struct with these fields taken; the rest are still to be taken.
     pub(super) fn with_taken_fields<'a>(
         self,
         validity: Validity,
@@ -95,7 +93,7 @@ impl Head {
         Step::Part(frame, &rest[0], rows)
     }
 
-    /// Lists of one size, whose elements are still to be taken from these places.
+    /// Lists of one size, whose elements are still to be taken from these indices.
     pub(super) fn with_taken_elements<'a>(
         self,
         validity: Validity,
@@ -125,7 +123,7 @@ impl Head {
 }
 
 impl<'a> Frame<'a> {
-    /// Takes the rows of the column that was still to come.
+    /// Takes the rows of the next column.
     pub(super) fn fill(
         self,
         alloc: Global,

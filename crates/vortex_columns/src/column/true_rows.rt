@@ -9,7 +9,7 @@ use crate::cell::Cell;
 use std::alloc::Global;
 use vortex_types::{VortexError, VortexResult};
 
-/// Whether a value is true: neither false nor null, nor of another kind.
+/// Whether a value is true: not false, null or of another kind.
 fn is_true(cell: &Cell<'_>) -> bool
     ensures { result ≡ is_true (cell_value cell.now) }
 {
@@ -22,8 +22,8 @@ fn is_true(cell: &Cell<'_>) -> bool
 impl Column {
     ghost use Rattle.vortex_types.specs.LogicalTypes.{is_bool_type};
 
-    /// The numbers of the rows that are true, ascending, as `take` takes them. E12 exactly where
-    /// there are more than 4,294,967,296 rows, which a `u32` cannot number.
+    /// The numbers of the true rows, ascending, as `take` expects them. E12 exactly where there are
+    /// more than 4,294,967,296 rows, which a `u32` cannot number.
     pub fn true_rows(&self, alloc: Global) -> VortexResult<Vec<u32>>
         requires { is_bool_type self.now.dtype ≡ true }
         ensures rows { AnswersWhere result (length self.now.rows ≤ 2 ^ 32)

@@ -33,8 +33,8 @@ impl<C: ScalarFnVTable> ArrayRef<C> {
     }
 
     /// The array's meaning, row by row: a column of its type and row count, or the fault of the
-    /// first call, in post-order, that faults in some row. A lone column is borrowed, and takes no
-    /// memory.
+    /// first call, in post-order, that faults in some row. The column of a lone column leaf is
+    /// borrowed, which allocates nothing.
     pub fn execute<'a>(&'a self, ctx: &mut ExecutionCtx) -> VortexResult<Cow<'a, Column>>
         ensures answer { AnswersArray C.meaning self.now result }
         ensures lent { LendsColumn self.now result }

@@ -13,14 +13,14 @@ use std::borrow::Cow;
 use vortex_columns::{Column, ExecutionCtx, VortexError, VortexResult};
 use vortex_interface::ScalarFnVTable;
 
-/// The length of the first column that has not so many rows. Where there is none, the columns' rows
+/// The length of the first column that has not that many rows. If there is none, the columns' rows
 /// have their types.
 fn first_other_length(columns: &[Column], row_count: usize) -> Option<usize>
     ensures other { result ≡ other_length row_count columns.now }
     ensures typed { IfNone result (All (λ c. AreTyped c.dtype c.rows) columns.now) }
 {
     for column in columns {
-        // It says that the rows have the type.
+        // proves that the rows have the type
         let _typed = column.dtype();
         if column.len() != row_count {
             return Some(column.len());
@@ -30,7 +30,7 @@ fn first_other_length(columns: &[Column], row_count: usize) -> Option<usize>
 }
 
 impl ExpressionLeaf {
-    /// Whether the leaf's column is there, of the leaf's type; a literal asks for none.
+    /// Whether the leaf's column exists and has the leaf's type; a literal requires none.
     fn fits(&self, columns: &[Column]) -> bool
         ensures { IsTrue result ↔ HasColumn columns.now self.now }
     {
@@ -43,7 +43,8 @@ impl ExpressionLeaf {
         }
     }
 
-    /// The leaf's rows: its column, borrowed, or the literal in each. A column takes no memory.
+    /// The leaf's rows: its column, borrowed, or the literal in each row. A column allocates
+    /// nothing.
     fn rows<'a, C: ScalarFnVTable>(
         &self,
         columns: &'a [Column],
@@ -67,7 +68,7 @@ impl ExpressionLeaf {
 }
 
 impl<C: ScalarFnVTable> BoundExpression<C> {
-    /// Whether a leaf's column is there, of the leaf's type; so it is of any other node.
+    /// Whether a leaf's column exists and has the leaf's type; true for any other node.
     fn node_fits(&self, columns: &[Column]) -> bool
         ensures { IsTrue result ↔ NodeFits columns.now self.now }
     {
@@ -77,7 +78,7 @@ impl<C: ScalarFnVTable> BoundExpression<C> {
         }
     }
 
-    /// The same of all nodes, by a list of those that are still to be looked at.
+    /// The same for all nodes, by a list of those that are still to be visited.
     fn nodes_fit(&self, columns: &[Column], ctx: &mut ExecutionCtx) -> VortexResult<bool>
         ensures { AnswersUnlessMemory result (λ b. IsTrue b ↔ LeavesFit columns.now self.now) }
     {
@@ -97,7 +98,7 @@ impl<C: ScalarFnVTable> BoundExpression<C> {
         }
     }
 
-    /// Whether each leaf's column is there, of the leaf's type. A lone leaf takes no memory.
+    /// Whether each leaf's column exists and has the leaf's type. A lone leaf allocates nothing.
     fn leaves_fit(&self, columns: &[Column], ctx: &mut ExecutionCtx) -> VortexResult<bool>
         ensures answer { AnswersUnlessMemory result
             (λ b. IsTrue b ↔ LeavesFit columns.now self.now) }
@@ -109,11 +110,11 @@ impl<C: ScalarFnVTable> BoundExpression<C> {
         }
     }
 
-    /// Whether the columns serve the tree, and have its row count: what `execute` looks at first.
+    /// Whether the columns match the tree, and have its row count: what `execute` checks first.
     ///
     /// In order: E11 where a leaf's column is missing or of another type; E2 where a column has not
     /// `row_count` rows, with `left` the row count and `right` the length of the first such column.
-    /// A lone leaf takes no memory. Columns that serve have rows of their types.
+    /// A lone leaf allocates nothing. Columns that match have rows of their types.
     pub fn check_columns(
         &self,
         columns: &[Column],
@@ -168,8 +169,9 @@ impl<C: ScalarFnVTable> BoundExpression<C> {
         walk!(self, ctx.alloc(), node, inputs => node.compute_over(columns, row_count, inputs, ctx))
     }
 
-    /// The same, and a lone leaf's column is borrowed.
-    fn compute_or_lend<'a>(
+    /// What `execute` returns, over columns that `check_columns` has accepted: it does not check them
+    /// again. Fails where a row faults, as `execute` does, and where an allocation fails (E9).
+    pub fn execute_fitting<'a>(
         &self,
         columns: &'a [Column],
         row_count: usize,
@@ -190,7 +192,7 @@ impl<C: ScalarFnVTable> BoundExpression<C> {
     /// In order: E11 where a leaf's column is missing or of another type; E2 where a column has not
     /// `row_count` rows, with `left` the row count and `right` the length of the first such column;
     /// then the fault of the first call, in post-order, that faults in some row. A lone column leaf
-    /// is borrowed, and takes no memory.
+    /// is borrowed, and allocates nothing.
     pub fn execute<'a>(
         &self,
         columns: &'a [Column],
@@ -201,6 +203,6 @@ impl<C: ScalarFnVTable> BoundExpression<C> {
         ensures lent { Fits columns.now row_count self.now → LendsLeaf columns.now self.now result }
     {
         self.check_columns(columns, row_count, ctx)?;
-        self.compute_or_lend(columns, row_count, ctx)
+        self.execute_fitting(columns, row_count, ctx)
     }
 }

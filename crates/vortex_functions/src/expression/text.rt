@@ -10,7 +10,7 @@ use std::fmt;
 use vortex_columns::VortexResult;
 use vortex_interface::ScalarFnVTable;
 
-/// A node that is being written, and the part of its text that comes next.
+/// A node that is being written, and the next part of its text.
 #[derive(Drop)]
 struct Writing<'t, C: ScalarFnVTable> {
     node: &'t BoundExpression<C>,
@@ -18,7 +18,7 @@ struct Writing<'t, C: ScalarFnVTable> {
 }
 
 impl<C: ScalarFnVTable> BoundExpression<C> {
-    /// Writes a leaf or a literal; of a call nothing.
+    /// Writes a leaf or a literal; nothing for a call.
     fn write_leaf(&self, out: &mut String) -> VortexResult<()>
         ensures { AnswersUnlessMemory result (λ _. Appends out.old (leaf_text self.now) out.new) }
     {
@@ -33,8 +33,8 @@ impl<C: ScalarFnVTable> BoundExpression<C> {
         }
     }
 
-    /// Appends what stands before the `k`-th child of the text, or at its end; of a node that is no
-    /// call all of it. Answers the child that stands there.
+    /// Appends what comes before the `k`-th child of the text, or the end; all of it for a node
+    /// that is no call. Returns that child.
     fn write_part(
         &self,
         k: usize,
@@ -57,14 +57,14 @@ impl<C: ScalarFnVTable> BoundExpression<C> {
         }
     }
 
-    /// The tree as a text, as `(1i32 > $.a)`. Refuses for memory alone.
+    /// The tree as a text, as `(1i32 > $.a)`. Fails only where memory runs out.
     ///
-    /// A column leaf is `$.name`, a literal its value, an operator stands between its operands in
-    /// parentheses, and every other call is `id(a, b)`. What a caller's function writes of a call
+    /// A column leaf is `$.name`, a literal its value, an operator is between its operands in
+    /// parentheses, and every other call is `id(a, b)`. The text of a caller's function
     /// is its own.
     ///
-    /// It is written from left to right, each byte once, with a frame on the heap for each call
-    /// above.
+    /// Written from left to right, each byte once, with a frame on the heap for each enclosing
+    /// call.
     pub fn sql_text(&self, alloc: Global) -> VortexResult<String>
         ensures { AnswersUnlessMemory result (IsTextOf self.now) }
     {
@@ -93,7 +93,7 @@ impl<C: ScalarFnVTable> BoundExpression<C> {
     }
 }
 
-/// The bytes of `sql_text`; want of memory is an error.
+/// The bytes of `sql_text`; running out of memory is an error.
 impl<C: ScalarFnVTable> fmt::Display for BoundExpression<C> {
     ghost use Rattle.vortex_interface.specs.Printing.{tree_text};
 

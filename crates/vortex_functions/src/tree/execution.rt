@@ -1,4 +1,4 @@
-//! The rows of a call, over those of its children.
+//! The rows of a call, from those of its children.
 ghost use Rattle.std.specs.Prelude.{◌≡◌, List, Some, map};
 ghost use Rattle.std.specs.Cow.{cow_value};
 ghost use Rattle.vortex_columns.specs.ColumnView.{ColumnView};
@@ -12,8 +12,8 @@ use vortex_columns::{Column, ExecutionCtx, VortexResult};
 use vortex_interface::{ScalarFnVTable, VecExecutionArgs};
 
 impl<C: ScalarFnVTable, L: Leaf<C, C::Options>> Parts<C, L> {
-    /// The call's rows, where the inputs are the rows of its children over some columns: over those
-    /// columns they are the call's.
+    /// The call's rows, where the inputs are the rows of its children over some columns: the result
+    /// is the call's over those columns.
     pub(crate) fn call_rows<'a>(
         &self,
         inputs: Vec<Cow<'a, Column>>,

@@ -1,4 +1,4 @@
-//! What a tree is made of besides calls.
+//! The leaves of trees.
 ghost use Rattle.std.specs.Prelude.{◌≡◌, List, Option, None, Some, All, IfOk, map};
 ghost use Rattle.vortex_types.specs.TypeOf.{type_of};
 ghost use Rattle.vortex_interface.specs.Functions.{Function};
@@ -12,16 +12,16 @@ use std::marker::{Model, PhantomData};
 use vortex_columns::DType;
 use vortex_interface::ScalarFnVTable;
 
-/// A kind of leaf, of trees over a caller's functions `C` with their options `O`, and what stands
-/// beside such a tree: its row count, or nothing.
+/// A kind of leaf, of trees over a caller's functions `C` with their options `O`, and the context
+/// of such a tree: its row count, or none.
 ///
-/// Its laws say that a tree is seen as a pair of what it means and what stands beside it, that its
-/// children stand beside the same, and that a leaf is no call.
+/// Its laws say that the view of a tree is a pair of its meaning and its context, that its
+/// children have the same context, and that a leaf is no call.
 pub trait Leaf<C, O>: Sized + Drop {
-    /// What stands beside a tree.
+    /// The context of a tree.
     type Context: Copy + Drop;
 
-    /// What a tree is seen as.
+    /// The view of a tree.
     type Seen;
 
     ghost tree_of: { Self.Seen → Tree C O };
@@ -36,25 +36,25 @@ pub trait Leaf<C, O>: Sized + Drop {
 
     ghost see_of: { (a : Self.Seen) → see (tree_of a) (context_of a) ≡ a };
 
-    /// The rule that a mark speaks of.
+    /// The rule that a mark is about.
     ghost rule: { Tree C O → Option (Tree C O) };
 
-    /// What a leaf is seen as.
+    /// The view of a leaf.
     ghost seen: { Self → Tree C O };
 
-    /// Whether a leaf may stand there.
+    /// Whether a leaf may be present.
     ghost fits: { Self.Context → Self → Type 0 };
 
-    /// What is known of each tree: that what it holds has values of its types.
+    /// The invariant of each tree: its contents have values of their types.
     ghost whole: { Self.Seen → Type 0 };
 
-    /// The children of a tree, each as it is seen.
+    /// The views of the children of a tree.
     ghost children: { Self.Seen → List Self.Seen };
 
     ghost children_are: { (a : Self.Seen)
         → children a ≡ map (λ t. see t (context_of a)) (children_of (tree_of a)) };
 
-    /// A call is whole where what stands below it is.
+    /// A call is well formed if everything below it is.
     ghost whole_call: { (f : Function C O) (b : Self.Context) (xs : List Self.Seen)
         → All whole xs → All (λ a. context_of a ≡ b) xs
         → whole (see (call f (trees_of (map tree_of xs))) b) };
@@ -63,23 +63,23 @@ pub trait Leaf<C, O>: Sized + Drop {
 
     ghost leaf_settles: { (l : Self) → step rule (seen l) ≡ None };
 
-    /// A leaf that stands where a call was taken out.
+    /// A leaf that replaces a call that was taken out.
     fn blank(alloc: Global, context: Self::Context) -> Self
         ensures fits { Self.fits context result }
         ensures whole { Self.whole (Self.see (Self.seen result) context) };
 
-    /// A copy, which may stand where the leaf does.
+    /// A copy, valid wherever the leaf is.
     fn share(&self) -> Result<Self, AllocError>
         ensures seen { IfOk result (λ l. Self.seen l ≡ Self.seen self.now) }
         ensures fits { IfOk result
             (λ l. (b : Self.Context) → Self.fits b self.now → Self.fits b l) };
 
-    /// The type of its values, of a leaf that may stand somewhere.
+    /// The type of the values of a leaf that may be present somewhere.
     fn dtype(&self) -> &DType
         ensures { (m : Meaning C O) (b : Self.Context) → Self.fits b self.now
             → tree_type m (Self.seen self.now) ≡ Some (type_of result.now) };
 
-    // the same laws a second time, where a proof finds them: a Model can name those above alone
+    // the same laws again, where a proof finds them: a Model can name only those above
     ghost sees_tree: { (t : Tree C O) (b : Self.Context) → tree_of (see t b) ≡ t } = { tree_of_see };
 
     ghost sees_context: { (t : Tree C O) (b : Self.Context) → context_of (see t b) ≡ b } = { context_of_see };

@@ -1,4 +1,4 @@
--- Between: whether a value lies between two bounds, by Kleene's And of two comparisons.
+-- Between: whether a value is between two bounds, by Kleene's And of two comparisons.
 use Rattle.std.specs.Prelude.{◌≡◌, ◌||◌, ◌&&◌, ℕ, zero, suc, List, [], ◌∷◌, Option, Some, None}
 use Rattle.std.specs.Prelude.{◌++◌, Bool, true, false, codes, if◌then◌else◌, refl}
 use Rattle.std.specs.Str.{bytes_eq}
@@ -51,7 +51,7 @@ between_before options (suc zero) = codes " " ++ bound_text options.lower_strict
 between_before options (suc (suc zero)) = codes " " ++ bound_text options.upper_strict ++ codes " "
 between_before options (suc (suc (suc k))) = codes ")"
 
--- the lower bound is printed before what lies between
+-- the lower bound is printed before what is between
 abbrev pub between_printed : ℕ → ℕ
 between_printed zero = 1
 between_printed (suc zero) = 0
@@ -91,7 +91,7 @@ between_named (w ∷ lower ∷ upper ∷ []) =
     if bytes_eq w (codes "between") then bounds_of (bound_named lower) (bound_named upper) else None
 between_named ws = None
 
--- null is allowed by a type that is nullable if any of the three is
+-- a type that is nullable if any of the three is allows null
 three_allow : (x lower upper : Bool) (o : Option Bool)
     → Allows ((lower || x) || (x || upper)) o → Allows ((x || lower) || upper) o
 three_allow x lower upper (Some b) h = tt

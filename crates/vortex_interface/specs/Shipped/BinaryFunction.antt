@@ -64,7 +64,7 @@ operator_type Mul ts = arithmetic_type ts
 operator_type Div ts = arithmetic_type ts
 operator_type o ts = compared_type ts
 
--- where the types of an operator are refused
+-- the place in E3 for the types of an operator
 abbrev pub operator_place : Operator → MismatchPlace
 operator_place And = place.Boolean
 operator_place Or = place.Boolean
@@ -74,19 +74,19 @@ operator_place Mul = place.Arithmetic
 operator_place Div = place.Arithmetic
 operator_place o = place.Compare
 
--- the operator between its two operands
+-- the operator, between its two operands
 abbrev pub operator_before : List ℕ → ℕ → List ℕ
 operator_before operator zero = codes "("
 operator_before operator (suc zero) = codes " " ++ operator ++ codes " "
 operator_before operator (suc (suc k)) = codes ")"
 
--- And and Or weigh more where they are nullable, since rules turn them into more than one call
+-- And and Or weigh more if they are nullable, since rules turn them into more than one call
 abbrev pub operator_added : Operator → Bool → ℕ
 operator_added And nullable = if nullable then 3 else 1
 operator_added Or nullable = if nullable then 3 else 1
 operator_added o nullable = 5
 
--- arithmetic by the type of its operands, the others by their values alone
+-- arithmetic depends on the type of its operands, the others only on their values
 abbrev pub means_by : Option NumericOperator → Operator → List LogicalType → List Value → Outcome
 means_by None op ts vs = gives (of_two (operator_value op) vs)
 means_by (Some o) op ts vs = arithmetic_means o ts vs

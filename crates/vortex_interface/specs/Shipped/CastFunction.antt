@@ -1,4 +1,4 @@
--- Cast of a Bool to the nullable one; each value is kept.
+-- Cast of a Bool to nullable Bool; each value is unchanged.
 use Rattle.std.specs.Prelude.{◌≡◌, ℕ, List, [], ◌∷◌, Option, Some, None, Bool, true, false}
 use Rattle.std.specs.Prelude.{codes, refl}
 use Rattle.std.specs.Str.{bytes_eq}
@@ -16,11 +16,11 @@ use Rattle.vortex_interface.specs.RowFunction.{RowFunction, LawfulRow}
 abbrev pub cast_id : List ℕ
 cast_id = codes "vortex.cast"
 
--- the text of its options: the type of the answer
+-- the text of its options: the return type
 abbrev pub cast_options_text : List ℕ
 cast_options_text = codes "bool?"
 
--- nullable Bool, of any Bool
+-- nullable Bool, for any Bool
 abbrev pub cast_type : List LogicalType → Option LogicalType
 cast_type (bool_type n ∷ []) = Some (bool_type true)
 cast_type ts = None

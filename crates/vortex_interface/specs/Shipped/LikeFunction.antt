@@ -1,4 +1,4 @@
--- SQL's LIKE of a text and a pattern, and ILIKE past case; either turned over where negated.
+-- SQL's LIKE of a text and a pattern, and ILIKE ignoring case; either may be negated.
 use Rattle.std.specs.Prelude.{◌≡◌, ℕ, zero, suc, List, [], ◌∷◌, Option, Some, None, Bool, true}
 use Rattle.std.specs.Prelude.{◌++◌, false, ◌||◌, ◌==◌, codes, Any, if◌then◌else◌, refl}
 use Rattle.std.specs.Prelude.{encode_utf8}
@@ -25,17 +25,17 @@ abbrev pub like_argument : ℕ → List ℕ
 like_argument zero = codes "child"
 like_argument (suc i) = codes "pattern"
 
--- Bool of two texts, nullable if either is
+-- Bool for two texts, nullable if either is
 abbrev pub like_type : List LogicalType → Option LogicalType
 like_type (text_type n ∷ text_type m ∷ []) = Some (bool_type (n || m))
 like_type ts = None
 
--- the input is refused before the pattern
+-- the error for the input comes before that for the pattern
 abbrev pub like_place : List LogicalType → MismatchPlace
 like_place (text_type n ∷ ts) = place.LikePattern
 like_place ts = place.LikeInput
 
--- what stands between the two arguments, by negated and case_insensitive
+-- the words between the two arguments, by negated and case_insensitive
 abbrev pub words_by : Bool → Bool → List ℕ
 words_by false false = codes " like "
 words_by true false = codes " not like "
@@ -45,13 +45,13 @@ words_by true true = codes " not ilike "
 abbrev pub like_words : LikeOptions → List ℕ
 like_words options = words_by options.negated options.case_insensitive
 
--- the escape behind them, between quotes as it stands, or none there; the backslash is not told
+-- the escape after them, in quotes, or empty quotes for none; the backslash is not printed
 abbrev pub escape_text : Option ℕ → List ℕ
 escape_text None = codes " escape ''"
 escape_text (Some e) =
     if e == backslash then [] else codes " escape '" ++ encode_utf8 e ++ codes "'"
 
--- the words between the two arguments, and what is told of the escape
+-- the words between the two arguments, and the text of the escape
 abbrev pub like_before : LikeOptions → ℕ → List ℕ
 like_before options zero = []
 like_before options (suc zero) = like_words options
@@ -76,7 +76,7 @@ abbrev pub like_options : Bool → Bool → Option ℕ → LikeOptions
 like_options negated case_insensitive escape =
     record { negated = negated; case_insensitive = case_insensitive; escape = escape }
 
--- the words of scripts, which name the backslash as the escape
+-- the words of scripts, with the backslash as the escape
 abbrev pub like_word : List ℕ → Option LikeOptions
 like_word w =
     if bytes_eq w (codes "like") then Some (like_options false false (Some backslash))
@@ -134,8 +134,8 @@ like_lawful options = record {
   one_fault = λ ts us vs ws x y e g. cc;
 }
 
--- the number of the options, in the code of trees: that of the two tests, and four for each step to
--- the escape, which is no escape, then the character 0, then 1 and so on
+-- the number of the options, in the code of trees: that of the two flags, plus four times that of
+-- the escape: no escape, then the character 0, then 1 and so on
 abbrev pub number_by : Bool → Bool → ℕ
 number_by false false = 0
 number_by true false = 1

@@ -12,7 +12,7 @@ use Rattle.vortex_interface.specs.Arguments.{of_one, one_there}
 use Rattle.vortex_interface.specs.CallTexts.{unary_before, call_end}
 use Rattle.vortex_interface.specs.RowFunction.{RowFunction, LawfulRow}
 
--- whether it is null, or, negated, whether it is not
+-- whether it is null, or, if negated, whether it is not
 abbrev pub null_test_id : Bool → List ℕ
 null_test_id false = codes "vortex.is_null"
 null_test_id true = codes "vortex.is_not_null"

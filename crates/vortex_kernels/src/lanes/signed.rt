@@ -1,6 +1,6 @@
-//! The signed integers. A vector holds their bits, which tell a number that is known to fit its
-//! type; so the ranges are learned first, by a loop that keeps nothing and that the compiler drops.
-//! A mask of 64-bit lanes is made one of bytes, since a wide one is read 16 lanes at a time.
+//! The signed integers. Vectors hold their bits, which determine a number within the type's range;
+//! so a loop first proves the ranges, which the compiler removes. A mask of 64-bit lanes is
+//! narrowed to bytes, since a wide one is read 16 lanes at a time.
 
 use crate::lanes::LaneInteger;
 use std::simd::prelude::*;

@@ -1,4 +1,4 @@
-//! The unsigned integers. A mask of 64-bit lanes is made one of bytes, since a wide one is read 16
+//! The unsigned integers. A mask of 64-bit lanes is narrowed to bytes, since a wide one is read 16
 //! lanes at a time.
 
 use crate::lanes::LaneInteger;

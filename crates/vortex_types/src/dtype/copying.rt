@@ -1,4 +1,4 @@
-//! Types copied by a list of steps, so that no depth of a type takes stack.
+//! Types copied with a list of steps, so deep nesting uses no stack.
 ghost use Rattle.std.specs.Prelude.{◌≡◌, ◌<◌, ◌+◌, ◌*◌, ◌∷◌, IfOk, MatchResult, List};
 ghost use Rattle.std.specs.Prelude.{string_bytes, drop};
 ghost use Rattle.vortex_types.specs.TypeOf.{type_of};
@@ -10,20 +10,20 @@ ghost use Rattle.vortex_types.specs.LogicalTypes.{LogicalType};
 use crate::dtype::{DType, StructFields};
 use std::alloc::{AllocError, Global};
 
-/// A step of a copy, over the types that were made so far, the last on top.
+/// A step of a copy, over a stack of types made so far.
 #[derive(Clone, Copy)]
 pub(super) enum Step<'a> {
-    /// A copy of that type comes on top.
+    /// Pushes a copy of that type.
     Whole(&'a DType),
-    /// What lies on top is put into lists or maps as of that type.
+    /// Wraps the top into lists or maps like that type.
     Wrap(&'a DType),
-    /// What lies on top becomes a field of that name of the struct below.
+    /// Makes the top a field of that name of the struct below.
     Name(&'a String),
-    /// The fields from that place on become fields of the struct on top.
+    /// Adds the fields from that index on to the struct on top.
     Fields(&'a StructFields, usize),
 }
 
-/// What lies on top becomes a field of that name of the struct below.
+/// Makes the top a field of that name of the struct below.
 #[tactic(auto, using(crate::proofs::CopySteps::steps))]
 fn add_field(name: &String, made: &mut Vec<DType>) -> Result<(), AllocError>
     ensures { IfOk result
@@ -40,7 +40,7 @@ fn add_field(name: &String, made: &mut Vec<DType>) -> Result<(), AllocError>
 }
 
 impl StructFields {
-    /// The steps of the field at that place, and of those behind it.
+    /// The steps for the field at that index, and for the fields after it.
     #[tactic(auto, using(crate::proofs::CopySteps::steps))]
     fn list_field<'a>(&'a self, k: usize, steps: &mut Vec<Step<'a>>) -> Result<(), AllocError>
         ensures effect { IfOk result (λ _. (st : List LogicalType) → effects steps.new.items st
@@ -59,8 +59,8 @@ impl StructFields {
 }
 
 impl DType {
-    /// A copy of a type that is made of no other; of any other, the allocator of what it is made
-    /// of. Takes no memory.
+    /// A copy of a type without types inside; else the allocator of the types inside. Allocates
+    /// nothing.
     pub(super) fn leaf(&self) -> Result<DType, Global>
         ensures { MatchResult result
             (λ t. (type_of t ≡ type_of self.now) × (¬ HasParts (type_of self.now)))
@@ -79,7 +79,7 @@ impl DType {
         }
     }
 
-    /// A struct with one field more; any other type as it is.
+    /// A struct with one more field; any other type unchanged.
     fn with_field(self, name: String, dtype: DType) -> Result<DType, AllocError>
         ensures { IfOk result
             (λ t. type_of t ≡ grown (type_of self) (string_bytes name) (type_of dtype)) }
@@ -95,7 +95,7 @@ impl DType {
         }
     }
 
-    /// The steps of a type that is made of others.
+    /// The steps for a type with types inside.
     #[tactic(auto, using(crate::proofs::CopySteps::steps))]
     fn list_parts<'a>(
         &'a self,
@@ -132,7 +132,7 @@ impl DType {
         Ok(())
     }
 
-    /// Puts what lies on top into lists or maps as of this type.
+    /// Wraps the top into lists or maps like this type.
     #[tactic(auto, using(crate::proofs::CopySteps::steps))]
     fn wrap(&self, made: &mut Vec<DType>) -> Result<(), AllocError>
         ensures { IfOk result
@@ -188,7 +188,7 @@ impl DType {
         Ok(())
     }
 
-    /// A copy of a type that is made of others.
+    /// A copy of a type with types inside.
     #[tactic(auto, using(crate::proofs::CopySteps::steps))]
     pub(super) fn copy_by_steps(&self, alloc: Global) -> Result<DType, AllocError>
         ensures { IfOk result (λ t. type_of t ≡ type_of self.now) }

@@ -1,4 +1,4 @@
-//! What a type is taken apart into when it is dropped.
+//! The parts of a type while it is dropped.
 ghost use Rattle.std.specs.Prelude.{◌<◌};
 ghost use Rattle.vortex_types.specs.TypeParts.{type_weight, weight_within, deepest_within};
 ghost use Rattle.vortex_types.specs.declared.dtype.DType.{size-DType};
@@ -6,7 +6,7 @@ ghost use Rattle.vortex_types.specs.declared.dtype.DType.{size-DType};
 use crate::dtype::{DType, StructFields};
 use std::alloc::Global;
 
-/// The types that a type is made of.
+/// The types inside a type.
 pub(super) enum Within {
     One(Box<DType>),
     Two(Box<DType>, Box<DType>),
@@ -14,7 +14,7 @@ pub(super) enum Within {
 }
 
 impl Within {
-    /// The allocator of what holds them.
+    /// The allocator that they use.
     pub(super) fn allocator(&self) -> Global {
         match self {
             Within::One(element) => *Box::allocator(element),
@@ -25,7 +25,7 @@ impl Within {
 }
 
 impl DType {
-    /// Takes a type apart; none of a type that is made of no other.
+    /// Takes a type apart; no parts for a type without types inside.
     pub(super) fn within(self) -> Option<Within>
         ensures fewer { weight_within result < type_weight self }
         ensures falls { deepest_within result < size-DType self }

@@ -1,4 +1,4 @@
-//! When types are equal, and when they agree apart from nullability.
+//! Equality of types, and agreement apart from nullability.
 ghost use Rattle.std.specs.Prelude.{◌≡◌};
 ghost use Rattle.vortex_types.specs.TypeEquality.{alike_types};
 ghost use Rattle.vortex_types.specs.Agreement.{nulls_agree, types_agree, fields_agree};
@@ -58,7 +58,7 @@ impl Eq for StructFields {
 impl Nullability {
     ghost use Rattle.vortex_types.specs.TypeOf.{allows_null};
 
-    /// Whether they are the same, or need not be.
+    /// Whether they are equal; always true unless `exactly`.
     pub(super) fn agrees(self, other: Nullability, exactly: bool) -> bool
         ensures { result ≡ nulls_agree exactly (allows_null self) (allows_null other) }
     {
@@ -71,9 +71,9 @@ impl DType {
     ghost use Rattle.vortex_types.specs.TypeCopies.{HasParts};
     ghost use Rattle.vortex_types.specs.TypeOf.{type_of};
 
-    /// Whether the types agree: nullability counts where they are to agree exactly. Takes no memory
-    /// down to a thousand levels. What lies deeper stands in a list, and takes stack where that
-    /// cannot grow; of a type that is made of one other at each level, it takes neither.
+    /// Whether the types agree; with `exactly`, nullability counts. Allocates nothing down to a
+    /// thousand levels. Deeper types are kept in a list, and use stack where that cannot grow; a
+    /// type with one type inside at each level uses neither.
     pub(super) fn agrees(&self, other: &DType, exactly: bool) -> bool
         ensures { result ≡ types_agree exactly (type_of self.now) (type_of other.now) }
     {
@@ -83,7 +83,7 @@ impl DType {
         }
     }
 
-    /// Whether the types agree and are made of no other.
+    /// Whether the types agree and have no types inside.
     pub(super) fn agrees_as_leaf(&self, other: &DType, exactly: bool) -> bool
         ensures { result ≡ leaves_agree exactly (type_of self.now) (type_of other.now) }
     {
@@ -97,7 +97,7 @@ impl DType {
         }
     }
 
-    /// The allocator of what the type is made of; none of a type that is made of no other.
+    /// The allocator of the types inside; none for a type without them.
     pub(super) fn parts_allocator(&self) -> Option<Global>
         ensures { MatchOption result (¬ HasParts (type_of self.now))
             (λ _. HasParts (type_of self.now)) }
@@ -111,7 +111,7 @@ impl DType {
         }
     }
 
-    /// Whether the types agree in all but nullability, which is ignored at every level.
+    /// Whether the types agree apart from nullability, which is ignored at every level.
     pub fn eq_ignore_nullability(&self, other: &DType) -> bool
         ensures { result ≡ alike_types (type_of self.now) (type_of other.now) }
     {

@@ -9,14 +9,14 @@ use super::{DType, StructFields};
 use std::alloc::{AllocError, Global};
 use vortex_errors::{VortexError, VortexResult};
 
-/// Whether a name stands nowhere in the list.
+/// Whether the list does not contain a name.
 fn is_new(name: &String, names: &[String]) -> bool
     ensures { IsTrue result ↔ All (λ n. string_bytes n ≢ string_bytes name.now) names.now }
 {
     names.iter().all(|n| n.as_str() != name.as_str())
 }
 
-/// Whether no name stands twice.
+/// Whether the names are distinct.
 fn all_differ(names: &[String]) -> bool
     ensures { IsTrue result ↔ AllDiffer names.now }
 {
@@ -28,7 +28,7 @@ fn all_differ(names: &[String]) -> bool
     true
 }
 
-/// Each name with the type in its place.
+/// Each name with the type at its index.
 fn pairs(
     alloc: Global,
     names: Vec<String>,
@@ -48,7 +48,7 @@ impl StructFields {
     ghost use Rattle.vortex_types.specs.FieldNames.{field_name};
     ghost use Rattle.vortex_types.specs.ListedFields.{listed_fields, NameEachOnce};
 
-    /// No fields. Takes no memory.
+    /// No fields. Allocates nothing.
     pub fn new(alloc: Global) -> StructFields
         ensures { struct_fields result ≡ no_fields }
     {
@@ -57,8 +57,8 @@ impl StructFields {
         }
     }
 
-    /// One field more, behind the others; that its name is new is a condition. Refuses for memory
-    /// alone, and then nothing changes.
+    /// Appends a field, whose name must be new. Fails only where memory runs out, and then changes
+    /// nothing.
     pub fn push(&mut self, name: String, dtype: DType) -> VortexResult<()>
         requires { find_field (string_bytes name) (struct_fields self.old) ≡ None }
         ensures added { AnswersUnlessMemory result
@@ -69,7 +69,7 @@ impl StructFields {
         Ok(())
     }
 
-    /// Pairs names with types. E12 exactly where their counts differ or a name stands twice.
+    /// Pairs names with types. E12 exactly where the counts differ or a name occurs twice.
     pub fn try_new(
         alloc: Global,
         names: Vec<String>,
@@ -86,8 +86,8 @@ impl StructFields {
         })
     }
 
-    /// The fields that are listed, each a name with its type; both are copied. E12 exactly where a
-    /// name stands twice.
+    /// The listed fields, each a name and a type; both are copied. E12 exactly where a name occurs
+    /// twice.
     pub fn of(alloc: Global, fields: &[(&str, DType)]) -> VortexResult<StructFields>
         ensures { AnswersWhere result (NameEachOnce fields.now)
             (λ f. struct_fields f ≡ listed_fields fields.now) InvalidColumn }
@@ -124,7 +124,7 @@ impl StructFields {
         self.fields[k].0.as_str()
     }
 
-    /// The first field of that name: its place and its type. Takes no memory.
+    /// The first field with that name: its index and its type. Allocates nothing.
     pub fn find(&self, name: &str) -> Option<(usize, &DType)>
         ensures { MatchOption result (find_field name.now (struct_fields self.now) ≡ None)
             (λ found. find_field name.now (struct_fields self.now)

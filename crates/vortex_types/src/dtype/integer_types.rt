@@ -24,7 +24,7 @@ impl PType {
         }
     }
 
-    /// Whether a number lies in the range of the type.
+    /// Whether a number is in the range of the type.
     pub fn holds(&self, n: i128) -> bool
         ensures { IsTrue result ↔ FitsPType self.now n }
     {

@@ -1,5 +1,5 @@
-//! Types compared by calls within calls, which take no memory, down to a depth. What lies deeper is
-//! put to a list of pairs that are still to be compared, so that it takes no more stack.
+//! Pairs of types compared recursively, without allocating, down to a depth. Deeper pairs are put
+//! into a list, so they use no more stack.
 ghost use Rattle.std.specs.Prelude.{◌≡◌, ◌<◌, ◌≤◌, ◌+◌, ◌∷◌, ◌++◌, [], ◌&&◌, MatchOption};
 ghost use Rattle.vortex_types.specs.Agreement.{types_agree, fields_agree};
 ghost use Rattle.vortex_types.specs.TypeOf.{type_of, struct_fields};
@@ -9,18 +9,18 @@ ghost use Rattle.vortex_types.specs.TypePairs.{all_agree, pair_agrees, waiting, 
 use crate::dtype::{DType, StructFields};
 use std::alloc::Global;
 
-/// How many levels of a type go by calls within calls: more than types are known to have, in less
-/// than a megabyte of stack.
+/// The depth down to which types are compared recursively: deeper than known types, in less than a
+/// megabyte of stack.
 pub(super) const LEVELS: usize = 1_000;
 
-/// A type, and another with which it is to agree.
+/// A type, and the type that it is compared with.
 #[derive(Clone, Copy)]
 pub(super) struct Pair<'a> {
     pub(super) own: &'a DType,
     pub(super) other: &'a DType,
 }
 
-/// Pairs that are still to be compared. The first takes no memory.
+/// Pairs that are still to be compared. The first is stored without allocating.
 #[derive(Drop)]
 pub(super) struct Pairs<'a> {
     first: Option<Pair<'a>>,
@@ -28,7 +28,7 @@ pub(super) struct Pairs<'a> {
 }
 
 impl<'a> Pairs<'a> {
-    /// No pairs. Takes no memory.
+    /// No pairs. Allocates nothing.
     pub(super) fn new(alloc: Global) -> Pairs<'a>
         ensures { waiting result ≡ [] }
     {
@@ -38,7 +38,7 @@ impl<'a> Pairs<'a> {
         }
     }
 
-    /// That pair alone. Takes no memory.
+    /// Only that pair. Allocates nothing.
     pub(super) fn one(alloc: Global, pair: Pair<'a>) -> Pairs<'a>
         ensures { waiting result ≡ pair.entry ∷ [] }
     {
@@ -72,8 +72,8 @@ impl<'a> Pairs<'a> {
         true
     }
 
-    /// Compares the pair, but for types that lie deeper in it than so many levels, which are put to
-    /// the pairs. False only where some pair differs.
+    /// Compares the pair; pairs deeper than `levels` are added to the list. False only where some
+    /// pair differs.
     #[cycle(agree)]
     fn step(&mut self, pair: Pair<'a>, exactly: bool, levels: usize) -> bool
         ensures agree { (result && all_agree exactly (waiting self.new))
@@ -100,14 +100,13 @@ impl<'a> Pairs<'a> {
                 }
                 self.put(k, l, exactly, levels) && self.put(v, w, exactly, levels)
             }
-            // types made of no other, or of two kinds
+            // types without types inside, or of two kinds
             (own, other) => own.agrees_as_leaf(other, exactly),
         }
     }
 
-    /// One pair more. It is compared by a call where levels are left, at once where the type is made
-    /// of no other, and by calls again where there is no memory to keep it. False only where it
-    /// differs.
+    /// Adds a pair. It is compared recursively where levels are left, at once where the type has no
+    /// types inside, and recursively where the list cannot grow. False only where it differs.
     #[cycle(agree)]
     fn put(&mut self, own: &'a DType, other: &'a DType, exactly: bool, levels: usize) -> bool
         ensures agree { (result && all_agree exactly (waiting self.new))
@@ -133,8 +132,8 @@ impl<'a> Pairs<'a> {
         }
     }
 
-    /// The types of the fields as pairs, of which so many levels may be compared by calls. False only
-    /// where a name or a pair differs, or the counts of the fields.
+    /// Adds the types of the fields as pairs, with that many levels left. False only where a name,
+    /// a pair or the field count differs.
     #[cycle(agree)]
     pub(super) fn put_fields(
         &mut self,

@@ -1,5 +1,4 @@
-//! The texts of types, written behind what a text holds already. Each refuses for memory alone
-//! (E9).
+//! The texts of types, appended to a string. Each call fails only where memory runs out (E9).
 ghost use Rattle.std.specs.Prelude.{◌≡◌, ◌<◌, ◌+◌, ◌*◌, ◌++◌, IfOk, string_bytes};
 ghost use Rattle.vortex_errors.specs.Answers.{AnswersUnlessMemory};
 ghost use Rattle.vortex_types.specs.TypeOf.{type_of};
@@ -15,20 +14,20 @@ use std::alloc::{AllocError, Global};
 use std::fmt::{self, Write};
 use vortex_errors::VortexResult;
 
-/// A piece of a type's text, in a list from which the last is written first.
+/// A piece of a type's text, on a stack.
 #[derive(Clone, Copy)]
 enum Piece<'a> {
     /// That type.
     Whole(&'a DType),
-    /// What stands between the keys and the values of a map.
+    /// The separator between the keys and the values of a map.
     Comma,
-    /// What stands behind the types inside that type.
+    /// What follows the types inside that type.
     Ending(&'a DType),
-    /// The fields from that place on, each behind the separator but the first of all.
+    /// The fields from that index on, each after the separator except the first.
     Fields(&'a StructFields, usize),
 }
 
-/// The separator, but before the first text.
+/// The separator, except before the first text.
 pub fn write_separator(out: &mut String, separator: &str, k: usize) -> VortexResult<()>
     ensures { AnswersUnlessMemory result
         (λ _. Appends out.old (separator_before separator.now k) out.new) }
@@ -40,7 +39,7 @@ pub fn write_separator(out: &mut String, separator: &str, k: usize) -> VortexRes
 }
 
 impl DType {
-    /// What stands before the types inside; all but the mark where there are none.
+    /// What comes before the types inside; everything but the mark if there are none.
     fn opening(&self) -> &'static str
         ensures { result.now ≡ opening (type_of self.now) }
     {
@@ -57,7 +56,7 @@ impl DType {
         }
     }
 
-    /// What stands behind the types inside.
+    /// What follows the types inside.
     fn closing(&self) -> &'static str
         ensures { result.now ≡ closing (type_of self.now) }
     {
@@ -70,7 +69,7 @@ impl DType {
         }
     }
 
-    /// `?` where the type has null; Null itself needs no mark.
+    /// `?` if the type has null; Null itself needs no mark.
     fn null_mark(&self) -> &'static str
         ensures { result.now ≡ null_mark (type_of self.now) }
     {
@@ -91,7 +90,7 @@ impl DType {
         Ok(())
     }
 
-    /// Writes what stands behind the types inside, with the mark.
+    /// Writes what follows the types inside, with the mark.
     fn write_ending(&self, out: &mut String) -> VortexResult<()>
         ensures { AnswersUnlessMemory result
             (λ _. Appends out.old (ending (type_of self.now)) out.new) }
@@ -102,7 +101,7 @@ impl DType {
         Ok(())
     }
 
-    /// Writes a type that is made of no other.
+    /// Writes a type without types inside.
     fn write_flat(&self, out: &mut String) -> VortexResult<()>
         requires { ¬ HasParts (type_of self.now) }
         ensures { AnswersUnlessMemory result
@@ -113,7 +112,7 @@ impl DType {
         Ok(())
     }
 
-    /// Lists what stands behind the opening of a type that is made of others.
+    /// Lists what follows the opening of a type with types inside.
     fn list_pieces<'a>(&'a self, pieces: &mut Vec<Piece<'a>>) -> Result<(), AllocError>
         requires { HasParts (type_of self.now) }
         ensures text { IfOk result (λ _.
@@ -137,7 +136,7 @@ impl DType {
         Ok(())
     }
 
-    /// Writes a type that is made of others, by a list of what is still to be written.
+    /// Writes a type with types inside, using a list of pieces that are still to be written.
     fn write_by_pieces(&self, alloc: Global, out: &mut String) -> VortexResult<()>
         ensures { AnswersUnlessMemory result
             (λ _. Appends out.old (type_text (type_of self.now)) out.new) }
@@ -152,7 +151,7 @@ impl DType {
 
     /// Writes the type, with `?` where it has null: `null`, `bool`, `i32?`, `utf8`, `binary?`,
     /// `struct{a: i32, b: utf8?}`, `list[i32?]?`, `list[u8; 4]` of four elements each, `map[utf8,
-    /// i32?]` of keys and values. Refuses for memory alone.
+    /// i32?]` of keys and values. Fails only where memory runs out.
     pub fn write_text(&self, out: &mut String) -> VortexResult<()>
         ensures { AnswersUnlessMemory result
             (λ _. Appends out.old (type_text (type_of self.now)) out.new) }
@@ -164,7 +163,7 @@ impl DType {
     }
 }
 
-/// The bytes of `write_text`; want of memory is an error.
+/// The bytes of `write_text`; running out of memory is an error.
 impl fmt::Debug for DType {
     ghost use Rattle.std.specs.Prelude.{Some};
     ghost use Rattle.vortex_types.specs.TypeOf.{type_of};
@@ -189,7 +188,7 @@ impl fmt::Debug for DType {
 }
 
 impl StructFields {
-    /// Writes the name of the field at that place, and lists its type and the fields behind it.
+    /// Writes the name of the field at that index, and lists its type and the fields after it.
     fn write_field<'a>(
         &'a self,
         k: usize,
@@ -215,7 +214,7 @@ impl StructFields {
 }
 
 impl<'a> Piece<'a> {
-    /// Writes the beginning of a piece, and lists what stands behind it.
+    /// Writes the beginning of a piece, and lists what follows it.
     fn write(self, out: &mut String, pieces: &mut Vec<Piece<'a>>) -> VortexResult<()>
         ensures text { AnswersUnlessMemory result (λ _.
             string_bytes out.new ++ pieces_text pieces.new.items

@@ -1,4 +1,4 @@
-//! Values copied by a list of what stands around, so that no depth of a value takes stack.
+//! Values copied with a list of the enclosing lists, so deep nesting uses no stack.
 ghost use Rattle.std.specs.Prelude.{◌≡◌, ◌≤◌, IfOk};
 ghost use Rattle.vortex_types.specs.ValueOf.{value_of, values_or_null};
 ghost use Rattle.vortex_types.specs.ValueParts.{value_weight};
@@ -7,16 +7,17 @@ ghost use Rattle.vortex_types.specs.ValueCopies.{begun_value, begun_weight};
 use crate::scalar_value::ScalarValue;
 use std::alloc::AllocError;
 
-/// A copy that is begun.
+/// A started copy.
 #[derive(Drop)]
 pub(super) enum Begun<'a> {
     /// A copy of a value that is no list.
     Whole(ScalarValue),
-    /// The values of a list, of which none is copied.
+    /// The values of a list, none copied yet.
     Items(&'a Vec<Option<ScalarValue>>),
 }
 
-/// A list around: copies of its first values, and those behind the one that is being copied.
+/// An enclosing list: copies of its first values, and the values after the one that is being
+/// copied.
 #[derive(Drop)]
 struct Copying<'a> {
     copies: Vec<Option<ScalarValue>>,
@@ -24,7 +25,7 @@ struct Copying<'a> {
 }
 
 impl ScalarValue {
-    /// Begins a copy, which is whole unless the value is a list.
+    /// Starts a copy, which is whole unless the value is a list.
     pub(super) fn begin_copy(&self) -> Result<Begun<'_>, AllocError>
         ensures value { IfOk result (λ begun. begun_value begun ≡ value_of self.now) }
         ensures weight { IfOk result (λ begun. begun_weight begun ≤ value_weight self.now) }
@@ -42,7 +43,7 @@ impl ScalarValue {
     }
 }
 
-/// Copies of the values. The lists around one that is being copied stand in a list.
+/// Copies of the values. Enclosing lists are kept in a list.
 pub(super) fn copy_items(
     root: &Vec<Option<ScalarValue>>,
 ) -> Result<Vec<Option<ScalarValue>>, AllocError>

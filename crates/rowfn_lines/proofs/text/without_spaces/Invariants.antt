@@ -4,7 +4,7 @@ use denote.Shadow.{shadow}
 use Rattle.rowfn_lines.specs.Lines.{after_spaces}
 use Rattle.rowfn_lines.proofs.text.without_spaces.Given as goal
 
--- no space that was skipped counts
+-- the spaces that were skipped do not count
 abbrev pub invariant-loop-after : goal.invariant-loop-after
 invariant-loop-after l = shadow (Utf8 l.rest) × (after_spaces l.rest ≡ after_spaces l.text)
 

@@ -4,7 +4,7 @@ use denote.Shadow.{shadow}
 use Rattle.rowfn_lines.specs.Lines.{after_spaces, words_of, word_in}
 use Rattle.rowfn_lines.proofs.text.words.Given as goal
 
--- what is left to read goes after what was read, and begins with no space
+-- the rest comes after what was read, and does not begin with a space
 abbrev pub invariant-loop-rest : goal.invariant-loop-rest
 invariant-loop-rest l =
     shadow (Utf8 l.rest) × (after_spaces l.rest ≡ l.rest)

@@ -94,19 +94,19 @@ pub returns-in-Utf8 : goal.returns-in-Utf8
 returns-in-Utf8 c =
     let v = validity_of c.args.validity in
     subst
-    (λ (w : ArrowValues). AnswersValues c.read_texts.result (layout_of w) v c.args.from c.args.count)
+    (λ (w : ArrowValues). AnswersValues c.read_spanned_texts.result (layout_of w) v c.args.from c.args.count)
     (sym c.in-Utf8.is)
-    (texts_answer (offsets true (map (λ x. x) c.in-Utf8.offsets.now) c.in-Utf8.data.now) v c.args.from c.args.count c.read_texts.result
-    c.read_texts.ensures)
+    (texts_answer (offsets true (map (λ x. x) c.in-Utf8.offsets.now) c.in-Utf8.data.now) v c.args.from c.args.count c.read_spanned_texts.result
+    c.read_spanned_texts.ensures)
 
 pub returns-in-LargeUtf8 : goal.returns-in-LargeUtf8
 returns-in-LargeUtf8 c =
     let v = validity_of c.args.validity in
     subst
-    (λ (w : ArrowValues). AnswersValues c.read_texts-in-LargeUtf8.result (layout_of w) v c.args.from c.args.count)
+    (λ (w : ArrowValues). AnswersValues c.read_spanned_texts-in-LargeUtf8.result (layout_of w) v c.args.from c.args.count)
     (sym c.in-LargeUtf8.is)
-    (texts_answer (offsets true (map (λ x. x) c.in-LargeUtf8.offsets.now) c.in-LargeUtf8.data.now) v c.args.from c.args.count c.read_texts-in-LargeUtf8.result
-    c.read_texts-in-LargeUtf8.ensures)
+    (texts_answer (offsets true (map (λ x. x) c.in-LargeUtf8.offsets.now) c.in-LargeUtf8.data.now) v c.args.from c.args.count c.read_spanned_texts-in-LargeUtf8.result
+    c.read_spanned_texts-in-LargeUtf8.ensures)
 
 pub returns-in-Binary : goal.returns-in-Binary
 returns-in-Binary c =
@@ -130,10 +130,10 @@ pub returns-in-Utf8View : goal.returns-in-Utf8View
 returns-in-Utf8View c =
     let v = validity_of c.args.validity in
     subst
-    (λ (w : ArrowValues). AnswersValues c.read_texts-in-Utf8View.result (layout_of w) v c.args.from c.args.count)
+    (λ (w : ArrowValues). AnswersValues c.read_texts.result (layout_of w) v c.args.from c.args.count)
     (sym c.in-Utf8View.is)
-    (texts_answer (views true c.in-Utf8View.views.now (buffers_of c.in-Utf8View.buffers.now)) v c.args.from c.args.count c.read_texts-in-Utf8View.result
-    c.read_texts-in-Utf8View.ensures)
+    (texts_answer (views true c.in-Utf8View.views.now (buffers_of c.in-Utf8View.buffers.now)) v c.args.from c.args.count c.read_texts.result
+    c.read_texts.ensures)
 
 pub returns-in-BinaryView : goal.returns-in-BinaryView
 returns-in-BinaryView c =

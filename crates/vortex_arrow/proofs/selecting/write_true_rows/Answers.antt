@@ -1,68 +1,85 @@
-use Rattle.std.proofs.Common.{◌*◌, ◌+◌, ◌∙◌, pos, ap, length, map, take, arith}
-use Rattle.vortex_arrow.proofs.Parts.{drop_further}
-use Rattle.vortex_arrow.proofs.Selected.{all_true, few_true, no_more_true, word_count, word_there}
-use Rattle.vortex_arrow.proofs.Selected.{word_numbers}
+use Rattle.std.proofs.Common.{◌∙◌, subst, ap, length, map, pos, arith}
+use Rattle.vortex_arrow.specs.declared.true_words.TrueWords.{TrueWords}
+use Rattle.vortex_arrow.specs.declared.true_words.TrueWords.TheVariants as form
+use Rattle.vortex_arrow.specs.TrueWords.{TellsTrueRows, true_bit}
+use Rattle.vortex_arrow.specs.Written.{places}
+use Rattle.vortex_arrow.proofs.Selected.{true_places}
 use Rattle.vortex_arrow.proofs.selecting.write_true_rows.Goals as goal
 
-pub write_places-count-requires : goal.write_places-count-requires
-write_places-count-requires g c =
+pub write_set-requires : goal.write_set-requires
+write_set-requires g c =
     let rows = c.args.column.now.rows in
-    let k = c.loop-k.k in
-    let word = c.true_word.result in
-    let there = word_there rows k word c.true_word.ensures in
+    let told =
+    subst (λ (w : TrueWords). TellsTrueRows w rows) c.in-Listed.is c.true_words.ensures in
+    let test = true_bit (form.Listed c.in-Listed.rows) in
+    let all = ap (places test) c.len-count.ensures ∙ true_places rows test told.each in
     record {
-      room =
-          omega (
-            arith,
-            c.loop-k.invariant.count,
-            word_count rows k word c.true_word.ensures,
-            few_true rows (64 * (k + 1)),
-            c.requires.room,
-            c.loop-k.auto.numbers,
-          );
-      end =
-          omega (
-            arith,
-            c.loop-k.invariant.count,
-            word_count rows k word c.true_word.ensures,
-            few_true rows (64 * (k + 1)),
-            no_more_true rows,
-          );
-      most = λ j lt set. omega (arith, there j lt set, c.requires.most);
-      fits = λ j lt set. omega (arith, there j lt set);
+      rows = λ i lt. told.there i (omega (arith, lt, c.len-count.ensures));
+      room = omega (arith, ap length all, c.requires.room);
+      most = omega (arith, c.len-count.ensures, c.requires.most);
     }
 
-pub loop-k-preserved : goal.loop-k-preserved
-loop-k-preserved g c =
-    let f = g.I.IndexType.number in
+pub returns-in-Listed : goal.returns-in-Listed
+returns-in-Listed g c =
     let rows = c.args.column.now.rows in
-    let k = c.loop-k.k in
-    let word = c.true_word.result in
+    let told =
+    subst (λ (w : TrueWords). TellsTrueRows w rows) c.in-Listed.is c.true_words.ensures in
+    let test = true_bit (form.Listed c.in-Listed.rows) in
+    let all = ap (places test) c.len-count.ensures ∙ true_places rows test told.each in
     record {
-      ends = c.loop-k.invariant.ends;
-      count =
-          omega (
-            arith,
-            c.write_places-count.ensures.end,
-            c.loop-k.invariant.count,
-            word_count rows k word c.true_word.ensures,
-          );
-      numbers =
-          word_numbers rows k word c.true_word.ensures f (take c.loop-k.count c.loop-k.numbers)
-          (take c.write_places-count.result c.write_places-count.new.numbers)
-          c.loop-k.invariant.numbers c.write_places-count.ensures.numbers;
-      behind =
-          c.write_places-count.ensures.behind
-          ∙ drop_further c.loop-k.numbers c.args.numbers.now c.loop-k.count c.write_places-count.result
-          (omega (arith, c.write_places-count.ensures.end)) c.loop-k.invariant.behind;
+      count = c.write_set.ensures.end ∙ ap length all;
+      numbers = c.write_set.ensures.numbers ∙ ap (map pos) all;
+      behind = c.write_set.ensures.behind;
     }
 
-pub returns : goal.returns
-returns g c =
+pub write_set-requires-in-Joint : goal.write_set-requires-in-Joint
+write_set-requires-in-Joint g c =
     let rows = c.args.column.now.rows in
-    let all = all_true rows (64 * c.loop-k.k) (omega arith) in
+    let told =
+    subst (λ (w : TrueWords). TellsTrueRows w rows) c.in-Joint.is c.true_words.ensures in
+    let test = true_bit (form.Joint c.in-Joint.rows) in
+    let all = ap (places test) c.len-count.ensures ∙ true_places rows test told.each in
     record {
-      count = c.loop-k.invariant.count ∙ ap length all;
-      numbers = c.loop-k.invariant.numbers ∙ ap (map pos) all;
-      behind = c.loop-k.invariant.behind;
+      rows = λ i lt. told.there i (omega (arith, lt, c.len-count.ensures));
+      room = omega (arith, ap length all, c.requires.room);
+      most = omega (arith, c.len-count.ensures, c.requires.most);
+    }
+
+pub returns-in-Joint : goal.returns-in-Joint
+returns-in-Joint g c =
+    let rows = c.args.column.now.rows in
+    let told =
+    subst (λ (w : TrueWords). TellsTrueRows w rows) c.in-Joint.is c.true_words.ensures in
+    let test = true_bit (form.Joint c.in-Joint.rows) in
+    let all = ap (places test) c.len-count.ensures ∙ true_places rows test told.each in
+    record {
+      count = c.write_set-in-Joint.ensures.end ∙ ap length all;
+      numbers = c.write_set-in-Joint.ensures.numbers ∙ ap (map pos) all;
+      behind = c.write_set-in-Joint.ensures.behind;
+    }
+
+pub write_set-requires-in-Same : goal.write_set-requires-in-Same
+write_set-requires-in-Same g c =
+    let rows = c.args.column.now.rows in
+    let told =
+    subst (λ (w : TrueWords). TellsTrueRows w rows) c.in-Same.is c.true_words.ensures in
+    let test = true_bit (form.Same c.in-Same.rows) in
+    let all = ap (places test) c.len-count.ensures ∙ true_places rows test told.each in
+    record {
+      rows = λ i lt. told.there i (omega (arith, lt, c.len-count.ensures));
+      room = omega (arith, ap length all, c.requires.room);
+      most = omega (arith, c.len-count.ensures, c.requires.most);
+    }
+
+pub returns-in-Same : goal.returns-in-Same
+returns-in-Same g c =
+    let rows = c.args.column.now.rows in
+    let told =
+    subst (λ (w : TrueWords). TellsTrueRows w rows) c.in-Same.is c.true_words.ensures in
+    let test = true_bit (form.Same c.in-Same.rows) in
+    let all = ap (places test) c.len-count.ensures ∙ true_places rows test told.each in
+    record {
+      count = c.write_set-in-Same.ensures.end ∙ ap length all;
+      numbers = c.write_set-in-Same.ensures.numbers ∙ ap (map pos) all;
+      behind = c.write_set-in-Same.ensures.behind;
     }

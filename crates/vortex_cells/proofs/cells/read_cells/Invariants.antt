@@ -4,7 +4,7 @@ use Rattle.vortex_cells.specs.CellValues.{cell_values}
 use Rattle.vortex_cells.specs.Cells.{cell_in, AreCells}
 use Rattle.vortex_cells.proofs.cells.read_cells.Given as goal
 
--- what the cells so far say
+-- the values of the cells so far
 abbrev pub invariant-loop-cell : goal.invariant-loop-cell
 invariant-loop-cell g l =
     let n = allows_null l.nullability in

@@ -2,7 +2,7 @@ use Rattle.std.proofs.Common.{◌≤◌}
 use Rattle.vortex_cells.proofs.ShortNumbers.{SaysFrom, most_of}
 use Rattle.vortex_cells.proofs.digits.few_digits.Given as goal
 
--- what is left to read goes on from the number so far, which has as many digits
+-- the rest continues the number so far, which has as many digits
 abbrev pub invariant-loop-byte : goal.invariant-loop-byte
 invariant-loop-byte l = record {
   says : SaysFrom l.digits l.byte-index l.number;

@@ -1,6 +1,6 @@
 use Rattle.vortex_cells.proofs.ShortNumbers.{SaysFrom}
 use Rattle.vortex_cells.proofs.digits.many_digits.Given as goal
 
--- what is left to read goes on from the number so far
+-- the rest continues the number so far
 abbrev pub invariant-loop-byte : goal.invariant-loop-byte
 invariant-loop-byte l = SaysFrom l.digits l.byte-index l.number

@@ -6,7 +6,7 @@ use Rattle.vortex_cells.specs.Cells.{cell_in, cell_apart, AreCells}
 use Rattle.vortex_cells.specs.Fields.{field_values}
 use Rattle.vortex_cells.proofs.fields.read_fields.Given as goal
 
--- what the fields of the rows so far say, and that there is room for all
+-- the values of the fields of the rows so far, and capacity for all
 abbrev pub invariant-loop-row : goal.invariant-loop-row
 invariant-loop-row g l =
     let n = allows_null l.nullability in

@@ -1,7 +1,7 @@
 use Rattle.std.proofs.Common.{◌<◌, ℕ, List, Bor, IsUtf8, [], slice_index_or}
 use Rattle.vortex_columns.proofs.lists.learn_texts.Given as goal
 
--- what is read past the end
+-- reading past the end
 abbrev pub no_text : Bor (List ℕ)
 no_text = record { ref_ptr = (0, 0); now = [] }
 

@@ -6,7 +6,7 @@ use Rattle.vortex_columns.specs.ValueSizes.{size_from}
 use Rattle.vortex_columns.proofs.WrittenFrames.{rest, rests, AreThere, size_around}
 use Rattle.vortex_columns.proofs.value_text.write_sequence.Given as goal
 
--- what is written, and what is still to come, are the whole text
+-- what is written and what is left are the whole text
 abbrev pub invariant-loop-current : goal.invariant-loop-current
 invariant-loop-current l =
     (string_bytes l.out ++ (rest l.typed l.current ++ rests l.typed l.above.items)

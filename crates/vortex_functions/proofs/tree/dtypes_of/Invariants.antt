@@ -5,7 +5,7 @@ use Rattle.vortex_interface.specs.Trees.{trees_of}
 use Rattle.vortex_interface.specs.Eval.{tree_types}
 use Rattle.vortex_functions.proofs.tree.dtypes_of.Given as goal
 
--- the types so far, of trees that are whole
+-- the types so far, of well-formed trees
 abbrev pub invariant-loop-child : goal.invariant-loop-child
 invariant-loop-child g l =
     (tree_types g.C.ScalarFnVTable.meaning

@@ -3,7 +3,7 @@ use Rattle.std.specs.Vec.{vec_capacity}
 use Rattle.vortex_kernels.specs.Numeric.{results_by, AreResults, TellsFaults}
 use Rattle.vortex_kernels.proofs.constant_operand.bounded_products.Given as goal
 
--- the products so far, the room for the rest, and what is told of the rows so far
+-- the products so far, the capacity for the rest, and the flag of the rows so far
 abbrev pub invariant-loop-i : goal.invariant-loop-i
 invariant-loop-i g l =
     (vec_capacity l.values ≡ l.len)

@@ -5,7 +5,7 @@ use Rattle.vortex_kernels.specs.Faults.{AreHeldResults}
 use Rattle.vortex_kernels.specs.Numeric.{results_by}
 use Rattle.vortex_kernels.proofs.constant_operand.held_quotients.Given as goal
 
--- the quotients so far, and the room for the rest
+-- the quotients so far, and the capacity for the rest
 abbrev pub invariant-loop-i : goal.invariant-loop-i
 invariant-loop-i g l =
     (vec_capacity l.values ≡ l.len)

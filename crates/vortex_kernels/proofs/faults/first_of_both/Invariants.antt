@@ -3,7 +3,7 @@ use Rattle.std.specs.Prelude.{slice_index_or}
 use Rattle.vortex_kernels.specs.Faults.{IsOfBoth}
 use Rattle.vortex_kernels.proofs.faults.first_of_both.Given as goal
 
--- no place so far is set in both
+-- no index so far is set in both
 abbrev pub invariant-loop-k : goal.invariant-loop-k
 invariant-loop-k l =
     (l.k-end ≡ length l.left / 64 + 1)

@@ -3,7 +3,7 @@ use Rattle.std.specs.Vec.{vec_capacity}
 use Rattle.vortex_kernels.specs.Numeric.{row_results, AreResults, TellsFaults}
 use Rattle.vortex_kernels.proofs.numeric.apply_rows.Given as goal
 
--- the results so far, the room for the rest, and what the evidence tells of the rows so far
+-- the results so far, the capacity for the rest, and the flag of the rows so far
 abbrev pub invariant-loop-i : goal.invariant-loop-i
 invariant-loop-i g l =
     (vec_capacity l.values ≡ l.len)

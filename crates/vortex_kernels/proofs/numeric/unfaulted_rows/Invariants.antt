@@ -4,7 +4,7 @@ use Rattle.vortex_kernels.specs.Faults.{AreHeldResults}
 use Rattle.vortex_kernels.specs.Numeric.{row_results}
 use Rattle.vortex_kernels.proofs.numeric.unfaulted_rows.Given as goal
 
--- the results so far, of which no row faults, and the room for the rest
+-- the results so far, of which no row faults, and the capacity for the rest
 abbrev pub invariant-loop-i : goal.invariant-loop-i
 invariant-loop-i g l =
     (vec_capacity l.values ≡ l.len)

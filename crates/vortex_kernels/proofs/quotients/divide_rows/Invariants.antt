@@ -4,7 +4,7 @@ use Rattle.vortex_checked.specs.Exact.{quotient}
 use Rattle.vortex_kernels.specs.Faults.{AreToldResults, pair_results}
 use Rattle.vortex_kernels.proofs.quotients.divide_rows.Given as goal
 
--- the results so far, what is told of them, and the room for the rest
+-- the results so far, their flag, and the capacity for the rest
 abbrev pub invariant-loop-i : goal.invariant-loop-i
 invariant-loop-i g l =
     (vec_capacity l.values ≡ vec_capacity l.fn.values)

@@ -4,7 +4,7 @@ use Rattle.vortex_checked.specs.Exact.{quotient}
 use Rattle.vortex_kernels.specs.Faults.{AreToldResults, pair_results}
 use Rattle.vortex_kernels.proofs.quotients.guess_rows.Given as goal
 
--- the rows before are kept, and what is told of them holds of the guesses too, unless one is off
+-- earlier rows are unchanged, and their flag holds for the estimates too, unless one is wrong
 abbrev pub invariant-loop-i : goal.invariant-loop-i
 invariant-loop-i g l =
     let p = g.T.NativePType.ptype in

@@ -4,7 +4,7 @@ use Rattle.vortex_checked.specs.Exact.{quotient}
 use Rattle.vortex_kernels.specs.Faults.{AreToldResults, pair_results}
 use Rattle.vortex_kernels.proofs.quotients.guessed_quotients.Given as goal
 
--- the results of the rows so far, and the room for the rest
+-- the results of the rows so far, and the capacity for the rest
 abbrev pub invariant-loop-k : goal.invariant-loop-k
 invariant-loop-k g l =
     (vec_capacity l.values ≡ l.len)

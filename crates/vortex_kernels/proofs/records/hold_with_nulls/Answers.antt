@@ -18,16 +18,16 @@ returns g c =
     AnswersUnlessMemory-weaker c.collect_words.result
     (AreRows (length l)
     (λ i.
-    cond (presence_bit c.presence_of.result i && presence_bit c.presence_of-2.result i)
+    cond (presence_bit c.validity_words.result i && presence_bit c.validity_words-2.result i)
     (shifted_bit c.shifted.result i)
-    (g.P.WordFormula.says (presence_bit c.presence_of.result i)
-    (presence_bit c.presence_of-2.result i))))
+    (g.P.WordFormula.says (presence_bit c.validity_words.result i)
+    (presence_bit c.validity_words-2.result i))))
     (AreHeld op (row_orders l r) (length l))
     (λ bits are.
-    nulls_least_rows op l r (presence_bit c.presence_of.result) (presence_bit c.presence_of-2.result)
-    (shifted_bit c.shifted.result) g.P.WordFormula.says values bits c.requires
-    c.presence_of.ensures.each
-    (λ i lt. c.presence_of-2.ensures.each i (omega (arith, lt, c.requires)))
+    nulls_least_rows op l r (presence_bit c.validity_words.result)
+    (presence_bit c.validity_words-2.result) (shifted_bit c.shifted.result) g.P.WordFormula.says values bits c.requires
+    c.validity_words.ensures.each
+    (λ i lt. c.validity_words-2.ensures.each i (omega (arith, lt, c.requires)))
     c.in_ok-values.ensures
     (λ i lt. c.shifted.ensures.each i (omega (arith, lt, c.in_ok-values.ensures.count)))
     g.met.P.Comparison.of_bits are)

@@ -4,8 +4,8 @@ use Rattle.vortex_like.specs.Tokens.{Token}
 use Rattle.vortex_like.proofs.FirstBytes.{first_needed}
 use Rattle.vortex_like.proofs.column_test.said_by_first.Goals as goal
 
-pub said_behind-requires-clause-needed : goal.said_behind-requires-clause-needed
-said_behind-requires-clause-needed g c = λ bytes u e.
+pub tested_after-requires-clause-needed : goal.tested_after-requires-clause-needed
+tested_after-requires-clause-needed g c = λ bytes u e.
     let tokens = c.args.tests.0.now in
     let may = c.in_ok-first.first.may.items in
     first_needed tokens.case_insensitive tokens.tokens.items may

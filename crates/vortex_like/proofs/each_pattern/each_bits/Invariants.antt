@@ -8,7 +8,7 @@ use Rattle.vortex_views.specs.LentValue.{row_value}
 use Rattle.vortex_like.specs.Rows.{AreTold, IsLikeBit}
 use Rattle.vortex_like.proofs.each_pattern.each_bits.Given as goal
 
--- the rows so far, the room for the rest, and the patterns that are kept
+-- the rows so far, the capacity for the rest, and the cached patterns
 abbrev pub invariant-loop-i : goal.invariant-loop-i
 invariant-loop-i g l =
     (vec_capacity l.bits ≡ l.len)

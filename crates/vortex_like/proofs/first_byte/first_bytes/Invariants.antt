@@ -4,7 +4,7 @@ use Rattle.std.specs.Vec.{vec_capacity}
 use Rattle.vortex_like.specs.FirstBytes.{admits}
 use Rattle.vortex_like.proofs.first_byte.first_bytes.Given as goal
 
--- the bytes so far, and the room for the rest
+-- the bytes so far, and the capacity for the rest
 abbrev pub invariant-loop-b : goal.invariant-loop-b
 invariant-loop-b l =
     (vec_capacity l.may ≡ 256) × (length l.may.items ≡ l.b)

@@ -5,7 +5,7 @@ use Rattle.vortex_like.specs.SmallLetters.{cased}
 use Rattle.vortex_like.specs.TextRows.{texts_of}
 use Rattle.vortex_like.proofs.gathered.held_rows.Given as goal
 
--- the texts so far, and room for those of a batch
+-- the texts so far, and the capacity for those of a batch
 abbrev pub invariant-loop-all : goal.invariant-loop-all
 invariant-loop-all l = record {
   none : length l.held.items ≡ 0;

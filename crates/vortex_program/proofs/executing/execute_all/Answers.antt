@@ -1,11 +1,9 @@
-use Rattle.std.proofs.Common.{map, add-one, sym, subst}
-use Rattle.std.specs.Cow.{cow_value}
+use Rattle.std.proofs.Common.{map, add-one}
 use Rattle.vortex_errors.proofs.Answering.{UnlessMemory-weaker}
-use Rattle.vortex_columns.specs.ColumnView.{ColumnView}
 use Rattle.vortex_interface.specs.Execution.{Executes, RefusesExecution}
 use Rattle.vortex_functions.specs.Walks.{AllMean}
 use Rattle.vortex_program.specs.Executing.{RefusesFirst}
-use Rattle.vortex_program.proofs.Answered.{all_more, answers_refusal, owned_is, refuses_at}
+use Rattle.vortex_program.proofs.Answered.{all_more, answers_refusal, refuses_at}
 use Rattle.vortex_functions.specs.Fixed.{fixed_meaning}
 use Rattle.vortex_program.proofs.executing.execute_all.Goals as goal
 
@@ -25,7 +23,7 @@ returns-in_err-column c =
     refuses_at m cs n (λ a. a.tree) answers c.loop-answer.executed.items
     c.loop-answer.answer-index answer e c.loop-answer-test.true c.answer-item.is
     c.loop-answer.invariant h)
-    c.in_err-column.field-0.0 c.in_err-column.ensures.answer)
+    c.in_err-column.field-0.0 c.in_err-column.ensures)
 
 pub loop-answer-preserved : goal.loop-answer-preserved
 loop-answer-preserved c =
@@ -35,10 +33,7 @@ loop-answer-preserved c =
     let k = c.loop-answer.answer-index in
     let answers = c.args.answers.now in
     let answer = c.answer-item.result in
-    let owned = c.in_ok-into_owned.field-0 in
-    let same = owned_is owned (cow_value c.in_ok-column.column) c.in_ok-into_owned.ensures.ok in
     rw c.in_ok-push.ensures.items
-    (all_more (Executes m cs n) (λ a. a.tree) answers c.loop-answer.executed.items k _ answer owned
-    (add-one k) c.loop-answer-test.true c.answer-item.is c.loop-answer.invariant
-    (subst (λ (d : ColumnView). Executes m cs n answer.tree d) (sym same)
-    c.in_ok-column.ensures.answer))
+    (all_more (Executes m cs n) (λ a. a.tree) answers c.loop-answer.executed.items k _ answer
+    c.in_ok-column.column (add-one k) c.loop-answer-test.true c.answer-item.is
+    c.loop-answer.invariant c.in_ok-column.ensures)

@@ -33,8 +33,8 @@ returns-in-Some c =
       there = there;
     }
 
-pub returns-in-None : goal.returns-in-None
-returns-in-None c =
+pub returns : goal.returns
+returns c =
     let cs = c.args.columns.now in
     let ts = trees_of c.args.answers.now in
     let suspect = c.in_ok-row.ensures in

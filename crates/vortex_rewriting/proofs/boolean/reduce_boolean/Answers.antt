@@ -21,7 +21,7 @@ child-requires-2 g c =
     (type_of c.node_dtype.result.now) c.requires.call c.node_dtype.ensures in
     omega arith
 
--- the node, by its operands
+-- the node, from its operands
 operands : (g : Over) (c : In_ok-right g)
     → (g.T.ReduceTree.seen c.args.node.now).tree
     ≡ operated c.args.operator (g.T.ReduceTree.seen c.in_ok-left.left).tree

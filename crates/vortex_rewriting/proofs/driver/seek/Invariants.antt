@@ -2,7 +2,7 @@ use Rattle.std.proofs.Common.{length}
 use Rattle.vortex_rewriting.proofs.Walking.{IsWalk, steps_left}
 use Rattle.vortex_rewriting.proofs.driver.seek.Given as goal
 
--- the whole tree is as it was, and what is done is settled
+-- the whole tree is unchanged, and what is done is in normal form
 abbrev pub invariant-loop-done : goal.invariant-loop-done
 invariant-loop-done g l =
     let B = g.L.Leaf in

@@ -3,7 +3,7 @@ use Rattle.vortex_interface.specs.Trees.{children_of}
 use Rattle.vortex_rewriting.specs.Frames.{partly}
 use Rattle.vortex_rewriting.proofs.frames.closed.Given as goal
 
--- further children as they were are no change
+-- more unchanged children are no change
 abbrev pub invariant-loop-done : goal.invariant-loop-done
 invariant-loop-done g l =
     let tree = g.L.Leaf.tree_of in

@@ -3,8 +3,8 @@ use Rattle.std.specs.Option.{option_map}
 use Rattle.vortex_types.specs.TypeOf.{type_of}
 use Rattle.vortex_rewriting.proofs.places.made_at.Goals as goal
 
-pub way_up-requires-clause-same_type : goal.way_up-requires-clause-same_type
-way_up-requires-clause-same_type g c =
+pub path_up-requires-clause-same_type : goal.path_up-requires-clause-same_type
+path_up-requires-clause-same_type g c =
     let l = g.L.Leaf in
     let place = l.tree_of c.in_ok-way.way.place.now in
     let made : g.L.RewriteLeaf.applied c.args.rule place ≡ Some (l.tree_of c.in-Some.new) =

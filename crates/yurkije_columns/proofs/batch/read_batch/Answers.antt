@@ -1,22 +1,13 @@
 use Rattle.std.proofs.Common.{◌≡◌, ◌∙◌, length, map, ap, arith}
 use Rattle.std.proofs.lemmas.List.{take_all}
-use Rattle.vortex_types.specs.LogicalTypes.{field_count}
-use Rattle.vortex_types.specs.TypeOf.{struct_fields}
 use Rattle.vortex_arrow.specs.Columns.{arrow_column}
 use Rattle.yurkije_columns.proofs.Serving.{wrong_at, first_serve_more, read_more}
 use Rattle.yurkije_columns.proofs.batch.read_batch.Goals as goal
 
 pub returns-in-Err : goal.returns-in-Err
 returns-in-Err c =
-    let each : length c.args.columns.now ≡ field_count (struct_fields c.args.scope.now) = omega (
-      arith,
-      c.if-columns-len.false,
-      c.if-len-columns.false,
-      c.len.ensures,
-      c.len-2.ensures,
-    ) in
-    wrong_at _ _ _ _ _ _ _ c.loop-k-test.true each c.dtype.ensures c.in-Err.ensures
-    c.loop-k.invariant.serve
+    wrong_at _ _ _ _ _ _ _ c.loop-k-test.true c.in_ok-check_count.ensures c.dtype.ensures
+    c.in-Err.ensures c.loop-k.invariant.serve
 
 pub loop-k-preserved : goal.loop-k-preserved
 loop-k-preserved c = record {
@@ -31,19 +22,12 @@ loop-k-preserved c = record {
 }
 
 pub returns : goal.returns
-returns c =
-    let each : length c.args.columns.now ≡ field_count (struct_fields c.args.scope.now) = omega (
-      arith,
-      c.if-columns-len.false,
-      c.if-len-columns.false,
-      c.len.ensures,
-      c.len-2.ensures,
-    ) in (
-      record {
-        each = each;
-        serve = λ i below. c.loop-k.invariant.serve i (omega (arith, below, c.loop-k-test.false));
-      },
-      c.loop-k.invariant.columns
-          ∙ ap (map arrow_column)
-          (take_all c.loop-k.k c.args.columns.now (omega (arith, c.loop-k-test.false))),
-    )
+returns c = (
+  record {
+    each = c.in_ok-check_count.ensures;
+    serve = λ i below. c.loop-k.invariant.serve i (omega (arith, below, c.loop-k-test.false));
+  },
+  c.loop-k.invariant.columns
+      ∙ ap (map arrow_column)
+      (take_all c.loop-k.k c.args.columns.now (omega (arith, c.loop-k-test.false))),
+)

@@ -13,9 +13,9 @@ returns c =
     let v = c.deref.result.now in
     let n = a.len in
     let starts = a.starts.items in
-    subst (λ (x : ColumnView). AnswersUnlessMemory c.rows_of.result
+    subst (λ (x : ColumnView). AnswersUnlessMemory c.bool_runs.result
     (IsDecoded (run_column x starts n)))
     c.deref.ensures
-    (AnswersUnlessMemory-weaker c.rows_of.result (HasRunRows v starts n)
+    (AnswersUnlessMemory-weaker c.bool_runs.result (HasRunRows v starts n)
     (IsDecoded (run_column v starts n)) (runs_decoded v starts n)
-    (rw c.as_slice.ensures.value at c.rows_of.ensures))
+    (rw c.as_slice.ensures.value at c.bool_runs.ensures))

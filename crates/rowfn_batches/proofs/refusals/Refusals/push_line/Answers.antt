@@ -1,6 +1,6 @@
 use Rattle.std.proofs.Common.{◌∙◌, ap}
 use Rattle.std.specs.Prelude.{unwrap_or}
-use Rattle.rowfn_batches.proofs.ToldRows.{line_added}
+use Rattle.rowfn_batches.proofs.ReportedRows.{line_added}
 use Rattle.rowfn_batches.proofs.refusals.Refusals.push_line.Goals as goal
 
 pub returns-clause-line : goal.returns-clause-line

@@ -1,6 +1,6 @@
 use Rattle.std.proofs.Common.{◌≡◌, ◌∙◌, Some, None}
 use Rattle.std.proofs.lemmas.Result.{err_from_is_err_and}
-use Rattle.rowfn_batches.specs.Taking.{by_condition}
+use Rattle.rowfn_batches.specs.Filtering.{by_condition}
 use Rattle.rowfn_batches.proofs.Passed.{taken_all, taken_those}
 use Rattle.rowfn_batches.proofs.stream.Stream.take.Goals as goal
 

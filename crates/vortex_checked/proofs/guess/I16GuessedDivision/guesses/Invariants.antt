@@ -1,6 +1,6 @@
 use Rattle.std.specs.Bool.{⊤}
 use Rattle.vortex_checked.proofs.guess.I16GuessedDivision.guesses.Given as goal
 
--- nothing is claimed of guesses
+-- no contract on guesses
 abbrev pub invariant-loop-k : goal.invariant-loop-k
 invariant-loop-k l = ⊤

@@ -1,7 +1,7 @@
 use Rattle.std.specs.Bool.{⊤}
 use Rattle.vortex_checked.proofs.guess.I64GuessedDivision.may_serve.Given as goal
 
--- nothing is claimed of it
+-- no contract on it
 abbrev pub invariant-loop-left : goal.invariant-loop-left
 invariant-loop-left l = ⊤
 

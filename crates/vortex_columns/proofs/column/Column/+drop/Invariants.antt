@@ -6,7 +6,7 @@ use Rattle.vortex_columns.proofs.column.Column.+drop.Given as goal
 abbrev pub decreases-drop : goal.decreases-drop
 decreases-drop l = goal.size-drop l
 
--- what is still to go lies deeper than the column itself
+-- what is still to be dropped is deeper than the column itself
 abbrev pub invariant-loop-next : goal.invariant-loop-next
 invariant-loop-next l =
     max (deepest_within l.next) (deepest l.list.items) ≤ type_depth l.fn.self.dtype

@@ -22,7 +22,7 @@ take_validity-requires c =
     (opened_reach c.self.inside _ c.self.view_is c.self.invariant (rows_in c.args.rows) c.requires
     _ _ (ap stored_of c.in-Rows.is))
 
--- what is taken of values and of their validity is taken of the storage
+-- taken values with their taken validity are the taken storage
 kept_rows : (rows qs : List ℕ) (k : Kept) (v w : ValidityView) (s : Stored) → s ≡ kept k v
     → qs ≡ rows → w ≡ taken_validity qs v → kept (taken_kept rows k) w ≡ taken_stored rows s
 kept_rows rows qs k v w s at same is =

@@ -10,7 +10,7 @@ use Rattle.vortex_columns.proofs.column.Column.take_rows.Goals as goal
 alike : (t u : Taking) → t.column ≡ u.column → t.rows ≡ u.rows → t ≡ u
 alike t u columns rows i = record { column = columns i; rows = rows i }
 
--- rows of a column that is whole
+-- rows of a whole column
 abbrev here : In-Some → Taking
 here c = record { column = c.in-Whole.column; rows = rows_in c.in-Whole.rows }
 

@@ -21,7 +21,7 @@ use Rattle.vortex_columns.proofs.column.Elements.open_rows.Goals.{in-Map+in_ok-e
 use Rattle.vortex_columns.proofs.column.Elements.open_rows.Goals.{Joined-self}
 use Rattle.vortex_columns.proofs.column.Elements.open_rows.Goals as goal
 
--- what is read there of values of one kind
+-- what is read of values of one kind
 lie : (e f : Elements) (ps qs : List ℕ) → e ≡ f → qs ≡ ps → ArePlaces ps (kept_of e)
     → ArePlaces qs (kept_of f)
 lie e f ps qs is same h =
@@ -104,13 +104,13 @@ pub take_maps-requires-clause-sizes : goal.take_maps-requires-clause-sizes
 take_maps-requires-clause-sizes c k d h =
     (lie _ _ _ _ c.in-Map.is c.places-places.ensures c.requires.places k d h).1
 
--- what is made of values of one kind is what is taken of them
+-- the result for values of one kind is what is taken of them
 made : (e f : Elements) (g h : Elements) (ps qs : List ℕ) → e ≡ f → g ≡ h → qs ≡ ps
     → kept_of h ≡ taken_kept qs (kept_of f) → kept_of g ≡ taken_kept ps (kept_of e)
 made e f g h ps qs is out same so =
     ap kept_of out ∙ so ∙ (λ i. taken_kept (same i) (kept_of (sym is i)))
 
--- what is made is what is taken
+-- the result is what is taken
 so : (c : Joined-self)
     → kept_of c.match-self.elements ≡ taken_kept (rows_in c.args.rows) (kept_of c.args.self.now)
 so c =

@@ -10,7 +10,7 @@ use Rattle.vortex_functions.proofs.tree.Tree.+drop.Goals.{in-Call-replace+in-Som
 use Rattle.vortex_functions.proofs.tree.Tree.+drop.Goals.{in-Call-replace+in_default-into_inner}
 use Rattle.vortex_functions.proofs.tree.Tree.+drop.Goals as goal
 
--- a child of what was listed is smaller than the tree
+-- a child of a listed tree is smaller than the tree
 pub drop-requires : goal.drop-requires
 drop-requires g t c κs within =
     let l = g.L.Leaf in
@@ -40,7 +40,7 @@ drop-requires g t c κs within =
     ) in
     search (rules, fewer)
 
--- what stands in a tree that was taken down is one node
+-- the content of a tree that was taken apart is one node
 pub drop-tree-requires : goal.drop-tree-requires
 drop-tree-requires g t c κs within =
     let l = g.L.Leaf in
@@ -57,7 +57,7 @@ drop-tree-requires g t c κs within =
     omega (arith, c.loop-tree.invariant, listed, positive (l.tree_of c.in-Some-pop.tree), one) in
     search (rules, fewer)
 
--- a tree less is listed, and its children more where it was taken down
+-- one tree less is listed, and its children more if it was taken apart
 pub loop-tree-smaller : goal.loop-tree-smaller
 loop-tree-smaller g t c =
     let l = g.L.Leaf in

@@ -80,7 +80,7 @@ invariant_of-result g c =
       g.L.Leaf.whole_call f c.args.context xs whole c.requires,
     )
 
--- the call, and what stands beside it
+-- the call, and its context
 pub returns : goal.returns
 returns g c =
     let m = g.C.ScalarFnVTable.meaning in

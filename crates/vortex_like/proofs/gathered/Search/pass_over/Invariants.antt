@@ -4,7 +4,7 @@ use Rattle.vortex_like.specs.Gathered.{IsHeldAt}
 use Rattle.vortex_like.specs.Rows.{AreTold}
 use Rattle.vortex_like.proofs.gathered.Search.pass_over.Given as goal
 
--- the texts so far, and room for the rest
+-- the texts so far, and the capacity for the rest
 abbrev pub invariant-loop-held : goal.invariant-loop-held
 invariant-loop-held l = record {
   room : vec_capacity l.held ≡ vec_capacity l.initial.held;

@@ -14,7 +14,7 @@ returns-clause-kept g c =
     (ap (λ a. tree_type g.C.ScalarFnVTable.meaning (tree_in a)) (sym c.array.ensures)
     ∙ c.dtype-typed.ensures.dtype) c.reduce_call.result c.reduce_call.ensures
 
--- of an array that is typed in each row
+-- for an array that is typed in each row
 pub returns-clause-values : goal.returns-clause-values
 returns-clause-values g c =
     values_kept g.C.ScalarFnVTable.meaning (array_of c.args.node.now)

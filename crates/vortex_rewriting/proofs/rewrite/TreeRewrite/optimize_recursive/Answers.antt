@@ -34,7 +34,7 @@ returns g c =
       stopped = run.stopped;
       lighter = run_lighter m rule o.steps t u k typed run.run lightens;
       fewer = fewer;
-      -- as many steps as the tree weighs are too many
+      -- a tree does not have as many steps as its weight
       ends = λ shipped enough.
           must_be_done o.done o.steps c.args.limit run.stopped
           (let few = fewer shipped in omega (arith, few, enough));

@@ -6,7 +6,7 @@ use Rattle.vortex_types.proofs.dtype.DType.+drop.Given as goal
 abbrev pub decreases-drop : goal.decreases-drop
 decreases-drop l = goal.size-drop l
 
--- what is still to go lies deeper than the type itself
+-- what is still to be dropped is deeper than the type itself
 abbrev pub invariant-loop-next : goal.invariant-loop-next
 invariant-loop-next l =
     max (deepest_within l.next) (deepest l.list.items) < size-DType l.fn.self

@@ -3,7 +3,7 @@ use Rattle.vortex_types.specs.TypeOf.{type_of}
 use Rattle.vortex_types.specs.TypeCopies.{tops, effects, costs}
 use Rattle.vortex_types.proofs.dtype.DType.copy_by_steps.Given as goal
 
--- the steps that are left lead to the copy alone
+-- the remaining steps lead exactly to the copy
 abbrev pub invariant-loop-step : goal.invariant-loop-step
 invariant-loop-step l = effects l.steps.items (tops l.made.items) ≡ type_of l.self ∷ []
 

@@ -4,7 +4,7 @@ use Rattle.vortex_types.specs.TypeOf.{fields_view}
 use Rattle.vortex_types.proofs.FieldSearch.{after_some}
 use Rattle.vortex_types.proofs.dtype.StructFields.find.Given as goal
 
--- what is found in all of them stands after those that were passed
+-- the match in the whole list is after the fields that were passed
 abbrev pub invariant-loop-i : goal.invariant-loop-i
 invariant-loop-i l =
     find_field l.name (fields_view l.field-items)

@@ -6,7 +6,7 @@ use Rattle.vortex_types.proofs.scalar_value.ScalarValue.+drop.Given as goal
 abbrev pub decreases-drop : goal.decreases-drop
 decreases-drop l = goal.size-drop l
 
--- what is still to go lies deeper than the value itself
+-- what is still to be dropped is deeper than the value itself
 abbrev pub invariant-loop-item : goal.invariant-loop-item
 invariant-loop-item l = deepest_value l.list.items < size-ScalarValue l.fn.self
 

@@ -4,7 +4,7 @@ use Rattle.vortex_columns.specs.PairOrder.{ArePaired, order_from, size_left, pai
 use Rattle.vortex_columns.proofs.PairsAround.{AreAround, order_around, size_around}
 use Rattle.vortex_columns.proofs.cell.order.Comparing.+order.Given as goal
 
--- what is left of the two that are compared, and then what is left of those around
+-- what is left of the two that are compared, then what is left of those around
 abbrev pub invariant-loop-above : goal.invariant-loop-above
 invariant-loop-above l =
     (ordering_then (order_from l.here) (order_around (pairs_in l.above)) ≡ order_from l.self)

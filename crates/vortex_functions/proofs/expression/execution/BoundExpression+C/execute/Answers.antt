@@ -3,7 +3,7 @@ use Rattle.vortex_errors.proofs.Answering.{UnlessMemory-weaker}
 use Rattle.vortex_interface.specs.Execution.{RefusesColumns, RefusesExecution, misfit}
 use Rattle.vortex_functions.proofs.expression.execution.BoundExpression+C.execute.Goals as goal
 
--- columns that do not serve
+-- columns that do not match
 pub returns-in_err-check_columns-clause-answer : goal.returns-in_err-check_columns-clause-answer
 returns-in_err-check_columns-clause-answer g c =
     let m = g.C.ScalarFnVTable.meaning in

@@ -4,7 +4,7 @@ use Rattle.vortex_types.specs.TypePairs.{all_agree, waiting, weight_of}
 use Rattle.vortex_types.proofs.Agreeing.{agree_from}
 use Rattle.vortex_types.proofs.dtype.pairs.Pairs.+agree.Given as goal
 
--- the fields that are left agree, and the pairs, exactly where all do
+-- the remaining fields and pairs agree exactly where all do
 abbrev pub invariant-put_fields-loop-k : goal.invariant-put_fields-loop-k
 invariant-put_fields-loop-k l =
     ((agree_from l.exactly l.k l.own.fields.items l.other.fields.items
@@ -14,7 +14,7 @@ invariant-put_fields-loop-k l =
     × (weight_of (waiting l.self) + type_weights (drop l.k l.own.fields.items)
     ≤ weight_of (waiting l.fn.self) + type_weights l.own.fields.items)
 
--- how many types there are, and of a type who calls whom
+-- the number of types; and for a type, the recursion order
 abbrev pub decreases-put : goal.decreases-put
 decreases-put l = 2 * type_weight l.own.now + 1
 

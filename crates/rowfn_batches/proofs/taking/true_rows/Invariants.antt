@@ -1,7 +1,0 @@
-use Rattle.std.proofs.Common.{◌≡◌}
-use Rattle.rowfn_batches.specs.Taking.{true_rows}
-use Rattle.rowfn_batches.proofs.taking.true_rows.Given as goal
-
--- the rows so far in which the column is true
-abbrev pub invariant-loop-row : goal.invariant-loop-row
-invariant-loop-row l = l.rows.items ≡ true_rows l.column l.row

@@ -1,4 +1,0 @@
-//! Tests of expressions as people write them.
-
-mod syntax;
-mod writes;

@@ -1,4 +1,0 @@
-//! Tests of expressions over a scope.
-
-mod depth;
-mod written;

@@ -1,0 +1,212 @@
+//! What a sign after an operand does to what is read.
+ghost use Rattle.std.specs.Prelude.{◌≡◌, option_map};
+ghost use Rattle.vortex_syntax.specs.Tokens.{token_in};
+ghost use Rattle.vortex_syntax.specs.Reading as specs;
+ghost use Rattle.vortex_syntax.specs.Reading.{frames_in, steps_in, seen, Gives, and_behind};
+
+use crate::frame::{Frame, Mode};
+use crate::levels::{AND, ATOM, IS, LITERAL, OR, PREDICATE, SUM, left, own};
+use crate::reading::Reading;
+use crate::step::{LikeKind, WrittenOperator};
+use crate::token::{Sign, Token};
+use std::alloc::AllocError;
+
+/// The operators except And, by their signs.
+fn operator_of(sign: Sign) -> Option<WrittenOperator>
+    ensures { result ≡ specs.operator_of sign }
+{
+    match sign {
+        Sign::Or => Some(WrittenOperator::Or),
+        Sign::Equal => Some(WrittenOperator::Equal),
+        Sign::NotEqual => Some(WrittenOperator::NotEqual),
+        Sign::Less => Some(WrittenOperator::Less),
+        Sign::LessOrEqual => Some(WrittenOperator::LessOrEqual),
+        Sign::Greater => Some(WrittenOperator::Greater),
+        Sign::GreaterOrEqual => Some(WrittenOperator::GreaterOrEqual),
+        Sign::Plus => Some(WrittenOperator::Add),
+        Sign::Minus => Some(WrittenOperator::Sub),
+        Sign::Times => Some(WrittenOperator::Mul),
+        Sign::Divide => Some(WrittenOperator::Div),
+        _ => None,
+    }
+}
+
+impl<'a> Reading<'a> {
+    /// `and`, which ends the lower bound of a pending BETWEEN, or else joins.
+    fn join_or_bound(&mut self, level: u8) -> Result<Option<Mode>, AllocError>
+        ensures { Gives result self.new
+            (and_behind level (frames_in self.old) (steps_in self.old)) }
+    {
+        if let Some(Frame::Between(negated)) = self.top() {
+            self.at = self.top_sign();
+            self.drop_top();
+            self.wait(Frame::Bounded(negated))?;
+            return Ok(Some(Mode::Want));
+        }
+        self.wait_if(AND, AND, Frame::Join(WrittenOperator::And), level)
+    }
+
+    fn is_of(&mut self, level: u8) -> Option<Mode>
+        ensures { option_map (seen self.new) result
+            ≡ specs.is_behind level (frames_in self.old) (steps_in self.old) }
+    {
+        if level < IS || IS < self.top_hole() {
+            None
+        } else {
+            Some(Mode::Is)
+        }
+    }
+
+    /// `not`, which BETWEEN or LIKE may follow.
+    fn not_of(&mut self, level: u8) -> Option<Mode>
+        ensures { option_map (seen self.new) result
+            ≡ specs.not_behind level (frames_in self.old) (steps_in self.old) }
+    {
+        if level < SUM || PREDICATE < self.top_hole() {
+            None
+        } else {
+            Some(Mode::Negating(level))
+        }
+    }
+
+    fn close_of(&mut self) -> Option<Mode>
+        ensures { option_map (seen self.new) result
+            ≡ specs.close_behind (frames_in self.old) (steps_in self.old) }
+    {
+        match self.top() {
+            Some(Frame::Open) => {
+                self.drop_top();
+                Some(Mode::Have(ATOM))
+            }
+            _ => None,
+        }
+    }
+
+    fn as_of(&mut self) -> Option<Mode>
+        ensures { option_map (seen self.new) result
+            ≡ specs.as_behind (frames_in self.old) (steps_in self.old) }
+    {
+        match self.top() {
+            Some(Frame::Cast) => {
+                self.drop_top();
+                Some(Mode::CastType)
+            }
+            _ => None,
+        }
+    }
+
+    fn escape_of(&mut self) -> Option<Mode>
+        ensures { option_map (seen self.new) result
+            ≡ specs.escape_behind (frames_in self.old) (steps_in self.old) }
+    {
+        match self.top() {
+            Some(Frame::Like(kind)) => {
+                self.at = self.top_sign();
+                self.drop_top();
+                Some(Mode::Escaping(kind))
+            }
+            _ => None,
+        }
+    }
+
+    /// BETWEEN or LIKE after an operand.
+    #[tactic(auto, unfolding(crate::specs::Reading::predicate))]
+    fn predicate(
+        &mut self,
+        negated: bool,
+        level: u8,
+        sign: Sign,
+    ) -> Result<Option<Mode>, AllocError>
+        ensures { Gives result self.new
+            (specs.predicate negated level (frames_in self.old) (steps_in self.old) sign) }
+    {
+        let frame = match sign {
+            Sign::Between => Frame::Between(negated),
+            Sign::Like => Frame::Like(LikeKind {
+                negated,
+                case_insensitive: false,
+            }),
+            Sign::Ilike => Frame::Like(LikeKind {
+                negated,
+                case_insensitive: true,
+            }),
+            _ => return Ok(None),
+        };
+        self.shift(PREDICATE, SUM, frame, level)
+    }
+
+    /// A sign after an operand that is no operator.
+    #[tactic(auto, unfolding(crate::specs::Reading::word_behind))]
+    fn word_behind(&mut self, level: u8, sign: Sign) -> Result<Option<Mode>, AllocError>
+        ensures { Gives result self.new
+            (specs.word_behind level (frames_in self.old) (steps_in self.old) sign) }
+    {
+        match sign {
+            Sign::And => {
+                let level = self.settle(AND, level)?;
+                self.join_or_bound(level)
+            }
+            Sign::Is => {
+                let level = self.settle(IS, level)?;
+                Ok(self.is_of(level))
+            }
+            Sign::Not => {
+                let level = self.settle(PREDICATE, level)?;
+                Ok(self.not_of(level))
+            }
+            Sign::Close => {
+                let _level = self.settle(OR, level)?;
+                Ok(self.close_of())
+            }
+            Sign::As => {
+                let _level = self.settle(OR, level)?;
+                Ok(self.as_of())
+            }
+            Sign::Escape => {
+                let _level = self.settle(SUM, level)?;
+                Ok(self.escape_of())
+            }
+            Sign::Typed => Ok(if level < LITERAL {
+                None
+            } else {
+                Some(Mode::Typing)
+            }),
+            _ => self.predicate(false, level, sign),
+        }
+    }
+
+    fn sign_behind(&mut self, level: u8, sign: Sign) -> Result<Option<Mode>, AllocError>
+        ensures { Gives result self.new (specs.operator_or_word level (frames_in self.old)
+            (steps_in self.old) sign (specs.operator_of sign)) }
+    {
+        match operator_of(sign) {
+            Some(operator) => {
+                let frame = Frame::Join(operator);
+                self.shift(own(operator), left(operator), frame, level)
+            }
+            None => self.word_behind(level, sign),
+        }
+    }
+
+    /// A token after an operand.
+    pub fn behind(&mut self, level: u8, token: Token<'a>) -> Result<Option<Mode>, AllocError>
+        ensures { Gives result self.new
+            (specs.behind level (frames_in self.old) (steps_in self.old) (token_in token.entry)) }
+    {
+        match token {
+            Token::Sign(sign) => self.sign_behind(level, sign),
+            _ => Ok(None),
+        }
+    }
+
+    /// A token after an operand and `not`.
+    pub fn negating(&mut self, level: u8, token: Token<'a>) -> Result<Option<Mode>, AllocError>
+        ensures { Gives result self.new
+            (specs.negating level (frames_in self.old) (steps_in self.old) (token_in token.entry)) }
+    {
+        match token {
+            Token::Sign(sign) => self.predicate(true, level, sign),
+            _ => Ok(None),
+        }
+    }
+}

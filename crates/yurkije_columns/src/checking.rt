@@ -1,0 +1,127 @@
+//! The columns of a batch, checked where they lie.
+ghost use Rattle.std.specs.Prelude.{◌≡◌, ◌<◌, ◌+◌, ◌^◌, ◌↔◌, ℕ, IsTrue, MatchResult};
+ghost use Rattle.vortex_types.specs.TypeOf.{type_of, struct_fields};
+ghost use Rattle.vortex_arrow.specs.Columns.{IsWellFormed};
+ghost use Rattle.vortex_arrow.specs.Refusals.{AreLongEnough, MayBeNulls, RefusesNull, TellsOf};
+ghost use Rattle.yurkije_columns.specs.Batches.{Serves, RefusesColumn, AllServe, RefusesBatch};
+ghost use Rattle.yurkije_columns.specs.Checking.{IsFlat};
+
+use crate::batch::{BatchError, ColumnFault, check_count, check_shape, read_field};
+use std::alloc::Global;
+use vortex_arrow::{ArrowColumn, ArrowError, ArrowValues, to_column};
+use vortex_columns::{DType, StructFields};
+
+/// Whether the column is of truth values or of integers, and ends at a place that a usize holds.
+pub fn is_flat(column: &ArrowColumn<'_>) -> bool
+    ensures { IsTrue result ↔ IsFlat column.now }
+{
+    match column.values {
+        ArrowValues::Bool(_)
+        | ArrowValues::Int8(_)
+        | ArrowValues::Int16(_)
+        | ArrowValues::Int32(_)
+        | ArrowValues::Int64(_)
+        | ArrowValues::UInt8(_)
+        | ArrowValues::UInt16(_)
+        | ArrowValues::UInt32(_)
+        | ArrowValues::UInt64(_) => column.offset.checked_add(column.length).is_some(),
+        _ => false,
+    }
+}
+
+/// Refuses the first null of a column that is not nullable. Its bits are copied where it has some,
+/// and nothing else is.
+fn check_nulls(alloc: Global, column: &ArrowColumn<'_>) -> Result<(), ArrowError>
+    ensures { MatchResult result (λ _. MayBeNulls column.now) (RefusesNull column.now) }
+{
+    if column.nullable {
+        return Ok(());
+    }
+    let Some(bits) = column.validity else {
+        return Ok(());
+    };
+    let truths = ArrowColumn {
+        nullable: false,
+        length: column.length,
+        offset: column.offset,
+        validity: Some(bits),
+        values: ArrowValues::Bool(bits),
+    };
+    match to_column(alloc, &truths) {
+        Ok(_) => Ok(()),
+        Err(ArrowError::UnexpectedNull { row }) => Err(ArrowError::UnexpectedNull { row }),
+        Err(_) => Err(ArrowError::OutOfMemory),
+    }
+}
+
+/// Refuses buffers that are too short: no row of them is read.
+fn check_end(alloc: Global, column: &ArrowColumn<'_>) -> Result<(), ArrowError>
+    requires { IsFlat column.now }
+    ensures { MatchResult result (λ _. AreLongEnough column.now) (TellsOf column.now) }
+{
+    let end = ArrowColumn {
+        nullable: column.nullable,
+        length: 0,
+        offset: column.offset + column.length,
+        validity: column.validity,
+        values: column.values,
+    };
+    match to_column(alloc, &end) {
+        Ok(_) => {}
+        Err(error) => return Err(error),
+    }
+    Ok(())
+}
+
+/// What `to_column` says of a column of truth values or integers, which is not read.
+fn check_flat(alloc: Global, column: &ArrowColumn<'_>) -> Result<(), ArrowError>
+    requires { IsFlat column.now }
+    ensures { MatchResult result (λ _. IsWellFormed column.now) (TellsOf column.now) }
+{
+    check_end(alloc, column)?;
+    check_nulls(alloc, column)
+}
+
+/// Whether a column serves a field of that type.
+fn check_field(
+    alloc: Global,
+    dtype: &DType,
+    column: &ArrowColumn<'_>,
+    rows: usize,
+) -> Result<(), ColumnFault>
+    ensures { MatchResult result (λ _. Serves (type_of dtype.now) rows column.now)
+        (RefusesColumn (type_of dtype.now) rows column.now) }
+{
+    if !is_flat(column) {
+        return match read_field(alloc, dtype, column, rows) {
+            Ok(_) => Ok(()),
+            Err(fault) => Err(fault),
+        };
+    }
+    check_shape(dtype, column, rows)?;
+    match check_flat(alloc, column) {
+        Ok(()) => Ok(()),
+        Err(error) => Err(ColumnFault::Unread(error)),
+    }
+}
+
+/// What `read_batch` says of the columns of a batch. Truth values and integers are not copied, but for
+/// the validity of a column that is not nullable.
+pub fn check_batch(
+    alloc: Global,
+    scope: &StructFields,
+    columns: &[ArrowColumn<'_>],
+    rows: usize,
+) -> Result<(), BatchError>
+    ensures { MatchResult result (λ _. AllServe (struct_fields scope.now) rows columns.now)
+        (RefusesBatch (struct_fields scope.now) rows columns.now) }
+{
+    check_count(scope, columns)?;
+    for (k, column) in columns.iter().enumerate() {
+        match check_field(alloc, scope.dtype(k), column, rows) {
+            Ok(()) => {}
+            Err(fault) => return Err(BatchError { column: k, fault }),
+        }
+    }
+    Ok(())
+}

@@ -1,0 +1,5 @@
+pub mod ChunkOf
+pub mod ChunkRuns
+pub mod ChunkRows
+pub mod PutRows
+pub mod ChunkAnswers

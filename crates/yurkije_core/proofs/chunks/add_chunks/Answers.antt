@@ -1,0 +1,8 @@
+use Rattle.yurkije_core.proofs.ChunkRows.{chunk_at}
+use Rattle.std.proofs.Common.{◌+◌, ◌-◌, arith}
+use Rattle.yurkije_core.proofs.chunks.add_chunks.Goals as goal
+
+pub add_chunk-requires-clause-chunk : goal.add_chunk-requires-clause-chunk
+add_chunk-requires-clause-chunk c =
+    chunk_at c.chunks.first 2048 c.args.rows c.args.columns.now
+    (omega (arith, c.chunks.invariant.some, c.chunks-test.true)) c.requires.chunk c.requires.place
