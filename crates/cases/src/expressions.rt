@@ -19,7 +19,7 @@ enum Question {
 
 /// A text, what is checked of it, and the lines of its columns.
 #[derive(Clone, Copy)]
-pub struct ExpressionCase<'a> {
+pub(crate) struct ExpressionCase<'a> {
     question: Question,
     columns: &'a str,
     text: &'a str,
@@ -34,7 +34,7 @@ struct Batch {
 }
 
 /// The case in the text before the line `--`; none if it is a script.
-pub fn expression_case(script: &str) -> Option<ExpressionCase<'_>> {
+pub(crate) fn expression_case(script: &str) -> Option<ExpressionCase<'_>> {
     let (question, (columns, text)) = if let Some(parts) = script.split_once("\ntree\n") {
         (Question::Tree, parts)
     } else if let Some(parts) = script.split_once("\nwritten\n") {
@@ -147,7 +147,7 @@ fn answers_text(alloc: Global, batch: &Batch, text: &str) -> VortexResult<String
 
 /// The result of a case, in lines. E12 for a syntax error in its columns; else the fault of the
 /// first answer that has one.
-pub fn expression_text(alloc: Global, case: ExpressionCase<'_>) -> VortexResult<String> {
+pub(crate) fn expression_text(alloc: Global, case: ExpressionCase<'_>) -> VortexResult<String> {
     let batch = read_batch(alloc, case.columns)?;
     match case.question {
         Question::Tree => tree_text(alloc, &batch.scope, case.text),

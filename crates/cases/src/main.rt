@@ -140,7 +140,7 @@ fn run(rt: &(impl Print + Env + Files + AllocGlobal)) -> io::Result<u64> {
     }
     let Counts { cases, differ } = counts;
     if differ == 0 {
-        println!(rt; "{cases} cases print what they say")?;
+        println!(rt; "{cases} cases print what is expected")?;
     } else {
         println!(rt; "{differ} of {cases} cases print something else")?;
     }

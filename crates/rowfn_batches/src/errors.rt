@@ -167,7 +167,7 @@ impl StreamError {
             }
             StreamError::Misfit { dtype, .. } => write!(f, "is no {dtype:?}"),
             StreamError::Width { wanted, found, .. } => {
-                write!(f, "{found} fields where {wanted} are wanted")
+                write!(f, "{found} fields instead of {wanted}")
             }
             StreamError::FieldTooLong { limit, .. } => write_too_long(f, *limit),
             StreamError::HeaderTooLong(limit) => write_too_long(f, *limit),

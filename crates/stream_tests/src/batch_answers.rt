@@ -71,7 +71,7 @@ fn an_operand_that_cannot_change_the_answer_is_no_matter(rt: HostRuntime) {
             "a i8, b i8: a = 9 and b > 0 and 1 / b > 0 as x",
             b"1,1,2,2,3,0",
             3,
-            "x,\nfalse,\nfalse,\nrow 2, answer 0: Arithmetic.Div",
+            "x,\nrow 2, answer 0: Arithmetic.Div",
         ),
     ];
     assert!(rt; each_prints(rt, CASES));

@@ -160,7 +160,7 @@ fn missing_columns_other_widths_and_open_quotes_end_the_stream(rt: HostRuntime) 
             "a,b\n1,2\n3\n",
             "sum\n3\n",
             2,
-            "row 2: 1 fields where 2 are wanted",
+            "row 2: 1 fields instead of 2",
         ),
         (
             Form::Headless,
@@ -168,7 +168,7 @@ fn missing_columns_other_widths_and_open_quotes_end_the_stream(rt: HostRuntime) 
             "1,2\n3,4,\n",
             "3\n",
             2,
-            "row 2: 3 fields where 2 are wanted",
+            "row 2: 3 fields instead of 2",
         ),
         (
             Form::Plain,
@@ -278,7 +278,7 @@ fn a_line_without_a_byte_is_one_field(rt: HostRuntime) {
         blank_rows: true,
         ..plain(SUM, "a,b\n1,2\n\n3,4\n")
     };
-    let told = "row 2: 1 fields where 2 are wanted";
+    let told = "row 2: 1 fields instead of 2";
     assert!(rt; ends(rt, blank, "sum\n3\n", 2, told));
     let text = Case {
         blank_rows: true,

@@ -51,37 +51,37 @@ fn rows_are_as_wide_as_the_first_whatever_is_read(rt: HostRuntime) {
             ("", "5 as r", "", "1,2\n3\n"),
             "5\n",
             2,
-            "row 2: 1 fields where 2 are wanted",
+            "row 2: 1 fields instead of 2",
         ),
         (
             ("", "5 as r", "true", "1\n2,3\n"),
             "5\n",
             2,
-            "row 2: 2 fields where 1 are wanted",
+            "row 2: 2 fields instead of 1",
         ),
         (
             ("", "", "true", "1\n2,3\n"),
             "1\n",
             2,
-            "row 2: 2 fields where 1 are wanted",
+            "row 2: 2 fields instead of 1",
         ),
         (
             ("a i64, b i64", "5 as r", "true", "1\n"),
             "",
             2,
-            "row 1: 1 fields where 2 are wanted",
+            "row 1: 1 fields instead of 2",
         ),
         (
             ("a i64, b i64", "a", "true", "1\n"),
             "",
             2,
-            "row 1: 1 fields where 2 are wanted",
+            "row 1: 1 fields instead of 2",
         ),
         (
             ("3 as y i64", "5 as r", "", "1,2\n"),
             "",
             2,
-            "row 1: 2 fields where 3 are wanted",
+            "row 1: 2 fields instead of 3",
         ),
     ];
     assert!(rt; each_ends_headless(rt, CASES));
@@ -133,12 +133,12 @@ fn fitted<'a>(asked: Asked<'a>) -> Asked<'a> {
 fn short_and_long_records_fit(rt: HostRuntime) {
     let asked = asks("a, b, c", "a,b,c\n1\n2,3,4,\n5,6,7\n");
     assert!(rt; answers_so(rt, fitted(asked), "a,b,c\n1,,\n2,3,4\n5,6,7\n"));
-    let told = "row 1: 1 fields where 3 are wanted";
+    let told = "row 1: 1 fields instead of 3";
     assert!(rt; ends_so(rt, asks("1 as x", "a,b,c\n1\n"), "x\n", 2, told));
-    let told = "row 2: 3 fields where 2 are wanted";
+    let told = "row 2: 3 fields instead of 2";
     let full = asks("a, b", "a,b\n1,2\n3,4,5\n");
     assert!(rt; ends_so(rt, fitted(full), "a,b\n1,2\n", 2, told));
-    let told = "row 4: 3 fields where 2 are wanted";
+    let told = "row 4: 3 fields instead of 2";
     let constant = headless(asks("5 as r", "1,2\n3\n4,5,\n6,7,8\n"));
     assert!(rt; ends_so(rt, fitted(constant), "5\n5\n5\n", 2, told));
 }

@@ -159,7 +159,7 @@ fn a_header_or_row_that_is_none_ends_the_first_rows(rt: HostRuntime) {
     let told = "header: a field has more bytes than the 2 of --max-field";
     assert!(rt; ends_so(rt, long, "", 2, told));
     let wide = asks("a + 1 as b", "a\n1\n2,3\nx\n");
-    assert!(rt; ends_so(rt, wide, "b\n2\n", 2, "row 2: 2 fields where 1 are wanted"));
+    assert!(rt; ends_so(rt, wide, "b\n2\n", 2, "row 2: 2 fields instead of 1"));
     let open = asks("a + 1 as b", "a\n1\n\"2\n");
     assert!(rt; ends_so(rt, open, "b\n2\n", 2, "row 2: a quote is not closed"));
 }

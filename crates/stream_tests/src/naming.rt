@@ -122,7 +122,7 @@ fn without_a_header_the_first_row_tells_how_many_fields_there_are(rt: HostRuntim
             "a,b,1,c\n,,2\n",
             "1\n",
             2,
-            "row 2: 3 fields where 4 are wanted",
+            "row 2: 3 fields instead of 4",
         ),
         (
             Form::Headless,
@@ -130,7 +130,7 @@ fn without_a_header_the_first_row_tells_how_many_fields_there_are(rt: HostRuntim
             "a,b\n",
             "",
             2,
-            "row 1: 2 fields where 3 are wanted",
+            "row 1: 2 fields instead of 3",
         ),
     ];
     assert!(rt; each_gives(rt, GIVEN));

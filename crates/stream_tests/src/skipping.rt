@@ -55,7 +55,7 @@ const TYPES: &str = "a i8, b i8";
 fn bad_rows_are_left_out_and_reported_as_csv(rt: HostRuntime) {
     let input = "a,b\n1,2\nx,3\n3,4\n100,100\n5,\n,6\n7\n8,9,10\n11,12\n";
     let told = "row,column,reason,field\n2,a,is no i8,x\n4,,E7 Arithmetic.Add,\n5,b,is no i8,\n\
-                6,a,is no i8,\n7,,1 fields where 2 are wanted,\n8,,3 fields where 2 are wanted,\n";
+                6,a,is no i8,\n7,,1 fields instead of 2,\n8,,3 fields instead of 2,\n";
     assert!(rt; goes_on(rt, declared(TYPES, SUM, input), "sum\n3\n7\n23\n", told));
     let input = "a,b\n1,2\n3,4\n";
     assert!(rt; goes_on(rt, declared(TYPES, SUM, input), "sum\n3\n7\n", ""));
@@ -180,7 +180,7 @@ fn a_condition_refuses_rows_too(rt: HostRuntime) {
 #[test]
 fn rows_that_are_refused_are_told_by_their_numbers(rt: HostRuntime) {
     let input = "a,b\n1,2\nx,3\n3\n5,6\n";
-    let told = "row,column,reason,field\n12,a,is no i8,x\n13,,1 fields where 2 are wanted,\n";
+    let told = "row,column,reason,field\n12,a,is no i8,x\n13,,1 fields instead of 2,\n";
     let part = Asked {
         rows_before: 10,
         appends: true,

@@ -6,6 +6,7 @@ use crate::binder::{Stopped, operands};
 use crate::error::{ReadError, Reason};
 use crate::item::{Item, common_type};
 use crate::literal::Literal;
+use crate::quotes::unquoted;
 use crate::refusal::{BindStop, Refusal};
 use crate::words::{found_at, line_and_column, nearest, nearest_keyword};
 use std::alloc::Global;
@@ -69,7 +70,7 @@ fn token_text(alloc: Global, text: &str, byte: usize) -> VortexResult<String> {
             format!(in alloc; "numbers are whole, without {found}")?
         }
         (_, Some(b'0'..=b'9')) => format!(in alloc;
-            "{found} is no number; a name that begins with a digit stands in double quotes"
+            "{found} is no number; write a name that begins with a digit in double quotes"
         )?,
         (_, Some(b'&')) => format!(in alloc; "found {found}; is and meant?")?,
         (_, Some(b'|')) => format!(in alloc; "found {found}; is or meant?")?,
@@ -215,16 +216,18 @@ fn column_text(
     scope: &StructFields,
     step: Option<&Step<'_>>,
 ) -> VortexResult<String> {
-    let (name, is_quoted) = match step {
+    let (written, is_quoted) = match step {
         Some(Step::Operand(Token::Name(name))) => (*name, false),
         Some(Step::Operand(Token::Quoted(name))) => (*name, true),
         _ => (b"" as &[u8], false),
     };
-    let name = str::from_utf8(name).unwrap_or("");
+    // A name without quotes has none within.
+    let name = unquoted(alloc, b'"', written)?;
+    let name = str::from_utf8(&name).unwrap_or("");
     match nearest(alloc, scope, name)? {
         Some(other) => Ok(format!(in alloc; "no column {name:?}; is {other:?} meant?")?),
         None if is_quoted => Ok(format!(in alloc;
-            "no column {name:?}; a text stands in single quotes, as 'text'"
+            "no column {name:?}; texts are written in single quotes, as 'text'"
         )?),
         None => Ok(format!(in alloc; "no column {name:?}")?),
     }
@@ -329,7 +332,7 @@ impl<'a> Failure<'a> {
                 )?);
             }
             Refusal::NotUtf8 => "a text is not UTF-8",
-            Refusal::UntypedNull => "null has no type here; say it, as null::i64?",
+            Refusal::UntypedNull => "null has no type here; give it one, as null::i64?",
             Refusal::NoEscape => "an escape is one character, or none",
             Refusal::NoCast => "a cast leads from a truth value to bool? alone",
         };

@@ -70,7 +70,7 @@ impl Expected {
             Expected::OpenBracket => "(",
             Expected::CloseBracket => ")",
             Expected::EscapeText => "a text in single quotes",
-            Expected::AnswerName => "one name behind as, and then a comma or the end",
+            Expected::AnswerName => "one name after as, and then a comma or the end",
         }
     }
 }
