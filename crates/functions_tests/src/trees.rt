@@ -55,7 +55,7 @@ fn lends<C: ScalarFnVTable>(
 }
 
 /// Whether a tree that was made lends a column of these rows over those columns.
-fn is_lent<C: ScalarFnVTable>(
+fn is_borrowed<C: ScalarFnVTable>(
     rt: HostRuntime,
     tree: Bound<C>,
     columns: VortexResult<Vec<Column>>,
@@ -71,7 +71,7 @@ fn a_leaf_of_a_place_lends_its_column(rt: HostRuntime) {
     let first = nullable_bools(alloc, &[None]);
     let columns = two(alloc, first, nullable_bools(alloc, &[Some(true)]));
     let leaf = second_leaf::<NoCustom>(alloc);
-    sure(&rt, is_lent(rt, leaf, columns, &[Some(true)]));
+    sure(&rt, is_borrowed(rt, leaf, columns, &[Some(true)]));
     let copy = owned(alloc, second_leaf::<NoCustom>(alloc));
     sure(&rt, prints(rt, copy, "$.b"));
 }

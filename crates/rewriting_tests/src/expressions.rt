@@ -73,7 +73,7 @@ fn a_rewrite_makes_a_tree_lighter(rt: HostRuntime) {
 }
 
 /// Whether an answer is a borrowed column of these rows.
-fn is_lent(
+fn is_borrowed(
     rt: HostRuntime,
     answer: VortexResult<Cow<'_, Column>>,
     wanted: &[Option<bool>],
@@ -94,7 +94,7 @@ fn lends<C: ScalarFnRules>(
     let (tree, columns) = (tree?, columns?);
     let mut ctx = ExecutionCtx::new(alloc);
     let answer = run(&*tree, &columns, wanted.len(), 10, &mut ctx);
-    is_lent(rt, answer, wanted)
+    is_borrowed(rt, answer, wanted)
 }
 
 #[test]

@@ -15,7 +15,7 @@ enum CalledFor {
 }
 
 /// The mode that the words after the program's name ask for; without words, a script.
-fn asked_for(rt: &(impl Env + AllocGlobal)) -> io::Result<CalledFor> {
+fn called_mode(rt: &(impl Env + AllocGlobal)) -> io::Result<CalledFor> {
     let words: Vec<String> = match env::args(rt) {
         Ok(words) => words.collect(rt.alloc())?,
         // a word that is no text
@@ -46,7 +46,7 @@ fn run_script(rt: &(impl Input + Print + Eprint + AllocGlobal)) -> io::Result<u8
 
 /// Runs a script, or prints the version. With other words it reads no script, and reports that.
 fn run(rt: &(impl Input + Print + Eprint + Env + AllocGlobal)) -> io::Result<u8> {
-    match asked_for(rt)? {
+    match called_mode(rt)? {
         CalledFor::Script => run_script(rt),
         CalledFor::Version => {
             println!(rt; "rowfn 0.1.0")?;

@@ -9,7 +9,7 @@ use Rattle.std.proofs.lemmas.Grind.{flat_map-append}
 use Rattle.std.proofs.lemmas.List.{map-append, take-map, drop-map, take_more}
 use Rattle.std.proofs.lemmas.List.Elements.{filter-append}
 use Rattle.vortex_columns.specs.ColumnView.{ColumnView, row}
-use Rattle.rowfn_batches.specs.declared.asked.Asked.{Asked}
+use Rattle.rowfn_batches.specs.declared.request.Request.{Request}
 use Rattle.rowfn_batches.specs.declared.answering.Answered.{Answered}
 use Rattle.rowfn_batches.specs.declared.errors.StreamError.{StreamError}
 use Rattle.rowfn_batches.specs.BatchAnswers.{EndsBatch}
@@ -65,7 +65,7 @@ next_fields fields was now part w k rows d lt before is added =
     ∙ sym (fields_more (map field_in fields) w k rows d lt)
 
 -- what ends a batch, by its fields, their places and its count
-pub ends_so : (x : Asked) (fs gs : List Field) (ps qs : List ℕ) (count len : ℕ)
+pub ends_so : (x : Request) (fs gs : List Field) (ps qs : List ℕ) (count len : ℕ)
     (number : ℕ → ℕ) (behind : Option StreamError) (r : Result Answered StreamError) → fs ≡ gs
     → ps ≡ qs → count ≡ len
     → IfOk r (λ a. EndsBatch x fs ps number count behind a.row_count a.error)

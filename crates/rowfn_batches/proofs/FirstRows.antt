@@ -7,7 +7,7 @@ use Rattle.std.proofs.Math.Logic.{∥∥₁_map}
 use Rattle.std.proofs.lemmas.List.{take-map}
 use Rattle.vortex_columns.specs.ColumnView.{ColumnView}
 use Rattle.vortex_types.specs.TypeOf.{struct_fields}
-use Rattle.rowfn_batches.specs.declared.asked.Asked.{Asked}
+use Rattle.rowfn_batches.specs.declared.request.Request.{Request}
 use Rattle.rowfn_batches.specs.Fields.{Field, field_in}
 use Rattle.rowfn_batches.specs.Batches.{AreEven, AreColumns}
 use Rattle.vortex_errors.specs.declared.error.VortexError.{VortexError}
@@ -23,7 +23,7 @@ pub if_ok-weaker : {A E : Type 0} (r : Result A E) (P Q : A → Type 0) → ((a 
 if_ok-weaker (Ok a) P Q f h = f a h
 if_ok-weaker (Err e) P Q f h = tt
 
-module _ (x : Asked) (fs : List (Option (Bor (List ℕ)))) (n w : ℕ) (counted : w ≡ width_of x)
+module _ (x : Request) (fs : List (Option (Bor (List ℕ)))) (n w : ℕ) (counted : w ≡ width_of x)
     (whole : List (Option (Bor (List ℕ)))) (taken : whole ≡ take (w * n) fs) where
   -- what holds of the borrowed fields holds of the first fields
   pub of_first : (P : List Field → Type 0) → P (map field_in whole)
@@ -44,7 +44,7 @@ module _ (x : Asked) (fs : List (Option (Bor (List ℕ)))) (n w : ℕ) (counted 
       record { even = here.0; said = here.1 }
 
 -- the columns of first rows do not serve a tree
-pub unserved : {Known : Type 0} (x : Asked) (fs : List Field) (n : ℕ) (cs : List ColumnView) → AreFirst x fs n cs
+pub unserved : {Known : Type 0} (x : Request) (fs : List Field) (n : ℕ) (cs : List ColumnView) → AreFirst x fs n cs
     → (e : VortexError) → (known : ∥ Known ∥₁)
     → (Known → UnlessMemory (RefusesColumnsFirst cs n (trees_asked x)) e)
     → IsUnserved x fs (end.Refused e)

@@ -2,15 +2,15 @@
 use Rattle.std.proofs.Common.{◌≡◌, ◌∙◌, ◌++◌, [], ℕ, List, Bool, Option, ap₂}
 use Rattle.csv.specs.Records.{fields_of}
 use Rattle.rowfn_csv.specs.declared.format.Format.{Format}
-use Rattle.rowfn_batches.specs.declared.asked.Asked.{Asked}
+use Rattle.rowfn_batches.specs.declared.request.Request.{Request}
 use Rattle.rowfn_batches.specs.declared.output.Output.{Output}
 use Rattle.rowfn_batches.specs.declared.settings.Settings.{Settings}
 use Rattle.rowfn_batches.specs.declared.stream.Stream.{Stream}
 use Rattle.rowfn_batches.specs.Starts.{HasReadHeader, IsLaidOut, HasCondition, PushesHeader, IsHeaded}
 use Rattle.rowfn_batches.specs.Starts.{header_text}
 
-pub headed : {R : Type 0} (reader : R) (settings : Settings) (x : Asked)
-    (condition : Option Asked) (s : Stream R) (is_there : Bool) (empty : Output)
+pub headed : {R : Type 0} (reader : R) (settings : Settings) (x : Request)
+    (condition : Option Request) (s : Stream R) (is_there : Bool) (empty : Output)
     → HasReadHeader reader settings is_there s.records → s.settings ≡ settings → s.asked ≡ x
     → IsLaidOut settings (fields_of s.records.last) x s.layout → s.width ≡ s.layout.width
     → HasCondition settings (fields_of s.records.last) condition s.condition

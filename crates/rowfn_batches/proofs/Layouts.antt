@@ -7,7 +7,7 @@ use Rattle.std.proofs.lemmas.List.{length-append, ext_get_or}
 use Rattle.vortex_types.specs.FieldNames.{field_name}
 use Rattle.vortex_types.specs.LogicalTypes.{Fields}
 use Rattle.rowfn_batches.specs.Layouts.{LacksFrom, IsFirstFrom, StandsOnce, FirstStandAt}
-use Rattle.rowfn_batches.specs.Layouts.{StandsWhere, place_said, StandAt, RefusesName, RefusesPlace}
+use Rattle.rowfn_batches.specs.Layouts.{StandsWhere, given_place, StandAt, RefusesName, RefusesPlace}
 use Rattle.rowfn_batches.specs.Layouts.{RefusesColumn, RefusesHeader, at_column, without_memory}
 use Rattle.rowfn_batches.specs.declared.errors.StreamError.{StreamError}
 use Rattle.rowfn_batches.specs.declared.errors.StreamError.TheVariants as end
@@ -54,10 +54,10 @@ no_columns fields ds said ps e =
 pub next_column : (fields : List (List ℕ)) (ds : Fields) (said : List (Option ℕ)) (k : ℕ)
     (ps now : List ℕ) (p : ℕ)
     → FirstStandAt fields ds said k ps
-    → StandsWhere fields (place_said said k) (field_name k ds) p
+    → StandsWhere fields (given_place said k) (field_name k ds) p
     → now ≡ ps ++ (p ∷ []) → FirstStandAt fields ds said (k + 1) now
 next_column fields ds said k ps now p before once pushed =
-    let Here : ℕ → ℕ → Type 0 = λ j y. StandsWhere fields (place_said said j) (field_name j ds) y in
+    let Here : ℕ → ℕ → Type 0 = λ j y. StandsWhere fields (given_place said j) (field_name j ds) y in
     subst (λ (all : List ℕ). FirstStandAt fields ds said (k + 1) all) (sym pushed)
     (record {
       count = omega (arith, before.count, length-append ps (p ∷ []));
@@ -82,7 +82,7 @@ same_places fields ds said n ps qs here there =
     ext_get_or 0 ps qs (here.count ∙ sym there.count)
     (λ k lt.
     let below : k < n = omega (arith, lt, here.count) in
-    one_place fields (place_said said k) (field_name k ds) (get_or ps k 0) (get_or qs k 0)
+    one_place fields (given_place said k) (field_name k ds) (get_or ps k 0) (get_or qs k 0)
     (here.each k below) (there.each k below))
 
 -- a column that has its place is refused only where memory runs out
@@ -114,6 +114,6 @@ pub refused_header : (fields : List (List ℕ)) (ds : Fields) (said : List (Opti
     (ps : List ℕ) (e : StreamError) → StandAt fields ds said ps → RefusesHeader fields ds said e
     → e ≡ end.OutOfMemory
 refused_header fields ds said ps e here (at_column k before below first refused) =
-    refused_column fields (place_said said k) (field_name k ds) (get_or ps k 0) e
+    refused_column fields (given_place said k) (field_name k ds) (get_or ps k 0) e
     (here.each k below) refused
 refused_header fields ds said ps e here (without_memory is) = is

@@ -5,7 +5,7 @@ use Rattle.vortex_interface.specs.Rewrites.{Rewrites}
 use Rattle.vortex_functions.specs.Walks.{AllMean}
 use Rattle.vortex_expressions.specs.Items.{Tree, meaning}
 use Rattle.vortex_program.specs.Programs.{IsOptimized, AreRewrites, trees_of}
-use Rattle.rowfn_batches.specs.declared.asked.Asked.{Asked}
+use Rattle.rowfn_batches.specs.declared.request.Request.{Request}
 
 all_rewrites : (ts us : List Tree) → AllMean IsOptimized ts us → AllMean (Rewrites meaning) ts us
 all_rewrites [] [] h = tt
@@ -13,7 +13,7 @@ all_rewrites [] (u ∷ us) h = h
 all_rewrites (t ∷ ts) [] h = h
 all_rewrites (t ∷ ts) (u ∷ us) h = (h.0.kept, all_rewrites ts us h.1)
 
-pub rewrites : (x : Asked)
+pub rewrites : (x : Request)
     → ∥ AreRewrites x.program.now.written.items x.program.now.optimized.items ∥₁
 rewrites x =
     ∥∥₁_map x.optimized

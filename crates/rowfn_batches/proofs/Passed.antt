@@ -9,7 +9,7 @@ use Rattle.vortex_columns.specs.ColumnView.{ColumnView}
 use Rattle.rowfn_batches.specs.Fields.{Field, field_in}
 use Rattle.rowfn_csv.specs.declared.records.Span.{Span}
 use Rattle.rowfn_csv.specs.KeptLines.{line_of}
-use Rattle.rowfn_batches.specs.declared.asked.Asked.{Asked}
+use Rattle.rowfn_batches.specs.declared.request.Request.{Request}
 use Rattle.rowfn_batches.specs.declared.answering.Answered.{Answered}
 use Rattle.rowfn_batches.specs.declared.errors.StreamError.{StreamError}
 use Rattle.rowfn_batches.specs.declared.output.Output.{Output}
@@ -57,9 +57,9 @@ picked_pushed {R} {E} s new answers n top spans r h got is =
     ∙ ap (λ (x : Option ColumnView). picked_lines s x n) got) h
 
 module _ {R : Type 0} (s : Stream R) (behind : Option StreamError) (rows : Option (List ℕ)) (n : ℕ)
-    (answers lent : List ColumnView) (e : Option StreamError)
-    (is : IsAnswered s behind rows n answers e) (same : lent ≡ answers) where
-  pub have : HaveRows n lent
+    (answers borrowed : List ColumnView) (e : Option StreamError)
+    (is : IsAnswered s behind rows n answers e) (same : borrowed ≡ answers) where
+  pub have : HaveRows n borrowed
   have =
       subst (λ (cs : List ColumnView). HaveRows n cs) (sym same)
       (have_rows s.asked is.fields n answers is.answered)
@@ -76,11 +76,11 @@ module _ {R : Type 0} (s : Stream R) (behind : Option StreamError) (rows : Optio
       by_kind (all unasked fs whole count ends) = omega (arith, most, count)
       by_kind (those c picked asked sifted fs some count) = absurd (cc (sym none ∙ some))
 
-  pub passed : (lent_rows : Option (List ℕ)) → lent_rows ≡ rows
+  pub passed : (borrowed_rows : Option (List ℕ)) → borrowed_rows ≡ rows
       → (put : Stream R) (before after : Option (List ℕ))
-      → Adds s.output put.output (batch_text s lent_rows lent n)
+      → Adds s.output put.output (batch_text s borrowed_rows borrowed n)
       → Appends before after put.output.bytes.items → PassesUpTo s behind before after (Ok e)
-  passed lent_rows rowed put before after adds wrote =
+  passed borrowed_rows rowed put before after adds wrote =
       answered rows n answers e is
       (subst (λ (bytes : List ℕ). Appends before after bytes)
       (adds.0
@@ -90,11 +90,11 @@ module _ {R : Type 0} (s : Stream R) (behind : Option StreamError) (rows : Optio
       refl
 
   -- and its rows are counted
-  pub counted : (lent_rows : Option (List ℕ)) → lent_rows ≡ rows → (now : Stream R) (some : ℕ)
-      → some ≡ rows_put s lent_rows lent n
+  pub counted : (borrowed_rows : Option (List ℕ)) → borrowed_rows ≡ rows → (now : Stream R) (some : ℕ)
+      → some ≡ rows_put s borrowed_rows borrowed n
       → now.summary.rows_written ≡ min (s.summary.rows_written + some) (2 ^ 64 - 1)
       → CountsWritten s now behind
-  counted lent_rows rowed now some put told = record {
+  counted borrowed_rows rowed now some put told = record {
     rows = rows;
     count = n;
     answers = answers;
@@ -127,7 +127,7 @@ kept_as_it_is (Some xs) = refl
 -- what is answered of rows that are taken, by what a task is asked
 module _ {R : Type 0} (s : Stream R) (behind ended : Option StreamError) (fs : List Field)
     (rows : Option (List ℕ)) (count : ℕ) (taken : Takes s behind fs rows count ended)
-    (x : Asked) (asked : x ≡ s.asked) (given : List Field) (same : given ≡ fs)
+    (x : Request) (asked : x ≡ s.asked) (given : List Field) (same : given ≡ fs)
     (places : List ℕ) (placed : places ≡ s.layout.places.items) (before : ℕ)
     (counted : before ≡ rows_before s) (these : Option (List ℕ)) (rowed : these ≡ rows) where
   pub is_answered : (a : Answered) → AreAnswers x given a.row_count a.answers.items

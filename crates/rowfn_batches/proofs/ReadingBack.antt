@@ -48,16 +48,16 @@ module _ (settings : Settings) (answers : List Answer) (written : settings.picks
   kept_appended chosen =
       record { names = apart; rows = λ other. absurd (cc (sym chosen ∙ other)) }
 
-  pub read_back : (lent : List Answer) (r : Result (Unit {0}) StreamError) → lent ≡ answers
-      → MatchResult r (λ _. KeepsRows settings.format lent) (RefusesRows settings.format lent)
+  pub read_back : (borrowed : List Answer) (r : Result (Unit {0}) StreamError) → borrowed ≡ answers
+      → MatchResult r (λ _. KeepsRows settings.format borrowed) (RefusesRows settings.format borrowed)
       → MatchResult r (λ _. settings.picks_rows ≡ false → ReadsBack settings answers)
       (λ e. (settings.picks_rows ≡ false) × RefusesReadingBack settings.format answers e)
-  read_back lent (Ok u) same h =
+  read_back borrowed (Ok u) same h =
       λ _. record {
         names = apart;
         rows = λ _. subst (λ (xs : List Answer). KeepsRows settings.format xs) same h;
       }
-  read_back lent (Err e) same h =
+  read_back borrowed (Err e) same h =
       (written, inr (subst (λ (xs : List Answer). RefusesRows settings.format xs e) same h))
 
 module _ (format : Format) (i : ℕ) where

@@ -11,7 +11,7 @@ use Rattle.vortex_program.specs.declared.answer.Answer.{Answer}
 use Rattle.rowfn_csv.specs.declared.format.Format.{Format}
 use Rattle.rowfn_csv.specs.declared.records.Records.{Records}
 use Rattle.rowfn_csv.specs.KeptLines.{line_of}
-use Rattle.rowfn_batches.specs.declared.asked.Asked.{Asked}
+use Rattle.rowfn_batches.specs.declared.request.Request.{Request}
 use Rattle.rowfn_batches.specs.declared.errors.StreamError.{StreamError}
 use Rattle.rowfn_batches.specs.declared.errors.StreamError.TheVariants as end
 use Rattle.rowfn_batches.specs.declared.header.Layout.{Layout}
@@ -27,7 +27,7 @@ use Rattle.rowfn_batches.specs.Starts.{own_names, PushesHeader, AreUnread, Reads
 use Rattle.rowfn_batches.specs.Starts.{HasReadHeader}
 use Rattle.rowfn_batches.proofs.Layouts.{same_places, refused_header}
 
-module _ (settings : Settings) (fields : List (List ℕ)) (x : Asked) where
+module _ (settings : Settings) (fields : List (List ℕ)) (x : Request) where
   -- memory ran out
   pub refuses_by_memory : RefusesLayout settings fields x end.OutOfMemory
   refuses_by_memory = go settings.header

@@ -8,7 +8,7 @@ use Rattle.std.proofs.lemmas.List.{length-take}
 use Rattle.vortex_columns.specs.ColumnView.{ColumnView}
 use Rattle.vortex_expressions.specs.Items.{Tree}
 use Rattle.vortex_program.specs.Running.{AnswersTrees}
-use Rattle.rowfn_batches.specs.declared.asked.Asked.{Asked}
+use Rattle.rowfn_batches.specs.declared.request.Request.{Request}
 use Rattle.rowfn_batches.specs.Fields.{Field}
 use Rattle.rowfn_batches.specs.declared.errors.StreamError.{StreamError}
 use Rattle.rowfn_batches.specs.BatchAnswers.{AreAnswers, EndsAnswers, with_them, at_fault}
@@ -31,7 +31,7 @@ below_row w count n column l h most =
     let same : n * w ≡ w * n = mul_comm n w in
     lt_of_not-le (λ le. let up : w * count ≤ w * n = mul-le-mul_left w le in omega arith)
 
-module _ (x : Asked) (fs : List Field) where
+module _ (x : Request) (fs : List Field) where
   pub have_rows : (n : ℕ) (answers : List ColumnView) → AreAnswers x fs n answers
       → HaveRows n answers
   have_rows n answers a =

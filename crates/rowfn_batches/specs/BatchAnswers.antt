@@ -12,10 +12,10 @@ use Rattle.vortex_expressions.specs.Items.{Tree}
 use Rattle.vortex_program.specs.Executing.{RefusesColumnsFirst}
 use Rattle.vortex_program.specs.Programs.{trees_of}
 use Rattle.vortex_program.specs.Running.{AnswersTrees, FaultsFirstThere}
-use Rattle.rowfn_batches.specs.declared.asked.Asked.{Asked}
+use Rattle.rowfn_batches.specs.declared.request.Request.{Request}
 use Rattle.rowfn_batches.specs.Fields.{Field}
 use Rattle.rowfn_batches.specs.Batches.{field_at, AreEven, AreColumns, IsLeftmost, IsTooLong}
-use Rattle.rowfn_batches.specs.declared.answering.Task.{Task}
+use Rattle.rowfn_batches.specs.declared.answering.BatchTask.{BatchTask}
 use Rattle.rowfn_batches.specs.declared.errors.StreamError.{StreamError}
 use Rattle.rowfn_batches.specs.declared.errors.StreamError.TheVariants as end
 
@@ -29,7 +29,7 @@ row_among None row = row
 row_among (Some rows) row = get_or rows row 0
 
 -- the number of a row that is answered
-abbrev pub number_of : Task → ℕ → ℕ
+abbrev pub number_of : BatchTask → ℕ → ℕ
 number_of t row = row_number t.rows_before (row_among (option_map (λ r. r.now) t.rows) row)
 
 -- the bytes of a field, and none of a null field
@@ -57,18 +57,18 @@ TellsName ds j (end.TextsTooLong name) = string_bytes name ≡ field_name j ds
 TellsName ds j e = ⊥
 
 -- the trees that are asked, as they were written
-abbrev pub trees_asked : Asked → List Tree
+abbrev pub trees_asked : Request → List Tree
 trees_asked x = trees_of x.program.now.written.items
 
 -- what rules make of them, which is what runs
-abbrev pub trees_run : Asked → List Tree
+abbrev pub trees_run : Request → List Tree
 trees_run x = trees_of x.program.now.optimized.items
 
 -- how many columns are declared
-abbrev pub width_of : Asked → ℕ
+abbrev pub width_of : Request → ℕ
 width_of x = field_count (struct_fields x.program.now.scope)
 
-module _ (x : Asked) (fs : List Field) where
+module _ (x : Request) (fs : List Field) where
   -- the fields of the first n rows
   abbrev pub first_fields : ℕ → List Field
   first_fields n = take (width_of x * n) fs

@@ -9,9 +9,9 @@ use Rattle.std.specs.Option.{option_and_then}
 use Rattle.vortex_types.specs.LogicalTypes.{Fields, field_count, field_type}
 use Rattle.vortex_columns.specs.ColumnView.{ColumnView}
 use Rattle.vortex_cells.specs.CellValues.{all_some, column_of_cells}
-use Rattle.rowfn_batches.specs.declared.columns.BatchError.{BatchError}
-use Rattle.rowfn_batches.specs.declared.columns.BatchError.TheVariants.{Misfit, TextsTooLong}
-use Rattle.rowfn_batches.specs.declared.columns.BatchError.TheVariants.{Uneven, OutOfMemory}
+use Rattle.rowfn_batches.specs.declared.columns.FieldsError.{FieldsError}
+use Rattle.rowfn_batches.specs.declared.columns.FieldsError.TheVariants.{Misfit, TextsTooLong}
+use Rattle.rowfn_batches.specs.declared.columns.FieldsError.TheVariants.{Uneven, OutOfMemory}
 use Rattle.vortex_cells.specs.Fields.{field_cell}
 use Rattle.rowfn_batches.specs.Fields.{Field, field_fits}
 
@@ -83,13 +83,13 @@ module _ (ds : Fields) (fs : List Field) where
       pub columns : List ColumnView
       pub before : AreColumns j columns
 
-    abbrev pub RefusesBatch : BatchError → Type 0
+    abbrev pub RefusesBatch : FieldsError → Type 0
     RefusesBatch (Misfit row column) = AreEven × IsMisfit row column
     RefusesBatch (TextsTooLong column) = AreEven × IsTooLong column
     RefusesBatch Uneven = ¬ AreEven
     RefusesBatch OutOfMemory = ⊤
 
     -- the columns of the fields; or why there are none
-    abbrev pub ReadsColumns : Result (Vec ColumnView Global) BatchError → Type 0
+    abbrev pub ReadsColumns : Result (Vec ColumnView Global) FieldsError → Type 0
     ReadsColumns result =
         MatchResult result (λ cs. AreEven × AreColumns (field_count ds) cs.items) RefusesBatch

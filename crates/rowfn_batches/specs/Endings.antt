@@ -1,11 +1,11 @@
 -- What a read that failed ends, and the status with which a program tells what ended a stream.
 use Rattle.std.specs.Prelude.{ℕ, Option, Some, None}
-use Rattle.rowfn_csv.specs.declared.records.ReadError.{ReadError}
-use Rattle.rowfn_csv.specs.declared.records.ReadError.TheVariants as read
+use Rattle.rowfn_csv.specs.declared.records.RecordError.{RecordError}
+use Rattle.rowfn_csv.specs.declared.records.RecordError.TheVariants as read
 use Rattle.rowfn_batches.specs.declared.errors.StreamError.{StreamError}
 use Rattle.rowfn_batches.specs.declared.errors.StreamError.TheVariants as end
 
-abbrev pub read_ending : ReadError → StreamError
+abbrev pub read_ending : RecordError → StreamError
 read_ending (read.Io e) = end.Reading e
 read_ending read.OutOfMemory = end.OutOfMemory
 

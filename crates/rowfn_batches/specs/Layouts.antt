@@ -28,8 +28,8 @@ StandsOnce fields name place =
     × ((q : ℕ) → field_at fields q ≡ Some name → q ≡ place)
 
 -- the place that the expression says of a column, if it does
-abbrev pub place_said : List (Option ℕ) → ℕ → Option ℕ
-place_said said k = get_or said k None
+abbrev pub given_place : List (Option ℕ) → ℕ → Option ℕ
+given_place said k = get_or said k None
 
 -- a column stands at the place that is said of it, which the header has; else where its name
 -- stands, and nowhere else
@@ -42,7 +42,7 @@ pub record FirstStandAt (fields : List (List ℕ)) (ds : Fields) (said : List (O
     (places : List ℕ) : Type 0 where
   pub count : length places ≡ n
   pub each : (k : ℕ) → k < n
-      → StandsWhere fields (place_said said k) (field_name k ds) (get_or places k 0)
+      → StandsWhere fields (given_place said k) (field_name k ds) (get_or places k 0)
 
 abbrev pub StandAt : List (List ℕ) → Fields → List (Option ℕ) → List ℕ → Type 0
 StandAt fields ds said = FirstStandAt fields ds said (field_count ds)
@@ -78,14 +78,14 @@ pub data RefusesHeader (fields : List (List ℕ)) (ds : Fields) (said : List (Op
     (e : StreamError) : Type 0 where
   at_column : (k : ℕ) (places : List ℕ) → k < field_count ds
       → FirstStandAt fields ds said k places
-      → RefusesColumn fields (place_said said k) (field_name k ds) e
+      → RefusesColumn fields (given_place said k) (field_name k ds) e
       → RefusesHeader fields ds said e
   without_memory : e ≡ end.OutOfMemory → RefusesHeader fields ds said e
 
 -- without a header a column stands at the place that is said of it, else at its own among those
 -- that are declared
 abbrev pub declared_place : List (Option ℕ) → ℕ → ℕ
-declared_place said k = unwrap_or (place_said said k) k
+declared_place said k = unwrap_or (given_place said k) k
 
 -- how many fields each record has where the first one has found: that many, but no fewer than
 -- reach to each column

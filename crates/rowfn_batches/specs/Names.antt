@@ -8,8 +8,8 @@ abbrev pub names_of : List Answer → List (List ℕ)
 names_of answers = map (λ a. string_bytes a.name) answers
 
 -- the name of that place stands at a place behind it, or at none
-abbrev pub StandsAgain : List (List ℕ) → ℕ → Type 0
-StandsAgain names p =
+abbrev pub RepeatsLater : List (List ℕ) → ℕ → Type 0
+RepeatsLater names p =
     (q : ℕ) × (p < q) × (q < length names) × (get_or names p [] ≡ get_or names q [])
 
 abbrev pub StandsLast : List (List ℕ) → ℕ → Type 0
@@ -26,6 +26,6 @@ TellsTwice name e = ⊥
 
 -- a name that stands twice is told; or memory ran out
 pub data RefusesNames (names : List (List ℕ)) (e : StreamError) : Type 0 where
-  stands_twice : (p : ℕ) → StandsAgain names p → TellsTwice (get_or names p []) e
+  stands_twice : (p : ℕ) → RepeatsLater names p → TellsTwice (get_or names p []) e
       → RefusesNames names e
   without_memory : e ≡ end.OutOfMemory → RefusesNames names e

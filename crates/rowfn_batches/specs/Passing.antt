@@ -4,7 +4,7 @@ use Rattle.std.specs.Prelude.{◌&&◌, not, is_some, option_map, ◌++◌, ◌+
 use Rattle.std.specs.Prelude.{if◌then◌else◌, min, Bool, true, false, suc}
 use Rattle.std.specs.Io.KnownBytes.{Appends, Keeps}
 use Rattle.vortex_columns.specs.ColumnView.{ColumnView}
-use Rattle.rowfn_batches.specs.declared.asked.Asked.{Asked}
+use Rattle.rowfn_batches.specs.declared.request.Request.{Request}
 use Rattle.rowfn_csv.specs.KeptLines.{line_of}
 use Rattle.rowfn_batches.specs.declared.errors.StreamError.{StreamError}
 use Rattle.rowfn_batches.specs.declared.errors.StreamError.TheVariants as end
@@ -109,7 +109,7 @@ abbrev pub rows_read_behind : {R : Type 0} → Stream R → ℕ
 rows_read_behind s = min (s.summary.rows_read + length s.batch.spans) (2 ^ 64 - 1)
 
 -- what is asked by a condition, and where its columns stand
-abbrev pub condition_asked : Option Condition → Option (Asked × List ℕ)
+abbrev pub condition_asked : Option Condition → Option (Request × List ℕ)
 condition_asked = option_map (λ c. (c.asked, c.layout.places.items))
 
 -- another batch of the stream was read; all but what reads it stays
@@ -187,8 +187,8 @@ pub data Passed {R : Type 0} (first : Stream R) (begun : Option (List ℕ))
       → Passed first begun (suc n) now after
 
 -- a stream of that reader whose header is written, of whose rows none is read
-pub record HasBegun {R : Type 0} (reader : R) (settings : Settings) (x : Asked)
-    (condition : Option Asked) (before begun : Option (List ℕ)) (first : Stream R) : Type 0 where
+pub record HasBegun {R : Type 0} (reader : R) (settings : Settings) (x : Request)
+    (condition : Option Request) (before begun : Option (List ℕ)) (first : Stream R) : Type 0 where
   pub headed : Stream R
   pub start : IsHeaded reader settings x condition headed
   pub header : Appends before begun headed.output.bytes.items
@@ -201,8 +201,8 @@ pub record HasBegun {R : Type 0} (reader : R) (settings : Settings) (x : Asked)
 -- last, which is not full, or to the one that ends it; that error is returned, and nothing is written
 -- after it. It is at its end, too, after as many batches as nobody reads. Where it does not start,
 -- nothing is written.
-pub data Flows {R : Type 0} (reader : R) (settings : Settings) (x : Asked)
-    (condition : Option Asked) (before after : Option (List ℕ))
+pub data Flows {R : Type 0} (reader : R) (settings : Settings) (x : Request)
+    (condition : Option Request) (before after : Option (List ℕ))
     (result : Result Summary StreamError) : Type 0 where
   at_end : (n : ℕ) (first was now : Stream R) (begun held : Option (List ℕ))
       → HasBegun reader settings x condition before begun first → Passed first begun n was held

@@ -4,7 +4,7 @@ use Rattle.std.specs.Prelude.{drop}
 use Rattle.std.specs.Prelude.{Option, Some, None, Result, Ok, Err, Bool, true, false, not, ⊤, ◌⊎◌}
 use Rattle.std.specs.Prelude.{suc}
 use Rattle.rowfn_csv.specs.declared.records.Span.{Span}
-use Rattle.rowfn_batches.specs.declared.asked.Asked.{Asked}
+use Rattle.rowfn_batches.specs.declared.request.Request.{Request}
 use Rattle.rowfn_batches.specs.declared.errors.StreamError.{StreamError}
 use Rattle.rowfn_batches.specs.declared.errors.StreamError.TheVariants as end
 use Rattle.rowfn_batches.specs.declared.settings.Settings.{Settings}
@@ -73,12 +73,12 @@ fields_asked None = []
 fields_asked (Some c) = c.batch.fields
 
 -- how many of a row those are, by what is asked by the condition
-abbrev pub width_asked : Option (Asked × List ℕ) → ℕ
+abbrev pub width_asked : Option (Request × List ℕ) → ℕ
 width_asked None = 0
 width_asked (Some asked) = length asked.1
 
-abbrev pub asked_width : Option Condition → ℕ
-asked_width c = width_asked (condition_asked c)
+abbrev pub condition_width : Option Condition → ℕ
+condition_width c = width_asked (condition_asked c)
 
 -- a condition, if there is one, reads these fields of rows that lie there
 abbrev pub ReadsRows : List Field → List Span → Option Condition → Type 0
@@ -98,7 +98,7 @@ module _ {R : Type 0} (fs gs : List Field) (lines : List Span) where
   abbrev pub HasPart : ℕ → ℕ → Stream R → Type 0
   HasPart first tried s =
       AreLoaded (fields_from fs (length s.layout.places.items) first tried)
-      (fields_from gs (asked_width s.condition) first tried) (take tried (drop first lines)) s
+      (fields_from gs (condition_width s.condition) first tried) (take tried (drop first lines)) s
 
   -- so many of them, from one on, are passed on, but for the first that is refused
   pub data PassesPart (first tried : ℕ) (old now : Stream R) (before after : Option (List ℕ))
@@ -213,8 +213,8 @@ pub data PassedBut {R : Type 0} (first : Stream R) (begun : Option (List ℕ)) (
 -- written of each without those rows, in their order; each of them is counted. Or what ends it in a
 -- batch is returned, and nothing is written after it. It is at its end, too, after as many batches as
 -- nobody reads. Where it does not start, nothing is written, and none is counted.
-pub data FlowsOn {R : Type 0} (reader : R) (settings : Settings) (x : Asked)
-    (condition : Option Asked) (before after : Option (List ℕ)) (counted count : ℕ)
+pub data FlowsOn {R : Type 0} (reader : R) (settings : Settings) (x : Request)
+    (condition : Option Request) (before after : Option (List ℕ)) (counted count : ℕ)
     (result : Result Summary StreamError) : Type 0 where
   at_end : (n : ℕ) (first was now : Stream R) (begun held : Option (List ℕ)) (some : ℕ)
       → HasBegun reader settings x condition before begun first
@@ -241,7 +241,7 @@ pub data FlowsOn {R : Type 0} (reader : R) (settings : Settings) (x : Asked)
 
 -- A stream runs, up to the first row that is refused, or past those that are, as they are to end it or
 -- to be skipped.
-abbrev pub Runs : {R E : Type 0} → R → Settings → Asked → Option Asked → Option (List ℕ)
+abbrev pub Runs : {R E : Type 0} → R → Settings → Request → Option Request → Option (List ℕ)
     → Option (List ℕ) → RefusedRows E → RefusedRows E → Result Summary StreamError → Type 0
 Runs reader settings x condition before after refused.End refused.End result =
     Flows reader settings x condition before after result

@@ -10,13 +10,13 @@ use Rattle.vortex_types.specs.LogicalTypes.{field_count}
 use Rattle.vortex_types.specs.TypeOf.{struct_fields}
 use Rattle.vortex_program.specs.declared.answer.Answer.{Answer}
 use Rattle.rowfn_csv.specs.declared.format.Format.{Format}
-use Rattle.rowfn_csv.specs.declared.records.Found.TheVariants as found
-use Rattle.rowfn_csv.specs.declared.records.ReadError.TheVariants as read
+use Rattle.rowfn_csv.specs.declared.records.FoundRecord.TheVariants as found
+use Rattle.rowfn_csv.specs.declared.records.RecordError.TheVariants as read
 use Rattle.rowfn_csv.specs.declared.records.Records.{Records}
 use Rattle.rowfn_csv.specs.KeptLines.{line_of, last_bytes, is_ended}
 use Rattle.rowfn_csv.specs.Reads.{ReadsOne}
 use Rattle.rowfn_csv.specs.Records.{Field, SaysFields, without_line_end}
-use Rattle.rowfn_batches.specs.declared.asked.Asked.{Asked}
+use Rattle.rowfn_batches.specs.declared.request.Request.{Request}
 use Rattle.rowfn_batches.specs.declared.errors.StreamError.{StreamError}
 use Rattle.rowfn_batches.specs.declared.errors.StreamError.TheVariants as end
 use Rattle.rowfn_batches.specs.declared.header.Layout.{Layout}
@@ -69,14 +69,14 @@ pub data ReadsHeader {R : Type 0} (settings : Settings) (old now : Records R)
       → EndsWithin now true → result ≡ Err end.OpenHeader → ReadsHeader settings old now result
 
 -- columns are where a header with those fields says
-pub record AreNamed (fields : List (List ℕ)) (x : Asked) (layout : Layout) : Type 0 where
+pub record AreNamed (fields : List (List ℕ)) (x : Request) (layout : Layout) : Type 0 where
   pub places :
       StandAt fields (struct_fields x.program.now.scope) x.places.now layout.places.items
   pub width : layout.width ≡ Some (length fields)
 
 -- columns are in the order in which they are declared, but for those whose places are given; the
 -- first row shows how many fields each has
-pub record AreDeclared (x : Asked) (layout : Layout) : Type 0 where
+pub record AreDeclared (x : Request) (layout : Layout) : Type 0 where
   pub places : layout.places.items
       ≡ map (declared_place x.places.now)
       (range_with_len 0 (field_count (struct_fields x.program.now.scope)))
@@ -84,30 +84,30 @@ pub record AreDeclared (x : Asked) (layout : Layout) : Type 0 where
 
 module _ (settings : Settings) (fields : List (List ℕ)) where
   -- columns are where the header says, if there is one
-  abbrev pub HasColumns : Asked → Layout → Type 0
+  abbrev pub HasColumns : Request → Layout → Type 0
   HasColumns x layout = MatchBool settings.header (AreNamed fields x layout) (AreDeclared x layout)
 
   -- the same, with the columns whose truth values are read in any spelling
-  pub record IsLaidOut (x : Asked) (layout : Layout) : Type 0 where
+  pub record IsLaidOut (x : Request) (layout : Layout) : Type 0 where
     pub columns : HasColumns x layout
     pub spelled : option_map (λ columns. columns.items) layout.spelled
         ≡ spelled_where settings.format.any_truths (struct_fields x.program.now.scope)
         layout.places.items
 
   -- why they are not: the header refuses one, or memory ran out
-  abbrev pub RefusesLayout : Asked → StreamError → Type 0
+  abbrev pub RefusesLayout : Request → StreamError → Type 0
   RefusesLayout x e =
       MatchBool settings.header
       (RefusesHeader fields (struct_fields x.program.now.scope) x.places.now e)
       (e ≡ end.OutOfMemory)
 
   -- the condition, if there is one, has its columns so
-  abbrev pub HasCondition : Option Asked → Option Condition → Type 0
+  abbrev pub HasCondition : Option Request → Option Condition → Type 0
   HasCondition None c = c ≡ None
   HasCondition (Some x) None = ⊥
   HasCondition (Some x) (Some c) = (c.asked ≡ x) × IsLaidOut x c.layout
 
-  abbrev pub RefusesCondition : Option Asked → StreamError → Type 0
+  abbrev pub RefusesCondition : Option Request → StreamError → Type 0
   RefusesCondition None e = ⊥
   RefusesCondition (Some x) e = RefusesLayout x e
 
@@ -155,8 +155,8 @@ pub record HasReadHeader {R : Type 0} (reader : R) (settings : Settings) (is_the
 
 -- A stream of that reader that has read the header, where there is one: its columns are where the
 -- header says, and the header of the output is to be written.
-pub record IsHeaded {R : Type 0} (reader : R) (settings : Settings) (x : Asked)
-    (condition : Option Asked) (s : Stream R) : Type 0 where
+pub record IsHeaded {R : Type 0} (reader : R) (settings : Settings) (x : Request)
+    (condition : Option Request) (s : Stream R) : Type 0 where
   pub is_there : Bool
   pub records : HasReadHeader reader settings is_there s.records
   pub set_so : s.settings ≡ settings
@@ -174,8 +174,8 @@ pub record IsHeaded {R : Type 0} (reader : R) (settings : Settings) (x : Asked)
 -- Why a stream of that reader does not start, in this order: its output would not read back, its
 -- header cannot be read, a column is not in it, an answer has the name of one of its fields, or a
 -- column of the condition is not in it. Memory may run out at each.
-pub data DoesNotStart {R : Type 0} (reader : R) (settings : Settings) (x : Asked)
-    (condition : Option Asked) (e : StreamError) : Type 0 where
+pub data DoesNotStart {R : Type 0} (reader : R) (settings : Settings) (x : Request)
+    (condition : Option Request) (e : StreamError) : Type 0 where
   not_read_back : settings.picks_rows ≡ false
       → RefusesReadingBack settings.format x.program.now.written.items e
       → DoesNotStart reader settings x condition e

@@ -10,9 +10,9 @@ ghost use Rattle.rowfn_batches.specs.BatchAnswers.{TellsMisfit, TellsName, AreFi
 ghost use Rattle.rowfn_batches.specs.BatchAnswers.{AreAnswers, EndsAnswers, EndsBatch};
 ghost use Rattle.rowfn_batches.specs.BatchAnswers.{IsUnserved, IsUnanswered, width_of};
 
-use crate::asked::Asked;
-use crate::columns::{BatchError, leftmost_misfit, read_columns};
+use crate::columns::{FieldsError, leftmost_misfit, read_columns};
 use crate::errors::StreamError;
+use crate::request::Request;
 use std::alloc::Global;
 use vortex_columns::Column;
 use vortex_program::RunError;
@@ -27,9 +27,9 @@ pub struct Answered {
 
 /// What a batch is asked.
 #[derive(Clone, Copy)]
-pub struct Task<'a> {
+pub struct BatchTask<'a> {
     pub alloc: Global,
-    pub asked: Asked<'a>,
+    pub asked: Request<'a>,
     /// Where each declared column stands in a row of the input.
     pub places: &'a [usize],
     /// How many rows were read before the batch.
@@ -75,7 +75,7 @@ fn first_rows<'f, 'b>(
     }
 }
 
-impl Task<'_> {
+impl BatchTask<'_> {
     /// The number of a row that is answered.
     fn number_of(&self, row: usize) -> u64
         ensures { result ≡ number_of self.now row }
@@ -227,14 +227,14 @@ impl Task<'_> {
         let whole = first_rows(fields, declared.len(), row_count);
         match read_columns(self.alloc, declared, whole, row_count) {
             Ok(columns) => self.answer_fitting(fields, &columns, row_count, error),
-            Err(BatchError::Misfit { row, column }) => {
+            Err(FieldsError::Misfit { row, column }) => {
                 let column = leftmost_misfit(declared, self.places, whole, row, column);
                 let misfit = self.misfit(fields, row, column)?;
                 let columns = self.columns(fields, row)?;
                 self.answer_fitting(fields, &columns, row, Some(misfit))
             }
-            Err(BatchError::TextsTooLong { column }) => Err(self.too_long(column)?),
-            Err(BatchError::Uneven | BatchError::OutOfMemory) => Err(StreamError::OutOfMemory),
+            Err(FieldsError::TextsTooLong { column }) => Err(self.too_long(column)?),
+            Err(FieldsError::Uneven | FieldsError::OutOfMemory) => Err(StreamError::OutOfMemory),
         }
     }
 }

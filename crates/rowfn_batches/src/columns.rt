@@ -18,7 +18,7 @@ use vortex_columns::{Column, StructFields, VortexError, VortexResult};
 
 /// Why the fields of a batch make no columns. Records and columns are counted from 0.
 #[derive(Debug, Drop, Error)]
-pub enum BatchError {
+pub enum FieldsError {
     /// That field does not fit its column's type; all before it do, row by row and in a row from
     /// left to right.
     #[error("the field of row {row} and column {column} does not fit")]
@@ -36,25 +36,25 @@ pub enum BatchError {
 }
 
 /// What is called here refuses only where memory is refused.
-impl From<VortexError> for BatchError {
-    ghost use Rattle.rowfn_batches.specs.declared.columns.BatchError.TheVariants.{OutOfMemory};
+impl From<VortexError> for FieldsError {
+    ghost use Rattle.rowfn_batches.specs.declared.columns.FieldsError.TheVariants.{OutOfMemory};
     ghost use Rattle.std.specs.Prelude.{◌≡◌};
 
     ghost from_gives = { λ _ e. e ≡ OutOfMemory };
 
-    fn from(_error: VortexError) -> BatchError {
-        BatchError::OutOfMemory
+    fn from(_error: VortexError) -> FieldsError {
+        FieldsError::OutOfMemory
     }
 }
 
-impl<T: Drop> From<AllocFailed<T>> for BatchError {
-    ghost use Rattle.rowfn_batches.specs.declared.columns.BatchError.TheVariants.{OutOfMemory};
+impl<T: Drop> From<AllocFailed<T>> for FieldsError {
+    ghost use Rattle.rowfn_batches.specs.declared.columns.FieldsError.TheVariants.{OutOfMemory};
     ghost use Rattle.std.specs.Prelude.{◌≡◌};
 
     ghost from_gives = { λ _ e. e ≡ OutOfMemory };
 
-    fn from(_error: AllocFailed<T>) -> BatchError {
-        BatchError::OutOfMemory
+    fn from(_error: AllocFailed<T>) -> FieldsError {
+        FieldsError::OutOfMemory
     }
 }
 
@@ -173,7 +173,7 @@ fn refusal(
     fields: &[Option<&[u8]>],
     row_count: usize,
     column: usize,
-) -> BatchError
+) -> FieldsError
     requires column { column < field_count (struct_fields declared.now) }
     requires even { AreEven (struct_fields declared.now) (map field_in fields.now) row_count }
     requires said { column_at (struct_fields declared.now) (map field_in fields.now) row_count
@@ -183,11 +183,11 @@ fn refusal(
     ensures { RefusesBatch (struct_fields declared.now) (map field_in fields.now) row_count result }
 {
     match first_misfit(declared, fields) {
-        Some(place) => BatchError::Misfit {
+        Some(place) => FieldsError::Misfit {
             row: place / declared.len(),
             column: place % declared.len(),
         },
-        None => BatchError::TextsTooLong { column },
+        None => FieldsError::TextsTooLong { column },
     }
 }
 
@@ -213,12 +213,12 @@ pub fn read_columns(
     declared: &StructFields,
     fields: &[Option<&[u8]>],
     row_count: usize,
-) -> Result<Vec<Column>, BatchError>
+) -> Result<Vec<Column>, FieldsError>
     ensures { ReadsColumns (struct_fields declared.now) (map field_in fields.now) row_count
         result }
 {
     if !is_even(declared.len(), row_count, fields.len()) {
-        return Err(BatchError::Uneven);
+        return Err(FieldsError::Uneven);
     }
     let mut columns = Vec::new(alloc);
     for place in 0..declared.len() {

@@ -1,6 +1,6 @@
 //! What ends a stream, with its status and its text.
 
-use rowfn_csv::ReadError;
+use rowfn_csv::RecordError;
 use std::alloc::{AllocError, AllocFailed};
 use std::fmt::{self, Write};
 use std::{io, str};
@@ -71,16 +71,16 @@ pub enum StreamError {
     OutOfMemory,
 }
 
-impl From<ReadError> for StreamError {
+impl From<RecordError> for StreamError {
     ghost use Rattle.rowfn_batches.specs.Endings.{read_ending};
     ghost use Rattle.std.specs.Prelude.{◌≡◌};
 
     ghost from_gives = { λ error e. e ≡ read_ending error };
 
-    fn from(error: ReadError) -> StreamError {
+    fn from(error: RecordError) -> StreamError {
         match error {
-            ReadError::Io(error) => StreamError::Reading(error),
-            ReadError::OutOfMemory => StreamError::OutOfMemory,
+            RecordError::Io(error) => StreamError::Reading(error),
+            RecordError::OutOfMemory => StreamError::OutOfMemory,
         }
     }
 }
@@ -197,7 +197,7 @@ pub(crate) fn write_bytes<W: fmt::Write>(f: &mut fmt::Formatter<W>, bytes: &[u8]
 const TOLD: usize = 80;
 
 /// What is told of a text: its beginning, and whether more stands behind that.
-pub(crate) fn told_text(text: &str) -> (&str, bool) {
+pub(crate) fn message_text(text: &str) -> (&str, bool) {
     match text.char_indices().nth(TOLD) {
         None => (text, false),
         Some((end, _)) => (text.get(..end).unwrap_or(""), true),
@@ -205,7 +205,7 @@ pub(crate) fn told_text(text: &str) -> (&str, bool) {
 }
 
 /// The same of bytes that are no text.
-pub(crate) fn told_bytes(bytes: &[u8]) -> (&[u8], bool) {
+pub(crate) fn message_bytes(bytes: &[u8]) -> (&[u8], bool) {
     match bytes.get(..TOLD) {
         None => (bytes, false),
         Some(told) => (told, true),
@@ -218,11 +218,11 @@ fn write_field<W: fmt::Write>(f: &mut fmt::Formatter<W>, field: Option<&[u8]>) -
         return f.write_str("null");
     };
     let is_cut = if let Ok(text) = str::from_utf8(bytes) {
-        let (told, is_cut) = told_text(text);
+        let (told, is_cut) = message_text(text);
         write!(f, "{told:?}")?;
         is_cut
     } else {
-        let (told, is_cut) = told_bytes(bytes);
+        let (told, is_cut) = message_bytes(bytes);
         f.write_str("\"")?;
         write_bytes(f, told)?;
         f.write_str("\"")?;

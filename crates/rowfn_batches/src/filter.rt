@@ -8,11 +8,11 @@ ghost use Rattle.rowfn_batches.specs.declared.errors.StreamError.TheVariants.{Ou
 ghost use Rattle.rowfn_batches.specs.Filtering.{true_rows, rows_picked, fields_picked, Sifts};
 ghost use Rattle.rowfn_batches.specs.Outputs.{HaveRows};
 
-use crate::answering::{Answered, Task};
-use crate::asked::Asked;
+use crate::answering::{Answered, BatchTask};
 use crate::errors::StreamError;
 use crate::header::Layout;
 use crate::output::is_true;
+use crate::request::Request;
 use rowfn_csv::Batch;
 use std::alloc::{AllocError, Global};
 use vortex_columns::Column;
@@ -20,7 +20,7 @@ use vortex_columns::Column;
 /// The condition of the rows that are answered, over columns of its own, with their fields.
 #[derive(Drop)]
 pub struct Condition<'a> {
-    pub asked: Asked<'a>,
+    pub asked: Request<'a>,
     pub layout: Layout,
     pub batch: Batch,
 }
@@ -159,7 +159,7 @@ impl Condition<'_> {
             (length self.now.batch.spans)) }
     {
         let fields = self.batch.fields(alloc)?;
-        let task = Task {
+        let task = BatchTask {
             alloc,
             asked: self.asked,
             places: &self.layout.places,

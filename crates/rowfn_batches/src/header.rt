@@ -6,7 +6,7 @@ ghost use Rattle.csv.specs.Records.{fields_of, field_at};
 ghost use Rattle.vortex_types.specs.LogicalTypes.{field_count};
 ghost use Rattle.vortex_types.specs.TypeOf.{struct_fields};
 ghost use Rattle.rowfn_batches.specs.Layouts.{LacksFrom, IsFirstFrom, StandsOnce, StandAt};
-ghost use Rattle.rowfn_batches.specs.Layouts.{RefusesName, RefusesHeader, place_said, StandsWhere};
+ghost use Rattle.rowfn_batches.specs.Layouts.{RefusesName, RefusesHeader, given_place, StandsWhere};
 ghost use Rattle.rowfn_batches.specs.Layouts.{RefusesPlace, RefusesColumn, declared_place};
 ghost use Rattle.rowfn_batches.specs.Layouts.{width_by};
 ghost use Rattle.rowfn_batches.specs.Spellings.{spelled_at, spelled_columns, spelled_where};
@@ -87,8 +87,8 @@ fn place_of(alloc: Global, header: &ByteRecord, name: &str) -> Result<usize, Str
 }
 
 /// The place that is given for a column.
-fn place_said(said: &[Option<usize>], column: usize) -> Option<usize>
-    ensures { result ≡ place_said said.now column }
+fn given_place(said: &[Option<usize>], column: usize) -> Option<usize>
+    ensures { result ≡ given_place said.now column }
 {
     said.get(column).copied().unwrap_or(None)
 }
@@ -147,7 +147,7 @@ fn places_of(
 {
     let mut places = Vec::new(alloc);
     for k in 0..declared.len() {
-        let place = column_place(alloc, header, place_said(said, k), declared.name(k))?;
+        let place = column_place(alloc, header, given_place(said, k), declared.name(k))?;
         places.push(place)?;
     }
     Ok(places)
@@ -190,7 +190,7 @@ pub fn declared_layout(
 {
     let mut places = Vec::new(alloc);
     for i in 0..declared.len() {
-        places.push(place_said(said, i).unwrap_or(i))?;
+        places.push(given_place(said, i).unwrap_or(i))?;
     }
     Ok(Layout {
         places,

@@ -3,7 +3,6 @@
 #![tactic(auto)]
 
 mod answering;
-pub mod asked;
 pub mod columns;
 pub mod errors;
 pub mod explained;
@@ -17,13 +16,14 @@ mod parts;
 pub mod printing;
 mod reading_back;
 pub mod refusals;
+pub mod request;
 pub mod settings;
 pub mod stream;
 mod truths;
 pub mod watched;
 
-pub use asked::Asked;
-pub use columns::{BatchError, read_columns};
+pub use asked::Request;
+pub use columns::{FieldsError, read_columns};
 pub use errors::StreamError;
 pub use explained::explain;
 pub use names::check_names;

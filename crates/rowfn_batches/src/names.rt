@@ -1,7 +1,7 @@
 //! The names of the answers, of which no two are one.
 ghost use Rattle.std.specs.Prelude.{◌≡◌, ◌<◌, ◌↔◌, IsTrue, IfOk, MatchBool, MatchResult, length};
 ghost use Rattle.std.specs.Prelude.{string_bytes};
-ghost use Rattle.rowfn_batches.specs.Names.{names_of, StandsAgain, StandsLast, AreApart};
+ghost use Rattle.rowfn_batches.specs.Names.{names_of, RepeatsLater, StandsLast, AreApart};
 ghost use Rattle.rowfn_batches.specs.Names.{TellsTwice, RefusesNames};
 
 use crate::errors::StreamError;
@@ -16,9 +16,9 @@ fn have_one_name(first: &Answer, second: &Answer) -> bool
 }
 
 /// Whether an answer behind that place has the name of the one there.
-fn stands_again(answers: &[Answer], place: usize) -> bool
+fn repeats_later(answers: &[Answer], place: usize) -> bool
     requires { place < length answers.now }
-    ensures { MatchBool result (StandsAgain (names_of answers.now) place)
+    ensures { MatchBool result (RepeatsLater (names_of answers.now) place)
         (StandsLast (names_of answers.now) place) }
 {
     for other in place + 1..answers.len() {
@@ -43,7 +43,7 @@ fn check_each(alloc: Global, answers: &[Answer]) -> Result<(), StreamError>
         (RefusesNames (names_of answers.now)) }
 {
     for place in 0..answers.len() {
-        if stands_again(answers, place) {
+        if repeats_later(answers, place) {
             return Err(twice(alloc, &answers[place])?);
         }
     }

@@ -15,7 +15,9 @@ ghost use Rattle.rowfn_csv.specs.Records.{without_line_end};
 
 use crate::answering::row_among;
 use crate::printing::push_field;
-use crate::truths::{TruthRows, Truths, push_line_end, push_truth_in, push_truth_line, truths_of};
+use crate::truths::{
+    Truths, WrittenTruths, push_line_end, push_truth_in, push_truth_line, truths_of,
+};
 use rowfn_csv::{Format, Records, Span, quote_from, without_line_end};
 use std::alloc::{AllocError, Global};
 use std::io::Read;
@@ -23,11 +25,11 @@ use vortex_columns::{Cell, Column};
 use vortex_program::Answer;
 
 /// The only answer, where it has truth values and is no constant.
-fn only_truths(answers: &[Column]) -> Option<TruthRows<'_>>
+fn only_truths(answers: &[Column]) -> Option<WrittenTruths<'_>>
     ensures { IfSome result (λ rows. answers.now ≡ rows ∷ []) }
 {
     match answers {
-        [answer] => TruthRows::of(answer),
+        [answer] => WrittenTruths::of(answer),
         _ => None,
     }
 }
@@ -143,7 +145,7 @@ impl<'a> Output<'a> {
             (value_field self.old.format
             (row column.now.rows place))) }
     {
-        let Some(rows) = TruthRows::of(column) else {
+        let Some(rows) = WrittenTruths::of(column) else {
             return self.push_other(column, place);
         };
         push_truth_in(&mut self.bytes, &rows, place, truths, &self.format)?;
@@ -198,7 +200,7 @@ impl<'a> Output<'a> {
     /// Adds the first rows of truth values, a line each. Refused only for want of memory.
     fn push_truths(
         &mut self,
-        rows: &TruthRows<'_>,
+        rows: &WrittenTruths<'_>,
         row_count: usize,
         truths: Truths<'a>,
     ) -> Result<(), AllocError>
@@ -238,7 +240,7 @@ impl<'a> Output<'a> {
 
     /// Adds a line without its end, and behind it a row of the answers. Refused only for want of
     /// memory.
-    fn push_behind(
+    fn push_after(
         &mut self,
         line: &[u8],
         answers: &[Column],
@@ -273,7 +275,7 @@ impl<'a> Output<'a> {
         let truths = truths_of(&self.format);
         for place in 0..row_count {
             let line = line_at(records, spans, row_among(rows, place));
-            self.push_behind(line, answers, place, truths)?;
+            self.push_after(line, answers, place, truths)?;
         }
         Ok(())
     }

@@ -4,7 +4,7 @@ ghost use Rattle.std.specs.Io.KnownBytes.{Appends};
 ghost use Rattle.rowfn_batches.specs.Refusals.{IsUntold, one_more_counted, header_before, row_shown};
 ghost use Rattle.rowfn_batches.specs.Refusals.{AddsLine, TellsRow};
 
-use crate::errors::{StreamError, told_bytes, told_text, write_bytes};
+use crate::errors::{StreamError, message_bytes, message_text, write_bytes};
 use itoa::Buffer;
 use std::alloc::{AllocError, AllocFailed, Global};
 use std::io::{self, Write};
@@ -19,7 +19,7 @@ const ENOUGH: usize = 1 << 16;
 
 /// What is told of a row that is refused, as a line.
 #[derive(Clone, Copy)]
-struct Line<'a> {
+struct RefusalLine<'a> {
     error: &'a StreamError,
 }
 
@@ -61,10 +61,10 @@ fn write_field<W: fmt::Write>(f: &mut fmt::Formatter<W>, field: Option<&[u8]>) -
         return Ok(());
     };
     if let Ok(text) = str::from_utf8(bytes) {
-        let (told, is_cut) = told_text(text);
+        let (told, is_cut) = message_text(text);
         return write_text(f, told, end_of(is_cut));
     }
-    let (told, is_cut) = told_bytes(bytes);
+    let (told, is_cut) = message_bytes(bytes);
     f.write_str("\"")?;
     write_bytes(f, told)?;
     f.write_str(end_of(is_cut))?;
@@ -73,7 +73,7 @@ fn write_field<W: fmt::Write>(f: &mut fmt::Formatter<W>, field: Option<&[u8]>) -
 
 /// What stands behind the row's number: the column by its name, the reason, and the beginning of the
 /// field.
-impl fmt::Display for Line<'_> {
+impl fmt::Display for RefusalLine<'_> {
     fn fmt<W: fmt::Write>(&self, f: &mut fmt::Formatter<W>) -> fmt::Result {
         if let StreamError::Misfit { column, .. } = self.error {
             write_text(f, column.as_str(), "")?;
@@ -138,7 +138,7 @@ impl<W> Refusals<W> {
 
 impl<W: Write> Refusals<W> {
     /// Tells the header, where it was not yet. Refused only for want of memory.
-    pub fn tell_header(&mut self) -> Result<(), AllocError>
+    pub fn report_header(&mut self) -> Result<(), AllocError>
         ensures count { self.new.count ≡ self.old.count }
         ensures writer { self.new.writer ≡ self.old.writer }
         ensures told { OnOk result (self.new.has_header ≡ true) }
@@ -170,10 +170,10 @@ impl<W: Write> Refusals<W> {
         ensures line { OnOk result (AddsLine self.old.has_header error.now self.old.lines.items
             self.new.lines.items) }
     {
-        self.tell_header()?;
+        self.report_header()?;
         self.push_number(error.row().unwrap_or(0))?;
         self.lines.push(b',')?;
-        let line = format!(in self.alloc; "{}", Line { error })?;
+        let line = format!(in self.alloc; "{}", RefusalLine { error })?;
         self.lines.extend_from_slice(line.as_bytes())?;
         Ok(())
     }
@@ -293,7 +293,7 @@ pub fn refusals_in<F: Files + AllocGlobal>(
     match fs::create(rt, name) {
         Ok(file) => {
             let mut refusals = Refusals::new(rt.alloc(), file);
-            refusals.tell_header()?;
+            refusals.report_header()?;
             Ok(refusals)
         }
         Err(error) => {

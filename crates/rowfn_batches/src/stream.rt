@@ -10,12 +10,12 @@ mod skipping;
 mod starting;
 mod writing;
 
-use crate::asked::Asked;
 use crate::errors::StreamError;
 use crate::filter::Condition;
 use crate::header::Layout;
 use crate::output::Output;
 use crate::refusals::RefusedRows;
+use crate::request::Request;
 use crate::settings::Settings;
 use rowfn_csv::{Batch, Records};
 use skipping::run_past_refused;
@@ -34,7 +34,7 @@ pub struct Summary {
 struct Stream<'a, R> {
     alloc: Global,
     settings: Settings<'a>,
-    asked: Asked<'a>,
+    asked: Request<'a>,
     condition: Option<Condition<'a>>,
     records: Records<'a, R>,
     layout: Layout,
@@ -62,8 +62,8 @@ impl<'a, R: Read + Drop> Stream<'a, R> {
 fn run_until_refused<'a, R: Read + Drop, W: Write>(
     alloc: Global,
     settings: &Settings<'a>,
-    asked: &Asked<'a>,
-    condition: Option<&Asked<'a>>,
+    asked: &Request<'a>,
+    condition: Option<&Request<'a>>,
     reader: R,
     writer: &mut W,
 ) -> Result<Summary, StreamError>
@@ -102,8 +102,8 @@ fn run_until_refused<'a, R: Read + Drop, W: Write>(
 pub fn run<'a, R: Read + Drop, W: Write, E: Write>(
     alloc: Global,
     settings: &Settings<'a>,
-    asked: &Asked<'a>,
-    condition: Option<&Asked<'a>>,
+    asked: &Request<'a>,
+    condition: Option<&Request<'a>>,
     reader: R,
     writer: &mut W,
     refused: &mut RefusedRows<E>,

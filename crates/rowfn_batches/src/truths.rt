@@ -83,13 +83,13 @@ pub fn push_line_end(bytes: &mut Vec<u8>) -> Result<(), AllocError>
 /// A column of truth values that is no constant, seen as that column: a bit for each row, and which
 /// rows are not null.
 #[derive(Drop)]
-pub struct TruthRows<'c> {
+pub struct WrittenTruths<'c> {
     column: &'c Column,
     bits: &'c BitBuffer,
     valid: ValidRows<'c>,
 }
 
-impl<'c> Model for TruthRows<'c> {
+impl<'c> Model for WrittenTruths<'c> {
     ghost use Rattle.vortex_columns.specs.ColumnView.{ColumnView, coded_column};
     ghost use Rattle.rowfn_batches.specs.Truths.{AreTruthRows};
 
@@ -102,15 +102,15 @@ impl<'c> Model for TruthRows<'c> {
     ghost invariant = { λ a. AreTruthRows a.column.now a.bits.now a.valid };
 }
 
-impl<'c> TruthRows<'c> {
+impl<'c> WrittenTruths<'c> {
     /// A column by its bits, where it has any.
     #[inline(always)]
-    pub fn of(column: &'c Column) -> Option<TruthRows<'c>>
+    pub fn of(column: &'c Column) -> Option<WrittenTruths<'c>>
         ensures { IfSome result (λ rows. rows ≡ column.now) }
     {
         let bits = column.bits()?;
         let valid = column.valid_rows();
-        Some(TruthRows {
+        Some(WrittenTruths {
             column,
             bits,
             valid,
@@ -144,7 +144,7 @@ impl<'c> TruthRows<'c> {
 #[inline(always)]
 pub fn push_truth_in(
     bytes: &mut Vec<u8>,
-    rows: &TruthRows<'_>,
+    rows: &WrittenTruths<'_>,
     place: usize,
     truths: Truths<'_>,
     format: &Format<'_>,
@@ -177,7 +177,7 @@ fn push_bare_line(bytes: &mut Vec<u8>, truth: bool) -> Result<(), AllocError>
 #[inline(always)]
 pub fn push_truth_line(
     bytes: &mut Vec<u8>,
-    rows: &TruthRows<'_>,
+    rows: &WrittenTruths<'_>,
     place: usize,
     truths: Truths<'_>,
     format: &Format<'_>,

@@ -3,7 +3,7 @@ use Rattle.std.proofs.Common.{◌≡◌, ◌==◌, true, ℕ, List, [], ◌∷�
 use Rattle.std.proofs.Common.{Some, refl, ap, inl, inr}
 use Rattle.std.proofs.lemmas.Bool.{ne_eqb}
 use Rattle.std.proofs.lemmas.Bool.Decides.{eqb_tells}
-use Rattle.rowfn_csv.specs.declared.comments.Line.TheVariants as line
+use Rattle.rowfn_csv.specs.declared.comments.LinePlace.TheVariants as line
 use Rattle.rowfn_csv.specs.Records.{Lacks}
 use Rattle.rowfn_csv.specs.Comments.{blanked, CommentIsBlank, QuotesHoldNone, CommentsAreSkipped}
 

@@ -107,10 +107,10 @@ module _ (format : Format) where
       let plain = (no_quotes text e).plain in
       (refl, refl, plain_lacks d (λ b h. h.no_delimiter) text plain, begins_bare text plain)
 
-  text_said : (quotes : Bool) (text : List ℕ) → needs_quotes format text ≡ quotes
+  token_text : (quotes : Bool) (text : List ℕ) → needs_quotes format text ≡ quotes
       → cell_said format (text_by quotes text) ≡ Some text
-  text_said true text e = refl
-  text_said false text e =
+  token_text true text e = refl
+  token_text false text e =
       ap (λ (b : Bool). if b then None else Some text) (no_quotes text e).no_null
 
   text_in_line : (quotes : Bool) (text : List ℕ) → needs_quotes format text ≡ quotes
@@ -134,7 +134,7 @@ module _ (format : Format) where
 
     said : (c : Option (List ℕ)) → cell_said format (field_of c) ≡ c
     said None = ap (λ (b : Bool). if b then None else Some null) null_said
-    said (Some text) = text_said (needs_quotes format text) text refl
+    said (Some text) = token_text (needs_quotes format text) text refl
 
     in_line : (c : Option (List ℕ)) → StandsInLine (field_of c)
     in_line None = may.lines

@@ -3,11 +3,11 @@ use Rattle.std.proofs.Common.{◌≡◌, ◌≢◌, Bool, true, false, ℕ, List
 use Rattle.std.proofs.Common.{ap, ◌∙◌, append_assoc, subst, inl, inr}
 use Rattle.std.specs.List.{flat_map}
 use Rattle.std.proofs.lemmas.Bool.Decides.{eqb_tells}
-use Rattle.rowfn_csv.specs.declared.raw.Place.{Place}
-use Rattle.rowfn_csv.specs.declared.raw.Place.TheVariants as at
+use Rattle.rowfn_csv.specs.declared.raw.RecordPlace.{RecordPlace}
+use Rattle.rowfn_csv.specs.declared.raw.RecordPlace.TheVariants as at
 use Rattle.rowfn_csv.specs.Fields.{doubled, quoted}
 use Rattle.rowfn_csv.specs.Records.{Field, bare, in_quotes, Lacks, BeginsBare, SaysFields}
-use Rattle.rowfn_csv.specs.Records.{EachSaysFields}
+use Rattle.rowfn_csv.specs.Records.{EachRecordHasFields}
 use Rattle.rowfn_csv.proofs.Scanning.{doubled_other}
 
 module _ (d : ℕ) where
@@ -33,7 +33,7 @@ module _ (d : ℕ) where
     again : (rest : List ℕ) → bytes ≡ 34 ∷ rest → Within rest → Behind bytes
     closes : BeginsBare bytes → GoesOn bytes → Behind bytes
 
-  From : Place → List ℕ → Type 0
+  From : RecordPlace → List ℕ → Type 0
   From at.Start bytes = Says bytes
   From at.Plain bytes = GoesOn bytes
   From at.Quoted bytes = Within bytes
@@ -113,7 +113,7 @@ module _ (d : ℕ) where
           | inr h ↦ one_more b bs h.1 on
         ]
 
-    from : (bytes : List ℕ) (p : Place) → From p bytes
+    from : (bytes : List ℕ) (p : RecordPlace) → From p bytes
     unfolding From
     from [] at.Start = says true (bare []) [] (refl, refl, tt, tt)
     from [] at.Plain = last tt
@@ -140,6 +140,6 @@ said : (d : ℕ) (bytes : List ℕ) → Says d bytes
     → (closed : Bool) × (fields : List Field) × SaysFields d closed bytes fields
 said d bytes (says closed f fs told) = (closed, f ∷ fs, told)
 
-pub each_says_fields : EachSaysFields
+pub each_record_has_fields : EachRecordHasFields
 unfolding From
-each_says_fields d bytes no_quote = said d bytes (from d no_quote bytes at.Start)
+each_record_has_fields d bytes no_quote = said d bytes (from d no_quote bytes at.Start)

@@ -7,8 +7,8 @@ use Rattle.std.specs.Bool.{⊤}
 use Rattle.std.specs.List.{flat_map}
 use Rattle.std.proofs.lemmas.Bool.{ne_eqb}
 use Rattle.std.proofs.lemmas.Bool.Decides.{eqb_tells}
-use Rattle.rowfn_csv.specs.declared.raw.Place.{Place}
-use Rattle.rowfn_csv.specs.declared.raw.Place.TheVariants as at
+use Rattle.rowfn_csv.specs.declared.raw.RecordPlace.{RecordPlace}
+use Rattle.rowfn_csv.specs.declared.raw.RecordPlace.TheVariants as at
 use Rattle.rowfn_csv.specs.Fields.{doubled}
 use Rattle.rowfn_csv.specs.Records.{Field, bare, in_quotes, Lacks, BeginsBare, Spells, SaysFields}
 use Rattle.rowfn_csv.specs.Records.{is_quoted}
@@ -18,7 +18,7 @@ same_byte : (d : ℕ) → (d == d) ≡ true
 same_byte d = elim (eqb_tells d d) [ inl h ↦ h.0 | inr h ↦ absurd (h.1 refl) ]
 
 -- the place behind a delimiter, behind other bytes, and behind quotes
-at_delimiter : (d : ℕ) (p : Place) → p ≢ at.Quoted → place_behind d p d ≡ at.Start
+at_delimiter : (d : ℕ) (p : RecordPlace) → p ≢ at.Quoted → place_behind d p d ≡ at.Start
 at_delimiter d at.Start q = rw (same_byte d) refl
 at_delimiter d at.Plain q = rw (same_byte d) refl
 at_delimiter d at.Closed q = rw (same_byte d) refl
@@ -27,7 +27,7 @@ at_delimiter d at.Quoted q = absurd (q refl)
 at_plain : (d b : ℕ) → b ≢ d → place_behind d at.Plain b ≡ at.Plain
 at_plain d b h = rw (ne_eqb b d h) refl
 
-at_bare : (d b : ℕ) (p : Place) → p ≢ at.Quoted → b ≢ d → b ≢ 34 → place_behind d p b ≡ at.Plain
+at_bare : (d b : ℕ) (p : RecordPlace) → p ≢ at.Quoted → b ≢ d → b ≢ 34 → place_behind d p b ≡ at.Plain
 at_bare d b at.Start q h g = rw (ne_eqb b d h, ne_eqb b 34 g) refl
 at_bare d b at.Plain q h g = rw (ne_eqb b d h) refl
 at_bare d b at.Closed q h g = rw (ne_eqb b d h, ne_eqb b 34 g) refl
@@ -36,7 +36,7 @@ at_bare d b at.Quoted q h g = absurd (q refl)
 in_text : (d b : ℕ) → b ≢ 34 → place_behind d at.Quoted b ≡ at.Quoted
 in_text d b h = rw (ne_eqb b 34 h) refl
 
-at_quote : (d : ℕ) (p : Place) → d ≢ 34 → p ≢ at.Quoted → p ≢ at.Plain
+at_quote : (d : ℕ) (p : RecordPlace) → d ≢ 34 → p ≢ at.Quoted → p ≢ at.Plain
     → place_behind d p 34 ≡ at.Quoted
 at_quote d at.Start h q s = rw (ne_eqb 34 d (λ e. h (sym e))) refl
 at_quote d at.Closed h q s = rw (ne_eqb 34 d (λ e. h (sym e))) refl
@@ -55,10 +55,10 @@ module _ (d : ℕ) where
   FollowsField [] = ⊤
   FollowsField (b ∷ bs) = b ≡ d
 
-  module _ (A : Type 0) (stop : Place → A) (start : Bool → A → A) where
+  module _ (A : Type 0) (stop : RecordPlace → A) (start : Bool → A → A) where
     -- from a place on: what is told at each field's start, whether a quote stands there, and at the
     -- end
-    abbrev pub scanned : Place → List ℕ → A
+    abbrev pub scanned : RecordPlace → List ℕ → A
     scanned p [] = stop p
     scanned at.Start (b ∷ bs) = start (b == 34) (scanned (place_behind d at.Start b) bs)
     scanned at.Plain (b ∷ bs) = scanned (place_behind d at.Plain b) bs
@@ -73,18 +73,18 @@ module _ (d : ℕ) where
     module _ (no_quote : d ≢ 34) (empty : stop at.Start ≡ start false (stop at.Plain))
         (shut : stop at.Closed ≡ stop at.Plain) where
       -- a byte goes on to a place
-      goes_on : (p q : Place) (b : ℕ) (bs : List ℕ) → p ≢ at.Start → place_behind d p b ≡ q
+      goes_on : (p q : RecordPlace) (b : ℕ) (bs : List ℕ) → p ≢ at.Start → place_behind d p b ≡ q
           → scanned p (b ∷ bs) ≡ scanned q bs
       goes_on at.Start q b bs h e = absurd (h refl)
-      goes_on at.Plain q b bs h e = ap (λ (p : Place). scanned p bs) e
-      goes_on at.Quoted q b bs h e = ap (λ (p : Place). scanned p bs) e
-      goes_on at.Closed q b bs h e = ap (λ (p : Place). scanned p bs) e
+      goes_on at.Plain q b bs h e = ap (λ (p : RecordPlace). scanned p bs) e
+      goes_on at.Quoted q b bs h e = ap (λ (p : RecordPlace). scanned p bs) e
+      goes_on at.Closed q b bs h e = ap (λ (p : RecordPlace). scanned p bs) e
 
       -- a byte begins a field
-      begins : (q : Place) (b : ℕ) (m : Bool) (bs : List ℕ) → place_behind d at.Start b ≡ q
+      begins : (q : RecordPlace) (b : ℕ) (m : Bool) (bs : List ℕ) → place_behind d at.Start b ≡ q
           → (b == 34) ≡ m → scanned at.Start (b ∷ bs) ≡ start m (scanned q bs)
       begins q b m bs e f =
-          ap (λ (p : Place). start (b == 34) (scanned p bs)) e
+          ap (λ (p : RecordPlace). start (b == 34) (scanned p bs)) e
           ∙ ap (λ (n : Bool). start n (scanned q bs)) f
 
       plain : (text rest : List ℕ) → Lacks d text
@@ -181,23 +181,23 @@ module _ (d : ℕ) where
           ∙ scanned_says closed rest (g ∷ fs) more)
 
 -- whether what ends at a place is closed, and the mark of a field that begins there
-abbrev pub closed_at : Place → Bool
+abbrev pub closed_at : RecordPlace → Bool
 closed_at at.Start = true
 closed_at at.Plain = true
 closed_at at.Quoted = false
 closed_at at.Closed = true
 
-abbrev pub last_mark : Place → List Bool
+abbrev pub last_mark : RecordPlace → List Bool
 last_mark at.Start = false ∷ []
 last_mark at.Plain = []
 last_mark at.Quoted = []
 last_mark at.Closed = []
 
 -- whether the bytes from a place on are closed, and a mark of each field that begins there
-abbrev pub ends_closed : ℕ → Place → List ℕ → Bool
+abbrev pub ends_closed : ℕ → RecordPlace → List ℕ → Bool
 ends_closed d = scanned d Bool closed_at (λ m rest. rest)
 
-abbrev pub marks : ℕ → Place → List ℕ → List Bool
+abbrev pub marks : ℕ → RecordPlace → List ℕ → List Bool
 marks d = scanned d (List Bool) last_mark ◌∷◌
 
 pub closed_says : (d : ℕ) → d ≢ 34 → (closed : Bool) (bytes : List ℕ) (fs : List Field)
@@ -225,7 +225,7 @@ marks_say d no_quote closed bytes fs h =
     of_fields closed (f ∷ fs) = ap (λ (t : List Bool). is_quoted f ∷ t) (of_fields closed fs)
 
 -- of bytes without a quote no field is marked
-pub none_marked : (d : ℕ) (p : Place) (bytes : List ℕ)
+pub none_marked : (d : ℕ) (p : RecordPlace) (bytes : List ℕ)
     → ((k : ℕ) → k < length bytes → is_byte 34 (slice_index bytes k) ≢ true)
     → (i : ℕ) → get_or (marks d p bytes) i false ≡ false
 none_marked d at.Start [] h zero = refl

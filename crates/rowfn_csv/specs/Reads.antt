@@ -4,12 +4,12 @@ use Rattle.std.specs.Prelude.{IsSome, length, drop, take, fold, slice_index, [],
 use Rattle.std.specs.Prelude.{true, false, not, min, ◌+◌, ◌^◌, nat_eq, if◌then◌else◌}
 use Rattle.std.specs.List.{starts_with}
 use Rattle.csv.specs.Reading.{reader_source}
-use Rattle.rowfn_csv.specs.declared.raw.Place.{Place}
-use Rattle.rowfn_csv.specs.declared.raw.Place.TheVariants as at
+use Rattle.rowfn_csv.specs.declared.raw.RecordPlace.{RecordPlace}
+use Rattle.rowfn_csv.specs.declared.raw.RecordPlace.TheVariants as at
 use Rattle.rowfn_csv.specs.declared.records.Records.{Records}
-use Rattle.rowfn_csv.specs.declared.records.Found.{Found}
-use Rattle.rowfn_csv.specs.declared.records.Found.TheVariants as found
-use Rattle.rowfn_csv.specs.declared.records.ReadError.{ReadError}
+use Rattle.rowfn_csv.specs.declared.records.FoundRecord.{FoundRecord}
+use Rattle.rowfn_csv.specs.declared.records.FoundRecord.TheVariants as found
+use Rattle.rowfn_csv.specs.declared.records.RecordError.{RecordError}
 use Rattle.rowfn_csv.specs.declared.tee.Tee.{Tee}
 use Rattle.rowfn_csv.specs.Formats.{is_line_end, begins_comment, is_comment_line}
 use Rattle.rowfn_csv.specs.KeptLines.{line_of}
@@ -21,18 +21,18 @@ pub record KeepsFormat {R : Type 0} (old now : Records R) : Type 0 where
   pub limit : now.limit ≡ old.limit
 
 -- why a read failed is there exactly where it failed: else what was there stays
-abbrev pub TellsWhy : Found → Option ReadError → Option ReadError → Type 0
+abbrev pub TellsWhy : FoundRecord → Option RecordError → Option RecordError → Type 0
 TellsWhy found.Failed old now = IsSome now
 TellsWhy found.Record old now = now ≡ old
 TellsWhy found.End old now = now ≡ old
 
 -- a read keeps how it reads, and tells why it failed
-pub record ReadsOne {R : Type 0} (old now : Records R) (result : Found) : Type 0 where
+pub record ReadsOne {R : Type 0} (old now : Records R) (result : FoundRecord) : Type 0 where
   pub kept : KeepsFormat old now
   pub why : TellsWhy result old.error now.error
 
 -- where the byte behind these stands, of which the first begins a field
-abbrev pub place_after : ℕ → List ℕ → Place
+abbrev pub place_after : ℕ → List ℕ → RecordPlace
 place_after delimiter bytes = fold (place_behind delimiter) at.Start bytes
 
 -- a line ends at that byte, outside quotes
@@ -71,8 +71,8 @@ abbrev pub bytes_from : {R : Type 0} → Tee R → ℕ → List ℕ
 bytes_from tee start = drop (start - tee.first) tee.kept.items
 
 -- the place after a byte order mark, where that is the start of the input; else the same
-abbrev pub behind_mark : {R : Type 0} → Tee R → ℕ → ℕ
-behind_mark tee place =
+abbrev pub after_mark : {R : Type 0} → Tee R → ℕ → ℕ
+after_mark tee place =
     if (place == 0) && starts_with nat_eq tee.kept.items (239 ∷ 187 ∷ 191 ∷ []) then 3 else place
 
 -- the place after such a mark and the comments at a place; at most what 64 bits hold
@@ -80,7 +80,7 @@ abbrev pub behind_comments : {R : Type 0} → Records R → ℕ → ℕ
 behind_comments rows place = min (start + (length bytes - length rest)) (2 ^ 64 - 1)
   where
     start : ℕ
-    start = behind_mark (reader_source rows.reader) place
+    start = after_mark (reader_source rows.reader) place
 
     bytes : List ℕ
     bytes = bytes_from (reader_source rows.reader) start
@@ -94,7 +94,7 @@ bytes_behind rows =
     from_record rows.format.comment false (bytes_from (reader_source rows.reader) rows.span.end)
 
 -- a record that was read is no comment: its line begins with no comment byte
-abbrev pub IsNoComment : {R : Type 0} → Found → Records R → Type 0
+abbrev pub IsNoComment : {R : Type 0} → FoundRecord → Records R → Type 0
 IsNoComment found.Record rows = is_comment_line rows.format.comment (line_of rows rows.span) ≡ false
 IsNoComment found.End rows = ⊤
 IsNoComment found.Failed rows = ⊤

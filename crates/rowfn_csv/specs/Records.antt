@@ -93,7 +93,7 @@ abbrev pub without_line_end : List ℕ → List ℕ
 without_line_end bytes = without_last 13 (without_last 10 bytes)
 
 -- each line says fields
-abbrev pub EachSaysFields : Type 0
-EachSaysFields =
+abbrev pub EachRecordHasFields : Type 0
+EachRecordHasFields =
     (delimiter : ℕ) (bytes : List ℕ) → delimiter ≢ 34
     → (closed : Bool) × (fields : List Field) × SaysFields delimiter closed bytes fields

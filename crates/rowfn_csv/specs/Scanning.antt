@@ -2,11 +2,11 @@
 use Rattle.std.specs.Prelude.{◌≡◌, ◌≢◌, Bool, true, false, ◌==◌, ℕ, List, if◌then◌else◌, get_or}
 use Rattle.rowfn_csv.specs.Records.{Field, SaysFields, quoted_at, without_line_end}
 use Rattle.rowfn_csv.specs.declared.raw.Quotes.{Quotes}
-use Rattle.rowfn_csv.specs.declared.raw.Place.{Place}
-use Rattle.rowfn_csv.specs.declared.raw.Place.TheVariants as at
+use Rattle.rowfn_csv.specs.declared.raw.RecordPlace.{RecordPlace}
+use Rattle.rowfn_csv.specs.declared.raw.RecordPlace.TheVariants as at
 
 -- where the byte behind one stands
-abbrev pub place_behind : ℕ → Place → ℕ → Place
+abbrev pub place_behind : ℕ → RecordPlace → ℕ → RecordPlace
 place_behind delimiter at.Quoted b = if b == 34 then at.Closed else at.Quoted
 place_behind delimiter at.Plain b = if b == delimiter then at.Start else at.Plain
 place_behind delimiter at.Start b =

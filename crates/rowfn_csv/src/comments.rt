@@ -4,11 +4,11 @@ ghost use Rattle.rowfn_csv.specs.Comments.{goes_on_mark, mark_after, past_mark, 
 ghost use Rattle.rowfn_csv.specs.Comments.{line_after, is_comment, line_behind, blanked};
 ghost use Rattle.rowfn_csv.specs.Comments.{BeginsLines, bytes_given, lines_after};
 
-use crate::raw::{Place, behind, ends_line};
+use crate::raw::{RecordPlace, behind, ends_line};
 
 /// Where a byte of the input is.
 #[derive(Clone, Copy)]
-pub enum Line {
+pub enum LinePlace {
     /// The first byte of the input, where a byte order mark may be.
     Input,
     /// After the first byte of such a mark.
@@ -20,59 +20,64 @@ pub enum Line {
     /// In a comment.
     Comment,
     /// In a record.
-    Record(Place),
+    Record(RecordPlace),
 }
 
 /// Whether a byte order mark goes on with a byte.
-fn goes_on_mark(line: Line, byte: u8) -> bool
+fn goes_on_mark(line: LinePlace, byte: u8) -> bool
     ensures { result ≡ goes_on_mark line byte }
 {
     match line {
-        Line::Input => byte == 0xEF,
-        Line::Mark1 => byte == 0xBB,
-        Line::Mark2 => byte == 0xBF,
-        Line::Start | Line::Comment | Line::Record(_) => false,
+        LinePlace::Input => byte == 0xEF,
+        LinePlace::Mark1 => byte == 0xBB,
+        LinePlace::Mark2 => byte == 0xBF,
+        LinePlace::Start | LinePlace::Comment | LinePlace::Record(_) => false,
     }
 }
 
 /// Where the byte after one is with which a byte order mark goes on.
-fn mark_after(line: Line) -> Line
+fn mark_after(line: LinePlace) -> LinePlace
     ensures { result ≡ mark_after line }
 {
     match line {
-        Line::Input => Line::Mark1,
-        Line::Mark1 => Line::Mark2,
-        Line::Mark2 | Line::Start | Line::Comment | Line::Record(_) => Line::Start,
+        LinePlace::Input => LinePlace::Mark1,
+        LinePlace::Mark1 => LinePlace::Mark2,
+        LinePlace::Mark2 | LinePlace::Start | LinePlace::Comment | LinePlace::Record(_) =>
+            LinePlace::Start,
     }
 }
 
 /// Where a byte is with which no byte order mark goes on.
-fn past_mark(line: Line) -> Line
+fn past_mark(line: LinePlace) -> LinePlace
     ensures { result ≡ past_mark line }
 {
     match line {
-        Line::Input => Line::Start,
-        Line::Mark1 | Line::Mark2 => Line::Record(Place::Plain),
-        Line::Start | Line::Comment | Line::Record(_) => line,
+        LinePlace::Input => LinePlace::Start,
+        LinePlace::Mark1 | LinePlace::Mark2 => LinePlace::Record(RecordPlace::Plain),
+        LinePlace::Start | LinePlace::Comment | LinePlace::Record(_) => line,
     }
 }
 
 /// Where the byte after one is that belongs to no byte order mark.
-fn text_after(line: Line, byte: u8, delimiter: u8, comment: Option<u8>) -> Line
+fn text_after(line: LinePlace, byte: u8, delimiter: u8, comment: Option<u8>) -> LinePlace
     ensures { result ≡ text_after delimiter comment line byte }
 {
     match line {
-        Line::Record(Place::Quoted) => Line::Record(behind(Place::Quoted, byte, delimiter)),
-        _ if ends_line(byte) => Line::Start,
-        Line::Record(place) => Line::Record(behind(place, byte, delimiter)),
-        Line::Comment => Line::Comment,
-        _ if comment == Some(byte) => Line::Comment,
-        _ => Line::Record(behind(Place::Start, byte, delimiter)),
+        LinePlace::Record(RecordPlace::Quoted) => LinePlace::Record(behind(
+            RecordPlace::Quoted,
+            byte,
+            delimiter,
+        )),
+        _ if ends_line(byte) => LinePlace::Start,
+        LinePlace::Record(place) => LinePlace::Record(behind(place, byte, delimiter)),
+        LinePlace::Comment => LinePlace::Comment,
+        _ if comment == Some(byte) => LinePlace::Comment,
+        _ => LinePlace::Record(behind(RecordPlace::Start, byte, delimiter)),
     }
 }
 
 /// Where the byte after this one is.
-pub(crate) fn line_after(line: Line, byte: u8, delimiter: u8, comment: Option<u8>) -> Line
+pub(crate) fn line_after(line: LinePlace, byte: u8, delimiter: u8, comment: Option<u8>) -> LinePlace
     ensures { result ≡ line_after delimiter comment line byte }
 {
     if goes_on_mark(line, byte) {
@@ -83,10 +88,10 @@ pub(crate) fn line_after(line: Line, byte: u8, delimiter: u8, comment: Option<u8
 }
 
 /// Whether the byte before this place belongs to a comment.
-fn is_comment(line: Line) -> bool
+fn is_comment(line: LinePlace) -> bool
     ensures { result ≡ is_comment line }
 {
-    matches!(line, Line::Comment)
+    matches!(line, LinePlace::Comment)
 }
 
 /// Which lines of the input are comments, and where its next byte is.
@@ -94,11 +99,16 @@ fn is_comment(line: Line) -> bool
 pub struct Lines {
     pub(crate) delimiter: u8,
     pub(crate) comment: Option<u8>,
-    line: Line,
+    line: LinePlace,
 }
 
 /// Writes a line feed over each byte of a comment. Returns where the byte after these is.
-fn blank_comments(bytes: &mut [u8], line: Line, delimiter: u8, comment: Option<u8>) -> Line
+fn blank_comments(
+    bytes: &mut [u8],
+    line: LinePlace,
+    delimiter: u8,
+    comment: Option<u8>,
+) -> LinePlace
     ensures line { result ≡ line_behind delimiter comment line bytes.old }
     ensures bytes { bytes.new ≡ blanked delimiter comment line bytes.old }
 {
@@ -120,7 +130,7 @@ impl Lines {
         Lines {
             delimiter,
             comment,
-            line: Line::Input,
+            line: LinePlace::Input,
         }
     }
 

@@ -1,31 +1,31 @@
 //! How long the field is that is being read.
 
-use crate::comments::{Line, Lines, line_after};
-use crate::raw::Place;
+use crate::comments::{LinePlace, Lines, line_after};
+use crate::raw::RecordPlace;
 
 /// How far the record that is being read was gone over, and how long its last field is there.
 #[derive(Clone, Copy)]
 pub struct Growth {
-    line: Line,
+    line: LinePlace,
     seen: u64,
     len: usize,
 }
 
 /// Whether a byte is one of its field's text: neither a delimiter, nor a quote that begins or ends
 /// the field, nor the first of two quotes.
-fn is_text(place: Place, byte: u8, delimiter: u8) -> bool {
+fn is_text(place: RecordPlace, byte: u8, delimiter: u8) -> bool {
     match place {
-        Place::Quoted => byte != b'"',
-        Place::Start => byte != delimiter && byte != b'"',
-        Place::Plain | Place::Closed => byte != delimiter,
+        RecordPlace::Quoted => byte != b'"',
+        RecordPlace::Start => byte != delimiter && byte != b'"',
+        RecordPlace::Plain | RecordPlace::Closed => byte != delimiter,
     }
 }
 
 /// Where a byte of a record is; at the start of a field where it is in none.
-fn place_in(line: Line) -> Place {
+fn place_in(line: LinePlace) -> RecordPlace {
     match line {
-        Line::Record(place) => place,
-        _ => Place::Start,
+        LinePlace::Record(place) => place,
+        _ => RecordPlace::Start,
     }
 }
 
@@ -33,7 +33,7 @@ impl Growth {
     /// Nothing is gone over of a record that begins at that place of the input.
     pub(crate) fn from(place: u64) -> Growth {
         Growth {
-            line: Line::Start,
+            line: LinePlace::Start,
             seen: place,
             len: 0,
         }
@@ -49,7 +49,7 @@ impl Growth {
         self.seen = self.seen.saturating_add(1);
         let before = place_in(self.line);
         self.line = line_after(self.line, byte, lines.delimiter, lines.comment);
-        if place_in(self.line) == Place::Start {
+        if place_in(self.line) == RecordPlace::Start {
             self.len = 0;
         } else if is_text(before, byte, lines.delimiter) {
             self.len = self.len.saturating_add(1);

@@ -1,13 +1,13 @@
 //! What follows from what a record says, and how fields are written. The functions do nothing:
 //! their contracts are proved.
-ghost use Rattle.rowfn_csv.specs.Records.{EachSaysFields};
+ghost use Rattle.rowfn_csv.specs.Records.{EachRecordHasFields};
 ghost use Rattle.rowfn_csv.specs.RoundTrip.{CellsReadBack};
 ghost use Rattle.rowfn_csv.specs.Comments.{CommentsAreSkipped};
 
 /// Whatever bytes a record has, they say fields, of which the last may be open.
-#[tactic(auto, using(crate::proofs::Said::each_says_fields))]
-pub fn each_says_fields()
-    ensures { EachSaysFields }
+#[tactic(auto, using(crate::proofs::Said::each_record_has_fields))]
+pub fn each_record_has_fields()
+    ensures { EachRecordHasFields }
 {}
 
 /// Cells that are written as a line, in quotes where they need them, and null as its first text,

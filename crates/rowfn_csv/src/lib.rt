@@ -18,5 +18,5 @@ pub use csv::ByteRecord;
 pub use format::Format;
 pub use quoting::{field_of, push_quoted, quote_from};
 pub use raw::without_line_end;
-pub use records::{Found, ReadError, Records, Span};
+pub use records::{FoundRecord, RecordError, Records, Span};
 pub use truths::{Spelled, truth_spelled};

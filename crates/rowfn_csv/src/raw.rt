@@ -13,7 +13,7 @@ use std::alloc::{AllocError, Global};
 
 /// Where a byte of a record stands.
 #[derive(Clone, Copy, PartialEq, Eq)]
-pub enum Place {
+pub enum RecordPlace {
     /// At the first byte of a field.
     Start,
     /// In a field, outside quotes.
@@ -32,15 +32,15 @@ pub(crate) fn ends_line(byte: u8) -> bool
 }
 
 /// Where the byte behind this one stands, in the same record.
-pub fn behind(place: Place, byte: u8, delimiter: u8) -> Place
+pub fn behind(place: RecordPlace, byte: u8, delimiter: u8) -> RecordPlace
     ensures { result ≡ place_behind delimiter place byte }
 {
     match place {
-        Place::Quoted if byte == b'"' => Place::Closed,
-        Place::Quoted => Place::Quoted,
-        _ if byte == delimiter => Place::Start,
-        Place::Start | Place::Closed if byte == b'"' => Place::Quoted,
-        _ => Place::Plain,
+        RecordPlace::Quoted if byte == b'"' => RecordPlace::Closed,
+        RecordPlace::Quoted => RecordPlace::Quoted,
+        _ if byte == delimiter => RecordPlace::Start,
+        RecordPlace::Start | RecordPlace::Closed if byte == b'"' => RecordPlace::Quoted,
+        _ => RecordPlace::Plain,
     }
 }
 
@@ -112,20 +112,20 @@ pub fn is_closed(raw: &[u8], delimiter: u8) -> bool
     ensures { (closed : Bool) → (fields : List Field) → delimiter ≢ 34
         → SaysFields delimiter closed raw.now fields → result ≡ closed }
 {
-    let mut place = Place::Start;
+    let mut place = RecordPlace::Start;
     for byte in raw {
         place = behind(place, *byte, delimiter);
     }
-    place != Place::Quoted
+    place != RecordPlace::Quoted
 }
 
 /// Whether a line ends in bytes which begin with a field, outside quotes.
 pub(crate) fn has_line_end(bytes: &[u8], delimiter: u8) -> bool
     ensures { MatchBool result (HasLineEnd delimiter bytes.now) (¬ HasLineEnd delimiter bytes.now) }
 {
-    let mut place = Place::Start;
+    let mut place = RecordPlace::Start;
     for byte in bytes {
-        if place != Place::Quoted && ends_line(*byte) {
+        if place != RecordPlace::Quoted && ends_line(*byte) {
             return true;
         }
         place = behind(place, *byte, delimiter);
@@ -141,14 +141,14 @@ fn mark_quoted(raw: &[u8], delimiter: u8, marks: &mut Vec<bool>) -> Result<(), A
         → OnOk result (marks.new.items ≡ map is_quoted fields) }
 {
     marks.clear();
-    let mut place = Place::Start;
+    let mut place = RecordPlace::Start;
     for byte in raw {
-        if place == Place::Start {
+        if place == RecordPlace::Start {
             marks.push(*byte == b'"')?;
         }
         place = behind(place, *byte, delimiter);
     }
-    if place == Place::Start {
+    if place == RecordPlace::Start {
         marks.push(false)?;
     }
     Ok(())

@@ -9,7 +9,7 @@ ghost use Rattle.rowfn_csv.specs.Reads.{ReadsOne, KeepsFormat, HasLineEnd, bytes
 ghost use Rattle.rowfn_csv.specs.Reads.{IsNoComment};
 ghost use Rattle.rowfn_csv.specs.Records.{Field, SaysFields, field_taken, field_spelled};
 ghost use Rattle.rowfn_csv.specs.Records.{has_surplus};
-ghost use Rattle.rowfn_csv.specs.declared.records.ReadError.TheVariants.{OutOfMemory};
+ghost use Rattle.rowfn_csv.specs.declared.records.RecordError.TheVariants.{OutOfMemory};
 
 mod blank_lines;
 mod spans;
@@ -35,7 +35,7 @@ pub struct Span {
 
 /// Why no record could be read.
 #[derive(Drop)]
-pub enum ReadError {
+pub enum RecordError {
     /// The reader failed.
     Io(io::Error),
     /// Memory ran out.
@@ -45,7 +45,7 @@ pub enum ReadError {
 /// What a read found. It is small, since it is handed on with each record; what failed stands
 /// beside the records.
 #[derive(Clone, Copy, PartialEq, Eq)]
-pub enum Found {
+pub enum FoundRecord {
     /// A record, or a line without a byte that is one.
     Record,
     /// The end of the input.
@@ -65,14 +65,14 @@ pub struct Records<'a, R> {
     ahead: Ahead,
     limit: usize,
     is_outgrown: bool,
-    error: Option<ReadError>,
+    error: Option<RecordError>,
 }
 
 /// Why a read failed.
-fn read_error(error: Error) -> ReadError {
+fn read_error(error: Error) -> RecordError {
     match error.into_kind() {
-        ErrorKind::Io(error) => ReadError::Io(error),
-        _ => ReadError::OutOfMemory,
+        ErrorKind::Io(error) => RecordError::Io(error),
+        _ => RecordError::OutOfMemory,
     }
 }
 
@@ -124,7 +124,7 @@ impl<'a, R: Read> Records<'a, R> {
     /// Reads the next record, or the next blank line where that is one. Skips comments: lines that
     /// begin with the format's comment byte, outside quotes, up to the end of the line.
     #[inline(always)]
-    pub fn read(&mut self) -> Found
+    pub fn read(&mut self) -> FoundRecord
         ensures reads { ReadsOne self.old self.new result }
         ensures no_comment { self.old.format.blank_rows ≡ false → IsNoComment result self.new }
     {
@@ -136,17 +136,17 @@ impl<'a, R: Read> Records<'a, R> {
     }
 
     /// Why the last read failed.
-    pub fn take_error(&mut self) -> ReadError
+    pub fn take_error(&mut self) -> RecordError
         ensures error { result ≡ unwrap_or self.old.error OutOfMemory }
         ensures kept { self.new ≡ record self.old { error = None } }
     {
-        self.error.take().unwrap_or(ReadError::OutOfMemory)
+        self.error.take().unwrap_or(RecordError::OutOfMemory)
     }
 
     /// Reads the next record after blank lines and comments. One of which a field is too long is
     /// not read to its end.
     #[inline(always)]
-    pub fn read_record(&mut self) -> Found
+    pub fn read_record(&mut self) -> FoundRecord
         ensures reads { ReadsOne self.old self.new result }
         ensures no_comment { IsNoComment result self.new }
     {
@@ -154,15 +154,15 @@ impl<'a, R: Read> Records<'a, R> {
         self.reader.get_ref().begin_record(start);
         match self.reader.read_byte_record(&mut self.last) {
             Ok(true) => self.is_outgrown = is_outgrown(&self.last, self.limit),
-            Ok(false) => return Found::End,
+            Ok(false) => return FoundRecord::End,
             Err(error) => {
                 if !self.note(error) {
-                    return Found::Failed;
+                    return FoundRecord::Failed;
                 }
             }
         }
         self.span = self.span_of(start, self.reader.position().byte);
-        Found::Record
+        FoundRecord::Record
     }
 
     /// Notes why a read failed; answers whether there is a record all the same, of which a field is

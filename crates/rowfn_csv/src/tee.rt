@@ -32,7 +32,7 @@ impl<R: Read> Tee<R> {
     ghost use Rattle.std.specs.Prelude.{◌≡◌};
     ghost use Rattle.rowfn_csv.specs.Comments.{BeginsLines};
     ghost use Rattle.rowfn_csv.specs.KeptLines.{bytes_between};
-    ghost use Rattle.rowfn_csv.specs.Reads.{bytes_from, behind_mark};
+    ghost use Rattle.rowfn_csv.specs.Reads.{bytes_from, after_mark};
 
     /// Nothing is read yet; takes no memory. `limit` is the greatest length of a field.
     pub(crate) fn new(alloc: Global, inner: R, format: &Format<'_>, limit: usize) -> Tee<R>
@@ -104,8 +104,8 @@ impl<R: Read> Tee<R> {
     }
 
     /// The place behind a byte order mark, where that is one's; else the same.
-    pub(crate) fn behind_mark(&self, place: u64) -> u64
-        ensures { result ≡ behind_mark self.now place }
+    pub(crate) fn after_mark(&self, place: u64) -> u64
+        ensures { result ≡ after_mark self.now place }
     {
         if place == 0 && self.kept.as_slice().starts_with(MARK) {
             MARK.len() as u64
@@ -146,7 +146,7 @@ impl<R: Read> Tee<R> {
             return false;
         }
         if self.growth.seen() <= start {
-            self.growth = Growth::from(self.behind_mark(start));
+            self.growth = Growth::from(self.after_mark(start));
         }
         let from = self.growth.seen().saturating_sub(self.first) as usize;
         self.growth
@@ -183,7 +183,7 @@ impl<R: Read> Tee<R> {
     }
 
     /// Reads behind the first bytes of a buffer; answers how many bytes it then holds.
-    fn read_behind(&mut self, buf: &mut [u8], count: usize) -> io::Result<usize>
+    fn read_after(&mut self, buf: &mut [u8], count: usize) -> io::Result<usize>
         ensures bound { ReadsAtMost result buf.new }
         ensures lines { self.new.lines ≡ self.old.lines }
     {
@@ -220,9 +220,9 @@ impl<R: Read> Tee<R> {
         ensures lines { self.new.lines ≡ self.old.lines }
     {
         let held = self.give_held(buf);
-        let count = self.read_behind(buf, held)?;
+        let count = self.read_after(buf, held)?;
         if count == 1 && buf.first() == Some(&b'\r') {
-            return self.read_behind(buf, count);
+            return self.read_after(buf, count);
         }
         Ok(count)
     }

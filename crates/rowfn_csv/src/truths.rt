@@ -1,6 +1,6 @@
 //! Truth values as other programs spell them.
 ghost use Rattle.std.specs.Prelude.{◌≡◌};
-ghost use Rattle.rowfn_csv.specs.Truths.{says_true, says_false, truth_spelled, respelled};
+ghost use Rattle.rowfn_csv.specs.Truths.{is_true_word, is_false_word, truth_spelled, respelled};
 
 use crate::raw::is_text;
 
@@ -44,8 +44,8 @@ impl Chosen for Spelled {
     }
 }
 
-fn says_true(field: &[u8]) -> bool
-    ensures { result ≡ says_true field.now }
+fn is_true_word(field: &[u8]) -> bool
+    ensures { result ≡ is_true_word field.now }
 {
     is_text(field, b"t")
         || is_text(field, b"True")
@@ -53,8 +53,8 @@ fn says_true(field: &[u8]) -> bool
         || is_text(field, b"1")
 }
 
-fn says_false(field: &[u8]) -> bool
-    ensures { result ≡ says_false field.now }
+fn is_false_word(field: &[u8]) -> bool
+    ensures { result ≡ is_false_word field.now }
 {
     is_text(field, b"f")
         || is_text(field, b"False")
@@ -67,9 +67,9 @@ fn says_false(field: &[u8]) -> bool
 pub fn truth_spelled(field: &[u8]) -> &[u8]
     ensures { result.now ≡ truth_spelled field.now }
 {
-    if says_true(field) {
+    if is_true_word(field) {
         b"true"
-    } else if says_false(field) {
+    } else if is_false_word(field) {
         b"false"
     } else {
         field

@@ -29,7 +29,7 @@ use Rattle.vortex_cells.specs.CellValues.{cell_values, if_cells, with_first}
 use Rattle.rowfn_lines.specs.Commands.{cell_of, cells_of}
 use Rattle.vortex_cells.specs.CellValues.{fit_column, column_of, column_of_cells, literal_of_cell}
 use Rattle.vortex_cells.specs.CellValues.{column_where}
-use Rattle.rowfn_lines.specs.Commands.{column_said, literal_said, only_word}
+use Rattle.rowfn_lines.specs.Commands.{written_column, written_literal, only_word}
 use Rattle.rowfn_lines.specs.Commands.{or_malformed, rows_command, count_of, limit_of, name_of}
 use Rattle.vortex_cells.specs.TypeWords.{type_of_word}
 use Rattle.rowfn_lines.specs.Commands.{column_command, literal_command, get_command}
@@ -297,7 +297,7 @@ column_from t (Some cs) c h e =
     (in_cells t (option_and_then (column_where t) (cell_values t cs)) c e)
 
 column_typed : (ws : List Word) → AreTexts ws → (o : Option LogicalType) (c : ColumnView)
-    → option_and_then (λ t. column_said t ws) o ≡ Some c → AreTyped c.dtype c.rows
+    → option_and_then (λ t. written_column t ws) o ≡ Some c → AreTyped c.dtype c.rows
 column_typed ws h None c e = cc
 column_typed ws h (Some t) c e = column_from t (cells_of t ws) c (cells_said t ws h) e
 
@@ -318,7 +318,7 @@ literal_from t (Some c) s h e =
     scalar_in t (cell_value t c) s (λ v. cell_typed t c v (h c refl)) (in_cells t _ s e)
 
 literal_typed : (w : Word) → IsTextIn w → (o : Option LogicalType) (s : ScalarView)
-    → option_and_then (λ t. literal_said t w) o ≡ Some s → HasType s.dtype s.value
+    → option_and_then (λ t. written_literal t w) o ≡ Some s → HasType s.dtype s.value
 literal_typed w h None s e = cc
 literal_typed w h (Some t) s e = literal_from t (cell_of t w) s (λ c. cell_said t w c h) e
 
@@ -327,9 +327,9 @@ columns_typed [] h = tt
 columns_typed (plain name ∷ []) h = tt
 columns_typed (plain name ∷ plain t ∷ cells) h =
     if_typed (is_name name)
-    (or_malformed (column name) (option_and_then (λ u. column_said u cells) (type_of_word t)))
+    (or_malformed (column name) (option_and_then (λ u. written_column u cells) (type_of_word t)))
     malformed
-    (or_typed (column name) (option_and_then (λ u. column_said u cells) (type_of_word t))
+    (or_typed (column name) (option_and_then (λ u. written_column u cells) (type_of_word t))
     (column_typed cells h.1.1 (type_of_word t)))
     tt
 columns_typed (plain name ∷ quoted t ∷ cells) h = tt
@@ -339,7 +339,7 @@ literals_typed : (ws : List Word) → AreTexts ws → IsTyped (literal_command w
 literals_typed [] h = tt
 literals_typed (plain t ∷ []) h = tt
 literals_typed (plain t ∷ cell ∷ []) h =
-    or_typed literal (option_and_then (λ u. literal_said u cell) (type_of_word t))
+    or_typed literal (option_and_then (λ u. written_literal u cell) (type_of_word t))
     (literal_typed cell h.1.0 (type_of_word t))
 literals_typed (plain t ∷ cell ∷ w ∷ ws) h = tt
 literals_typed (quoted t ∷ ws) h = tt

@@ -66,11 +66,11 @@ abbrev pub cells_of : LogicalType → List Word → Option (List (Option (List �
 cells_of t ws = all_some (map (cell_of t) ws)
 
 -- those of words
-abbrev pub column_said : LogicalType → List Word → Option ColumnView
-column_said t ws = option_and_then (column_of_cells t) (cells_of t ws)
+abbrev pub written_column : LogicalType → List Word → Option ColumnView
+written_column t ws = option_and_then (column_of_cells t) (cells_of t ws)
 
-abbrev pub literal_said : LogicalType → Word → Option ScalarView
-literal_said t w = option_and_then (literal_of_cell t) (cell_of t w)
+abbrev pub written_literal : LogicalType → Word → Option ScalarView
+written_literal t w = option_and_then (literal_of_cell t) (cell_of t w)
 
 -- a number that 64 bits hold
 abbrev pub held_by_64_bits : ℕ → Option ℕ
@@ -98,13 +98,13 @@ name_of w = if is_name w then Some w else None
 abbrev pub column_command : List Word → Command
 column_command (plain name ∷ plain t ∷ cells) =
     if is_name name
-    then or_malformed (column name) (option_and_then (λ u. column_said u cells) (type_of_word t))
+    then or_malformed (column name) (option_and_then (λ u. written_column u cells) (type_of_word t))
     else malformed
 column_command ws = malformed
 
 abbrev pub literal_command : List Word → Command
 literal_command (plain t ∷ cell ∷ []) =
-    or_malformed literal (option_and_then (λ u. literal_said u cell) (type_of_word t))
+    or_malformed literal (option_and_then (λ u. written_literal u cell) (type_of_word t))
 literal_command ws = malformed
 
 abbrev pub get_command : List Word → Command

@@ -4,8 +4,8 @@
 pub mod command;
 pub mod laws;
 pub mod parse;
-mod said;
 pub mod text;
+mod values;
 
 pub use command::Line;
 pub use text::lines;

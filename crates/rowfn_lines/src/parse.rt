@@ -15,8 +15,8 @@ ghost use Rattle.rowfn_lines.specs.Commands.{command_in};
 ghost use Rattle.rowfn_lines.specs.Answering.{AnswersCommand};
 
 use crate::command::Line;
-use crate::said::{column_said, literal_said};
 use crate::text::{Word, without_spaces, words};
+use crate::values::{written_column, written_literal};
 use std::alloc::Global;
 use std::str;
 use vortex_cells::digits::are_digits;
@@ -93,7 +93,7 @@ fn column_line<'a>(alloc: Global, words: &[Word<'a>]) -> VortexResult<Line<'a>>
     let Some(dtype) = read_type(dtype) else {
         return Ok(Line::Malformed);
     };
-    match column_said(alloc, &dtype, cells)? {
+    match written_column(alloc, &dtype, cells)? {
         Some(column) => Ok(Line::Column(name, column)),
         None => Ok(Line::Malformed),
     }
@@ -108,7 +108,7 @@ fn literal_line<'a>(alloc: Global, words: &[Word<'a>]) -> VortexResult<Line<'a>>
     let Some(dtype) = read_type(dtype) else {
         return Ok(Line::Malformed);
     };
-    match literal_said(alloc, &dtype, cell)? {
+    match written_literal(alloc, &dtype, cell)? {
         Some(scalar) => Ok(Line::Literal(scalar)),
         None => Ok(Line::Malformed),
     }

@@ -32,7 +32,7 @@ pub(crate) struct Shapes {
 }
 
 /// The byte between two fields of the input.
-fn asked_delimiter(matches: &ArgMatches<'_>, command: &mut Command<'_>) -> Result<u8, Error>
+fn delimiter_option(matches: &ArgMatches<'_>, command: &mut Command<'_>) -> Result<u8, Error>
     ensures { IfOk result MayPart }
 {
     match read_delimiter(matches.get_str("delimiter").unwrap_or(",")) {
@@ -45,7 +45,7 @@ fn asked_delimiter(matches: &ArgMatches<'_>, command: &mut Command<'_>) -> Resul
 }
 
 /// The byte between two fields of the output: that of the input where no other is given.
-fn asked_output_delimiter(
+fn output_delimiter_option(
     matches: &ArgMatches<'_>,
     command: &mut Command<'_>,
     delimiter: u8,
@@ -73,7 +73,7 @@ fn asked_output_delimiter(
 }
 
 /// The byte that begins comments, if there are any.
-fn asked_comment(
+fn comment_option(
     matches: &ArgMatches<'_>,
     command: &mut Command<'_>,
     delimiter: u8,
@@ -96,12 +96,12 @@ fn asked_comment(
 }
 
 /// The bytes that have a meaning of their own in a line.
-fn asked_bytes(matches: &ArgMatches<'_>, command: &mut Command<'_>) -> Result<Bytes, Error>
+fn bytes_option(matches: &ArgMatches<'_>, command: &mut Command<'_>) -> Result<Bytes, Error>
     ensures { IfOk result (λ b. AreBytes b.delimiter b.output_delimiter b.comment) }
 {
-    let delimiter = asked_delimiter(matches, command)?;
-    let output_delimiter = asked_output_delimiter(matches, command, delimiter)?;
-    let comment = asked_comment(matches, command, delimiter, output_delimiter)?;
+    let delimiter = delimiter_option(matches, command)?;
+    let output_delimiter = output_delimiter_option(matches, command, delimiter)?;
+    let comment = comment_option(matches, command, delimiter, output_delimiter)?;
     Ok(Bytes {
         delimiter,
         output_delimiter,
@@ -127,7 +127,7 @@ fn checked_null<'a>(
 }
 
 /// The texts for null.
-fn asked_nulls<'a>(
+fn nulls_option<'a>(
     alloc: Global,
     matches: &ArgMatches<'a>,
     command: &mut Command<'_>,
@@ -152,7 +152,7 @@ fn asked_nulls<'a>(
 }
 
 /// Which lines and fields are taken.
-fn asked_shapes(matches: &ArgMatches<'_>, command: &mut Command<'_>) -> Result<Shapes, Error> {
+fn shapes_option(matches: &ArgMatches<'_>, command: &mut Command<'_>) -> Result<Shapes, Error> {
     let ragged = matches.get_str("ragged").unwrap_or("refuse");
     let Some(fits) = is_second(ragged, "refuse", "fit") else {
         let message = "--ragged: expected refuse or fit";
@@ -176,7 +176,7 @@ fn asked_shapes(matches: &ArgMatches<'_>, command: &mut Command<'_>) -> Result<S
 }
 
 /// How fields are written.
-pub(crate) fn asked_fields<'a>(
+pub(crate) fn fields_option<'a>(
     alloc: Global,
     matches: &ArgMatches<'a>,
     command: &mut Command<'_>,
@@ -184,9 +184,9 @@ pub(crate) fn asked_fields<'a>(
     ensures { IfOk result (λ fields. AreFields fields.bytes.delimiter fields.bytes.output_delimiter
         fields.bytes.comment fields.nulls.written.now fields.nulls.others.items) }
 {
-    let bytes = asked_bytes(matches, command)?;
-    let nulls = asked_nulls(alloc, matches, command, bytes)?;
-    let shapes = asked_shapes(matches, command)?;
+    let bytes = bytes_option(matches, command)?;
+    let nulls = nulls_option(alloc, matches, command, bytes)?;
+    let shapes = shapes_option(matches, command)?;
     Ok(Fields {
         bytes,
         nulls,

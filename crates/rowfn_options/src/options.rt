@@ -5,7 +5,7 @@ ghost use Rattle.rowfn_options.specs.Fields.{AreFields};
 ghost use Rattle.rowfn_options.specs.Statuses.{status_of};
 
 use crate::command::command;
-use crate::fields::{Fields, asked_fields};
+use crate::fields::{Fields, fields_option};
 use crate::words::{is_second, refusal};
 use clap::error::ErrorKind;
 use clap::{ArgMatches, Command, Error};
@@ -84,7 +84,7 @@ pub struct Options<'a> {
     pub input: Option<&'a str>,
 }
 
-fn asked_action(matches: &ArgMatches<'_>) -> Action {
+fn action_option(matches: &ArgMatches<'_>) -> Action {
     if matches.get_flag("explain") {
         Action::Explain
     } else {
@@ -93,7 +93,7 @@ fn asked_action(matches: &ArgMatches<'_>) -> Action {
 }
 
 /// Where the expression is: the first word is it, where no file is.
-fn asked_source<'a>(matches: &ArgMatches<'a>) -> Source<'a> {
+fn source_option<'a>(matches: &ArgMatches<'a>) -> Source<'a> {
     match (matches.get_str("file"), matches.get_str("expression")) {
         (Some(name), _) => Source::File(name),
         (None, Some(text)) => Source::Text(text),
@@ -112,7 +112,7 @@ fn input_words<'a>(matches: &ArgMatches<'a>) -> [Option<&'a str>; 2] {
 }
 
 /// The file of the rows; nothing for standard input.
-fn asked_input<'a>(
+fn input_option<'a>(
     matches: &ArgMatches<'a>,
     command: &mut Command<'_>,
 ) -> Result<Option<&'a str>, Error> {
@@ -128,7 +128,7 @@ fn asked_input<'a>(
 }
 
 /// The file that bad rows are reported in: not that of the rows.
-fn asked_errors_to<'a>(
+fn errors_to_option<'a>(
     matches: &ArgMatches<'a>,
     command: &mut Command<'_>,
     input: Option<&str>,
@@ -149,7 +149,7 @@ struct Refused<'a> {
 }
 
 /// What is done with bad rows.
-fn asked_refused<'a>(
+fn refused_option<'a>(
     matches: &ArgMatches<'a>,
     command: &mut Command<'_>,
     input: Option<&str>,
@@ -159,7 +159,7 @@ fn asked_refused<'a>(
         let message = "--errors: expected skip or stop";
         return Err(refusal(command, ErrorKind::InvalidValue, message)?);
     };
-    let errors_to = asked_errors_to(matches, command, input)?;
+    let errors_to = errors_to_option(matches, command, input)?;
     Ok(Refused { skips, errors_to })
 }
 
@@ -191,7 +191,7 @@ fn options_of<'a>(
         flushes: matches.get_flag("flush"),
         max_field: matches.get_one::<u64>("max-field").unwrap_or(1 << 28),
         first_row: matches.get_one::<u64>("first-row").unwrap_or(1),
-        action: asked_action(matches),
+        action: action_option(matches),
         appends: matches.get_flag("append"),
         summary: matches.get_flag("summary"),
         progress: matches.get_flag("progress"),
@@ -200,7 +200,7 @@ fn options_of<'a>(
         columns: matches.get_str("columns"),
         infers: !matches.get_flag("no-infer"),
         condition: matches.get_str("where"),
-        source: asked_source(matches),
+        source: source_option(matches),
         input,
     }
 }
@@ -214,9 +214,9 @@ pub fn read_options<'a>(alloc: Global, words: &'a [String]) -> Result<Options<'a
 {
     let mut command = command(alloc)?;
     let matches = command.try_get_matches_from_mut(words)?;
-    let fields = asked_fields(alloc, &matches, &mut command)?;
-    let input = asked_input(&matches, &mut command)?;
-    let refused = asked_refused(&matches, &mut command, input)?;
+    let fields = fields_option(alloc, &matches, &mut command)?;
+    let input = input_option(&matches, &mut command)?;
+    let refused = refused_option(&matches, &mut command, input)?;
     Ok(options_of(&matches, fields, input, refused))
 }
 

@@ -12,8 +12,8 @@ use Rattle.vortex_program.specs.declared.form.Form.TheVariants as form
 use Rattle.vortex_program.specs.Names.{AreNamesOf}
 use Rattle.vortex_program.specs.Programs.{trees_of}
 use Rattle.vortex_program.specs.Texts.{AreAnswersOf, IsRefusedOver, StopsAt}
-use Rattle.rowfn_queries.specs.declared.error.Place.{Place}
-use Rattle.rowfn_queries.specs.declared.error.Place.TheVariants as place
+use Rattle.rowfn_queries.specs.declared.error.TextPlace.{TextPlace}
+use Rattle.rowfn_queries.specs.declared.error.TextPlace.TheVariants as place
 use Rattle.rowfn_queries.specs.declared.error.QueryError.{QueryError}
 use Rattle.rowfn_queries.specs.declared.error.QueryError.TheVariants as error
 use Rattle.rowfn_queries.specs.declared.question.Question.{Question}
@@ -24,7 +24,7 @@ use Rattle.rowfn_queries.specs.Reading.{DeclaredBy, AreInferred, IsWidened, colu
 use Rattle.rowfn_queries.specs.Scopes.{IsRefusedScope}
 
 -- where a text of that form stands among the words of a program
-abbrev pub place_of : Form → Place
+abbrev pub place_of : Form → TextPlace
 place_of form.Answers = place.Expression
 place_of form.Condition = place.Where
 

@@ -33,14 +33,14 @@ abbrev pub is_comma : Token → Bool
 is_comma (sign sign.Comma) = true
 is_comma t = false
 
-abbrev pub text_said : List ℕ → Outcome (List ℕ)
-text_said bs = if is_utf8 bs then answers bs else refuses reason.NotUtf8
+abbrev pub token_text : List ℕ → Outcome (List ℕ)
+token_text bs = if is_utf8 bs then answers bs else refuses reason.NotUtf8
 
 -- the name that a token says, without its quotes
-abbrev pub name_said : Token → Outcome (List ℕ)
-name_said (name w) = text_said w
-name_said (quoted w) = text_said (unquoted 34 w)
-name_said t = refuses reason.NoName
+abbrev pub written_name : Token → Outcome (List ℕ)
+written_name (name w) = token_text w
+written_name (quoted w) = token_text (unquoted 34 w)
+written_name t = refuses reason.NoName
 
 abbrev pub if_new : List ℕ → Option (ℕ × LogicalType) → Outcome (List ℕ)
 if_new w None = answers w
@@ -48,20 +48,20 @@ if_new w (Some found) = refuses reason.NameTwice
 
 -- a name that no column has which stands before it
 abbrev pub new_name : Fields → Token → Outcome (List ℕ)
-new_name fs t = and_then (name_said t) (λ w. if_new w (find_field w fs))
+new_name fs t = and_then (written_name t) (λ w. if_new w (find_field w fs))
 
 abbrev pub if_known : Option LogicalType → Outcome LogicalType
 if_known None = refuses reason.UnknownType
 if_known (Some t) = answers t
 
 abbrev pub type_of_name : Bool → List ℕ → Outcome LogicalType
-type_of_name n w = and_then (text_said w) (λ v. if_known (type_named n v))
+type_of_name n w = and_then (token_text w) (λ v. if_known (type_named n v))
 
 -- the type that a token names, which has null where a question mark stands behind it
-abbrev pub type_said : Token → Outcome LogicalType
-type_said (name w) = type_of_name false w
-type_said (nullable w) = type_of_name true w
-type_said t = refuses reason.NoType
+abbrev pub written_type : Token → Outcome LogicalType
+written_type (name w) = type_of_name false w
+written_type (nullable w) = type_of_name true w
+written_type t = refuses reason.NoType
 
 abbrev pub is_as : Token → Bool
 is_as (sign sign.As) = true
@@ -72,8 +72,8 @@ if_place None = refuses reason.NoPlace
 if_place (Some p) = answers p
 
 -- the place that digits say
-abbrev pub place_said : List ℕ → Outcome ℕ
-place_said digits = if_place (place_of_digits digits)
+abbrev pub given_place : List ℕ → Outcome ℕ
+given_place digits = if_place (place_of_digits digits)
 
 abbrev pub if_as : {A : Type 0} → Token → Outcome A → Outcome A
 if_as c o = if is_as c then o else refuses reason.NoAs
@@ -83,7 +83,7 @@ abbrev mutual
   -- nothing or a comma and further columns
   pub columns_behind : DeclaredColumns → List Token → Outcome DeclaredColumns
   columns_behind d [] = refuses reason.NoName
-  columns_behind d (number digits ∷ ts) = placed_behind d (place_said digits) ts
+  columns_behind d (number digits ∷ ts) = placed_behind d (given_place digits) ts
   columns_behind d (t ∷ ts) = and_then (new_name d.fields t) (λ w. typed_behind d None w ts)
 
   pub placed_behind : DeclaredColumns → Outcome ℕ → List Token → Outcome DeclaredColumns
@@ -99,7 +99,7 @@ abbrev mutual
   pub typed_behind : DeclaredColumns → Option ℕ → List ℕ → List Token → Outcome DeclaredColumns
   typed_behind d place w [] = refuses reason.NoType
   typed_behind d place w (t ∷ ts) =
-      and_then (type_said t) (λ u. more_behind (with_column d place w u) ts)
+      and_then (written_type t) (λ u. more_behind (with_column d place w u) ts)
 
   pub more_behind : DeclaredColumns → List Token → Outcome DeclaredColumns
   more_behind d [] = answers d

@@ -76,7 +76,7 @@ impl<R: Read> Again<R> {
     }
 
     /// Reads behind what was kept.
-    fn read_behind(&mut self, buf: &mut [u8]) -> io::Result<usize>
+    fn read_after(&mut self, buf: &mut [u8]) -> io::Result<usize>
         ensures { ReadsAtMost result buf.new }
     {
         if let Some(error) = self.failed.take() {
@@ -93,7 +93,7 @@ impl<R: Read> Read for Again<R> {
     fn read(&mut self, buf: &mut [u8]) -> io::Result<usize> {
         if !self.keeps {
             if self.kept.is_empty() {
-                return self.read_behind(buf);
+                return self.read_after(buf);
             }
             return Ok(self.give(buf));
         }

@@ -15,7 +15,7 @@ use crate::error::QueryError;
 use crate::places::places_of;
 use crate::query::Words;
 use crate::question::Question;
-use crate::scopes::{add_all, add_wanted};
+use crate::scopes::{add_all, add_needed};
 use crate::texts::{Texts, place_of};
 use std::alloc::Global;
 use vortex_columns::{StructFields, VortexResult};
@@ -69,7 +69,7 @@ impl Binding<'_> {
     {
         let mut columns = StructFields::new(self.alloc);
         add_all(self.alloc, &mut columns, self.columns)?;
-        add_wanted(self.alloc, &mut columns, self.sampled, names)?;
+        add_needed(self.alloc, &mut columns, self.sampled, names)?;
         Ok(columns)
     }
 
@@ -79,8 +79,8 @@ impl Binding<'_> {
             ≡ named_in self.now (map string_bytes names.now)) }
     {
         let mut columns = StructFields::new(self.alloc);
-        add_wanted(self.alloc, &mut columns, self.columns, names)?;
-        add_wanted(self.alloc, &mut columns, self.sampled, names)?;
+        add_needed(self.alloc, &mut columns, self.columns, names)?;
+        add_needed(self.alloc, &mut columns, self.sampled, names)?;
         Ok(columns)
     }
 
@@ -120,7 +120,10 @@ impl Binding<'_> {
     }
 
     /// The question that a parsed text asks, where there is one.
-    fn ask_where(&self, parsed: &Option<Parsed<'_>>) -> Result<Option<Question>, QueryError>
+    fn condition_question(
+        &self,
+        parsed: &Option<Parsed<'_>>,
+    ) -> Result<Option<Question>, QueryError>
         ensures { IsReadWhere parsed.now → MatchResult result (IsBoundIn self.now parsed.now)
             (RefusesWhere self.now parsed.now) }
     {
@@ -141,11 +144,11 @@ impl Binding<'_> {
         ensures { AreRead texts.now → MatchResult result
             (λ p. AreBoundIn self.now texts.now p.0 p.1) (RefusesBound self.now texts.now) }
     {
-        let condition = match self.ask_where(&texts.condition) {
+        let condition = match self.condition_question(&texts.condition) {
             Ok(condition) => condition,
             Err(error) => return Err(error),
         };
-        match self.ask_where(&texts.answers) {
+        match self.condition_question(&texts.answers) {
             Ok(answers) => Ok((answers, condition)),
             Err(error) => Err(error),
         }

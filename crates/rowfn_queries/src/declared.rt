@@ -6,16 +6,16 @@ ghost use Rattle.vortex_types.specs.TypeOf.{struct_fields, type_of, allows_null}
 ghost use Rattle.vortex_syntax.specs.Tokens.{token_in};
 ghost use Rattle.vortex_errors.specs.Answers.{AnswersUnlessMemory};
 ghost use Rattle.rowfn_queries.specs.declared.scope.ScopeReason.TheVariants.{OutOfMemory};
-ghost use Rattle.rowfn_queries.specs.Scopes.{Gives, answers, refuses, text_said, name_said};
-ghost use Rattle.rowfn_queries.specs.Scopes.{new_name, type_of_name, type_said, is_comma, is_as};
-ghost use Rattle.rowfn_queries.specs.Scopes.{place_said, named_behind, placed_behind};
+ghost use Rattle.rowfn_queries.specs.Scopes.{Gives, answers, refuses, token_text, written_name};
+ghost use Rattle.rowfn_queries.specs.Scopes.{new_name, type_of_name, written_type, is_comma, is_as};
+ghost use Rattle.rowfn_queries.specs.Scopes.{given_place, named_behind, placed_behind};
 ghost use Rattle.rowfn_queries.specs.Scopes.{columns_behind, more_behind, columns_of};
 ghost use Rattle.rowfn_queries.specs.DeclaredColumns.{DeclaredColumns, declared_by, no_columns};
 ghost use Rattle.rowfn_queries.specs.DeclaredColumns.{with_column};
 ghost use Rattle.rowfn_queries.specs.Scopes.{Declares, IsRefusedScope, reason_of};
 
 use crate::places::place_of_digits;
-use crate::scope::{ScopeError, ScopeReason};
+use crate::scope::{DeclarationError, ScopeReason};
 use std::alloc::Global;
 use std::str;
 use vortex_cells::types::type_named;
@@ -75,8 +75,8 @@ fn is_comma(token: Token<'_>) -> bool
 }
 
 /// The bytes as a text.
-fn text_said(alloc: Global, bytes: &[u8]) -> Result<String, ScopeReason>
-    ensures { Gives string_bytes result (text_said bytes.now) }
+fn token_text(alloc: Global, bytes: &[u8]) -> Result<String, ScopeReason>
+    ensures { Gives string_bytes result (token_text bytes.now) }
 {
     match str::from_utf8(bytes) {
         Ok(text) => Ok(String::from_str(alloc, text)?),
@@ -85,14 +85,14 @@ fn text_said(alloc: Global, bytes: &[u8]) -> Result<String, ScopeReason>
 }
 
 /// The name that a token says, without its quotes.
-pub(crate) fn name_said(alloc: Global, token: Token<'_>) -> Result<String, ScopeReason>
-    ensures { Gives string_bytes result (name_said (token_in token.entry)) }
+pub(crate) fn written_name(alloc: Global, token: Token<'_>) -> Result<String, ScopeReason>
+    ensures { Gives string_bytes result (written_name (token_in token.entry)) }
 {
     match token {
-        Token::Name(name) => text_said(alloc, name),
+        Token::Name(name) => token_text(alloc, name),
         Token::Quoted(name) => {
             let name = unquoted(alloc, b'"', name)?;
-            text_said(alloc, &name)
+            token_text(alloc, &name)
         }
         _ => Err(ScopeReason::NoName),
     }
@@ -103,7 +103,7 @@ fn new_name(alloc: Global, columns: &StructFields, token: Token<'_>) -> Result<S
     ensures { Gives string_bytes result
         (new_name (struct_fields columns.now) (token_in token.entry)) }
 {
-    let name = name_said(alloc, token)?;
+    let name = written_name(alloc, token)?;
     match columns.find(name.as_str()) {
         Some(_) => Err(ScopeReason::NameTwice),
         None => Ok(name),
@@ -114,7 +114,7 @@ fn new_name(alloc: Global, columns: &StructFields, token: Token<'_>) -> Result<S
 fn type_of_name(alloc: Global, name: &[u8], nullability: Nullability) -> Result<DType, ScopeReason>
     ensures { Gives (λ t. type_of t) result (type_of_name (allows_null nullability) name.now) }
 {
-    let name = text_said(alloc, name)?;
+    let name = token_text(alloc, name)?;
     match type_named(name.as_str(), nullability) {
         Some(dtype) => Ok(dtype),
         None => Err(ScopeReason::UnknownType),
@@ -122,8 +122,8 @@ fn type_of_name(alloc: Global, name: &[u8], nullability: Nullability) -> Result<
 }
 
 /// The type that a token names.
-fn type_said(alloc: Global, token: Token<'_>) -> Result<DType, ScopeReason>
-    ensures { Gives (λ t. type_of t) result (type_said (token_in token.entry)) }
+fn written_type(alloc: Global, token: Token<'_>) -> Result<DType, ScopeReason>
+    ensures { Gives (λ t. type_of t) result (written_type (token_in token.entry)) }
 {
     match token {
         Token::Name(name) => type_of_name(alloc, name, Nullability::NonNullable),
@@ -140,8 +140,8 @@ fn stop_at(before: usize, reason: ScopeReason) -> Stopped
 }
 
 /// The place that digits say, counted from 0.
-fn place_said(digits: &[u8]) -> Result<usize, ScopeReason>
-    ensures { Gives (λ p. p) result (place_said digits.now) }
+fn given_place(digits: &[u8]) -> Result<usize, ScopeReason>
+    ensures { Gives (λ p. p) result (given_place digits.now) }
 {
     match place_of_digits(digits) {
         Some(place) => Ok(place),
@@ -171,7 +171,7 @@ fn read_named(
     let Some(token) = tokens.get(1) else {
         return Err(stop_at(1, ScopeReason::NoType));
     };
-    let dtype = match type_said(alloc, *token) {
+    let dtype = match written_type(alloc, *token) {
         Ok(dtype) => dtype,
         Err(reason) => return Err(stop_at(1, reason)),
     };
@@ -189,13 +189,13 @@ fn read_placed(
     tokens: &[Token<'_>],
 ) -> Result<(), Stopped>
     ensures read { OnOk result (3 ≤ length tokens.now) }
-    ensures column { let columns = placed_behind (declared_by declared.old) (place_said digits.now)
+    ensures column { let columns = placed_behind (declared_by declared.old) (given_place digits.now)
         (map token_in tokens.now) in
         MatchResult result
         (λ _. columns ≡ more_behind (declared_by declared.new) (map token_in (drop 3 tokens.now)))
         (λ e. e.reason ≢ OutOfMemory → columns ≡ refuses e.reason) }
 {
-    let place = match place_said(digits) {
+    let place = match given_place(digits) {
         Ok(place) => place,
         Err(reason) => return Err(stop_at(0, reason)),
     };
@@ -266,19 +266,19 @@ fn read_columns(alloc: Global, tokens: &[Token<'_>]) -> Result<Declared, Stopped
 }
 
 /// That reason, at that byte of a text.
-fn error_at(alloc: Global, text: &str, byte: usize, reason: ScopeReason) -> ScopeError
+fn error_at(alloc: Global, text: &str, byte: usize, reason: ScopeReason) -> DeclarationError
     ensures { (result.reason ≡ reason) ⊎ (result.reason ≡ OutOfMemory) }
 {
     let found = found_at(text, byte);
     let (line, column) = line_and_column(text, byte);
     match format!(in alloc; "{found}") {
-        Ok(found) => ScopeError {
+        Ok(found) => DeclarationError {
             reason,
             line,
             column,
             found,
         },
-        Err(_) => ScopeError {
+        Err(_) => DeclarationError {
             reason: ScopeReason::OutOfMemory,
             line,
             column,
@@ -288,7 +288,7 @@ fn error_at(alloc: Global, text: &str, byte: usize, reason: ScopeReason) -> Scop
 }
 
 /// Why a text is no tokens.
-fn unread(alloc: Global, text: &str, error: SyntaxError) -> ScopeError
+fn unread(alloc: Global, text: &str, error: SyntaxError) -> DeclarationError
     ensures { (result.reason ≡ reason_of error) ⊎ (result.reason ≡ OutOfMemory) }
 {
     match error.byte() {
@@ -302,7 +302,7 @@ fn unread(alloc: Global, text: &str, error: SyntaxError) -> ScopeError
 /// counted from 1, and `as` may stand before a name: `3 as category utf8`. Ok exactly where the text
 /// is such a list in which no name stands twice, and then the columns in their order, each with its
 /// place where it has one; else why it is none, the first reason from left to right.
-pub fn read_scope(alloc: Global, text: &str) -> Result<Declared, ScopeError>
+pub fn read_scope(alloc: Global, text: &str) -> Result<Declared, DeclarationError>
     // The text declares what is returned; what is reported of tokens is why they declare none.
     ensures found { MatchResult result (λ declared. Declares text.now (declared_by declared))
         (λ e. IsRefusedScope text.now e.reason) }

@@ -2,15 +2,15 @@
 ghost use Rattle.std.specs.Prelude.{◌≡◌};
 ghost use Rattle.rowfn_queries.specs.Errors.{is_memory, is_out_of_memory, words_status, status_of};
 
-use crate::scope::{ScopeError, ScopeReason};
+use crate::scope::{DeclarationError, ScopeReason};
 use std::alloc::{AllocError, AllocFailed};
 use std::{fmt, io};
 use vortex_columns::{DType, VortexError};
-use vortex_expressions::ReadError;
+use vortex_expressions::TextError;
 
 /// Where a text stands among the words of a program.
 #[derive(Clone, Copy, Debug, PartialEq, Eq)]
-pub enum Place {
+pub enum TextPlace {
     /// The answers.
     Expression,
     /// The condition.
@@ -18,11 +18,11 @@ pub enum Place {
 }
 
 /// The word behind which the text stands.
-impl fmt::Display for Place {
+impl fmt::Display for TextPlace {
     fn fmt<W: fmt::Write>(&self, f: &mut fmt::Formatter<W>) -> fmt::Result {
         f.write_str(match self {
-            Place::Expression => "expression",
-            Place::Where => "--where",
+            TextPlace::Expression => "expression",
+            TextPlace::Where => "--where",
         })
     }
 }
@@ -58,9 +58,9 @@ impl fmt::Display for HeaderFault {
 #[derive(Drop)]
 pub enum QueryError {
     /// A text is refused, with its place in it.
-    Unread(Place, ReadError),
+    Unread(TextPlace, TextError),
     /// The columns that are declared are refused.
-    Columns(ScopeError),
+    Columns(DeclarationError),
     /// The condition is no truth value, but of that type.
     NoTruth(DType),
     /// The input has no header.

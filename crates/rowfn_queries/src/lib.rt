@@ -18,9 +18,9 @@ mod texts;
 
 pub use again::Again;
 pub use declared::{Declared, read_scope};
-pub use error::{HeaderFault, Place, QueryError};
+pub use error::{HeaderFault, QueryError, TextPlace};
 pub use inference::infer;
 pub use query::{Query, Words, read_query};
 pub use question::Question;
 pub use rows::{SAMPLED_BYTES, SAMPLED_ROWS};
-pub use scope::{ScopeError, ScopeReason};
+pub use scope::{DeclarationError, ScopeReason};

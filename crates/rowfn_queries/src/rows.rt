@@ -4,8 +4,8 @@ ghost use Rattle.rowfn_queries.specs.Refusals.{IsOfInput};
 
 use crate::error::{HeaderFault, QueryError};
 use crate::places::numbered_place;
-use crate::scopes::stands_in;
-use rowfn_csv::{Batch, ByteRecord, Found, ReadError, Records};
+use crate::scopes::is_in_names;
+use rowfn_csv::{Batch, ByteRecord, FoundRecord, RecordError, Records};
 use std::alloc::{AllocError, Global};
 use std::io::Read;
 use std::str;
@@ -41,12 +41,12 @@ impl Rows {
 }
 
 /// What a read that failed ends.
-fn unread(error: ReadError) -> QueryError
+fn unread(error: RecordError) -> QueryError
     ensures { IsOfInput result }
 {
     match error {
-        ReadError::Io(error) => QueryError::Reading(error),
-        ReadError::OutOfMemory => QueryError::OutOfMemory,
+        RecordError::Io(error) => QueryError::Reading(error),
+        RecordError::OutOfMemory => QueryError::OutOfMemory,
     }
 }
 
@@ -65,11 +65,11 @@ fn push_header(
         let Ok(name) = str::from_utf8(field) else {
             continue;
         };
-        if stands_in(names, name) {
+        if is_in_names(names, name) {
             continue;
         }
         names.push(String::from_str(alloc, name)?)?;
-        if stands_in(wanted, name) {
+        if is_in_names(wanted, name) {
             places.push(place)?;
         }
     }
@@ -95,13 +95,13 @@ fn read_header<R: Read>(records: &mut Records<'_, R>, max_field: usize) -> Resul
     ensures { IfErr result IsOfInput }
 {
     match records.read_record() {
-        Found::End => Err(QueryError::Header(HeaderFault::Missing)),
-        Found::Record if records.is_outgrown() => {
+        FoundRecord::End => Err(QueryError::Header(HeaderFault::Missing)),
+        FoundRecord::Record if records.is_outgrown() => {
             Err(QueryError::Header(HeaderFault::TooLong(max_field)))
         }
-        Found::Record if records.is_open() => Err(QueryError::Header(HeaderFault::Open)),
-        Found::Record => Ok(()),
-        Found::Failed => Err(unread(records.take_error())),
+        FoundRecord::Record if records.is_open() => Err(QueryError::Header(HeaderFault::Open)),
+        FoundRecord::Record => Ok(()),
+        FoundRecord::Failed => Err(unread(records.take_error())),
     }
 }
 
@@ -138,7 +138,7 @@ fn push_numbered(
     let mut rows = Rows::of_width(alloc, width);
     for place in 0..width {
         let name = numbered_name(alloc, place)?;
-        if stands_in(wanted, name.as_str()) {
+        if is_in_names(wanted, name.as_str()) {
             rows.places.push(place)?;
             rows.names.push(String::from_str(alloc, name.as_str())?)?;
         }
@@ -148,7 +148,7 @@ fn push_numbered(
 }
 
 /// The wanted columns `c1`, `c2`, .. of an input that begins with no row.
-fn wanted_numbered(alloc: Global, wanted: &[String]) -> Result<Rows, AllocError> {
+fn needed_numbered(alloc: Global, wanted: &[String]) -> Result<Rows, AllocError> {
     let mut rows = Rows::of_width(alloc, 0);
     for name in wanted {
         if let Some(place) = numbered_place(name.as_str()) {
@@ -169,12 +169,12 @@ pub(crate) fn read_numbered<R: Read>(
     ensures { IfErr result IsOfInput }
 {
     let is_row = match records.read() {
-        Found::Failed => return Err(unread(records.take_error())),
-        Found::End => false,
-        Found::Record => !records.is_open() && !records.is_outgrown(),
+        FoundRecord::Failed => return Err(unread(records.take_error())),
+        FoundRecord::End => false,
+        FoundRecord::Record => !records.is_open() && !records.is_outgrown(),
     };
     if !is_row {
-        return Ok(wanted_numbered(alloc, wanted)?);
+        return Ok(needed_numbered(alloc, wanted)?);
     }
     let mut rows = push_numbered(alloc, records.record().len(), wanted, names)?;
     records.add_to(&mut rows.batch, &rows.places)?;
@@ -188,12 +188,12 @@ pub(crate) fn read_rows<R: Read>(
     records: &mut Records<'_, R>,
     rows: &mut Rows,
     fits: bool,
-) -> Result<(), ReadError> {
+) -> Result<(), RecordError> {
     for _ in 0..SAMPLED_ROWS {
         match records.read() {
-            Found::Record => {}
-            Found::End => return Ok(()),
-            Found::Failed => return Err(records.take_error()),
+            FoundRecord::Record => {}
+            FoundRecord::End => return Ok(()),
+            FoundRecord::Failed => return Err(records.take_error()),
         }
         let found = records.record().len();
         let has_width = found == rows.width || fits && !records.has_surplus(rows.width);
@@ -202,7 +202,7 @@ pub(crate) fn read_rows<R: Read>(
             return Ok(());
         }
         if records.add_to(&mut rows.batch, &rows.places).is_err() {
-            return Err(ReadError::OutOfMemory);
+            return Err(RecordError::OutOfMemory);
         }
         if records.span().end >= SAMPLED_BYTES {
             return Ok(());

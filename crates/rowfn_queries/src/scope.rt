@@ -60,7 +60,7 @@ impl From<VortexError> for ScopeReason {
 /// Why a text declares no columns, and where: by its line and its character in that line, both
 /// counted from 1, with what stands there. Want of memory is at no place.
 #[derive(Drop)]
-pub struct ScopeError {
+pub struct DeclarationError {
     pub reason: ScopeReason,
     pub line: usize,
     pub column: usize,
@@ -80,7 +80,7 @@ impl ScopeReason {
 }
 
 /// `line 1, column 9: ..`, and what was found and expected there, in one line.
-impl fmt::Display for ScopeError {
+impl fmt::Display for DeclarationError {
     fn fmt<W: fmt::Write>(&self, f: &mut fmt::Formatter<W>) -> fmt::Result {
         let (line, column, found) = (self.line, self.column, self.found.as_str());
         if self.reason == ScopeReason::OutOfMemory {

@@ -25,7 +25,7 @@ fn has_name(names: &[String], name: &str) -> bool
 }
 
 /// Whether a name stands in a list.
-pub(crate) fn stands_in(names: &[String], name: &str) -> bool
+pub(crate) fn is_in_names(names: &[String], name: &str) -> bool
     ensures { result ≡ is_among (map string_bytes names.now) name.now }
 {
     has_name(names, name)
@@ -48,7 +48,7 @@ pub(crate) fn add_column(
 }
 
 /// Adds those columns of a scope whose names are wanted.
-pub(crate) fn add_wanted(
+pub(crate) fn add_needed(
     alloc: Global,
     columns: &mut StructFields,
     from: &StructFields,
@@ -60,7 +60,7 @@ pub(crate) fn add_wanted(
 {
     for place in 0..from.len() {
         let name = from.name(place);
-        if stands_in(wanted, name) {
+        if is_in_names(wanted, name) {
             add_column(alloc, columns, name, from.dtype(place).try_clone(alloc)?)?;
         }
     }

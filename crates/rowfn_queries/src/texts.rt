@@ -4,7 +4,7 @@ ghost use Rattle.vortex_program.specs.declared.form.Form.TheVariants.{Answers, C
 ghost use Rattle.rowfn_queries.specs.Bindings.{IsParsedBy};
 ghost use Rattle.rowfn_queries.specs.Refusals.{place_of, RefusesParsing, RefusesTexts};
 
-use crate::error::{Place, QueryError};
+use crate::error::{QueryError, TextPlace};
 use crate::query::Words;
 use std::alloc::Global;
 use vortex_columns::{StructFields, VortexResult};
@@ -18,12 +18,12 @@ pub(crate) struct Texts<'a> {
 }
 
 /// Where a text of that form stands among the words of a program.
-pub(crate) fn place_of(form: Form) -> Place
+pub(crate) fn place_of(form: Form) -> TextPlace
     ensures { result ≡ place_of form }
 {
     match form {
-        Form::Answers => Place::Expression,
-        Form::Condition => Place::Where,
+        Form::Answers => TextPlace::Expression,
+        Form::Condition => TextPlace::Where,
     }
 }
 

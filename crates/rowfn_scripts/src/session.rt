@@ -263,7 +263,7 @@ impl Session {
     }
 
     /// The text of the last tree, with a newline; none if there is no tree.
-    fn shown_text(&self, alloc: Global, count: usize) -> VortexResult<Option<String>>
+    fn printed_text(&self, alloc: Global, count: usize) -> VortexResult<Option<String>>
         ensures { AnswersUnlessMemory result
             (λ text. ShowsTop (Some count) self.now.stack self.now (after_text self.now text)) }
     {
@@ -281,7 +281,7 @@ impl Session {
         let Some(count) = self.row_count else {
             return Err(Stop::Malformed);
         };
-        let Some(shown) = self.shown_text(alloc, count)? else {
+        let Some(shown) = self.printed_text(alloc, count)? else {
             return Err(Stop::Malformed);
         };
         self.out.extend_from_slice(shown.as_bytes())?;

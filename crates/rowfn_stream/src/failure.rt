@@ -8,7 +8,7 @@ use vortex_columns::VortexError;
 
 /// What goes wrong.
 #[derive(Drop)]
-pub enum Failure {
+pub enum ProgramError {
     /// The words that ask are refused.
     Query(QueryError),
     /// The same, where the text of the answers names a file.
@@ -29,60 +29,61 @@ pub enum Failure {
     LeftOut(u64),
 }
 
-impl From<QueryError> for Failure {
-    fn from(error: QueryError) -> Failure {
-        Failure::Query(error)
+impl From<QueryError> for ProgramError {
+    fn from(error: QueryError) -> ProgramError {
+        ProgramError::Query(error)
     }
 }
 
-impl From<StreamError> for Failure {
-    fn from(error: StreamError) -> Failure {
-        Failure::Stream(error)
+impl From<StreamError> for ProgramError {
+    fn from(error: StreamError) -> ProgramError {
+        ProgramError::Stream(error)
     }
 }
 
-impl From<NoRefusals> for Failure {
-    fn from(error: NoRefusals) -> Failure {
-        Failure::NoRefusals(error)
+impl From<NoRefusals> for ProgramError {
+    fn from(error: NoRefusals) -> ProgramError {
+        ProgramError::NoRefusals(error)
     }
 }
 
-impl From<AllocError> for Failure {
-    fn from(_error: AllocError) -> Failure {
-        Failure::Stream(StreamError::OutOfMemory)
+impl From<AllocError> for ProgramError {
+    fn from(_error: AllocError) -> ProgramError {
+        ProgramError::Stream(StreamError::OutOfMemory)
     }
 }
 
-impl<T: Drop> From<AllocFailed<T>> for Failure {
-    fn from(_error: AllocFailed<T>) -> Failure {
-        Failure::Stream(StreamError::OutOfMemory)
+impl<T: Drop> From<AllocFailed<T>> for ProgramError {
+    fn from(_error: AllocFailed<T>) -> ProgramError {
+        ProgramError::Stream(StreamError::OutOfMemory)
     }
 }
 
 /// Want of memory: what is called here refuses nothing else.
-impl From<VortexError> for Failure {
-    fn from(_error: VortexError) -> Failure {
-        Failure::Stream(StreamError::OutOfMemory)
+impl From<VortexError> for ProgramError {
+    fn from(_error: VortexError) -> ProgramError {
+        ProgramError::Stream(StreamError::OutOfMemory)
     }
 }
 
-impl Failure {
+impl ProgramError {
     /// 1 for a fault of the expression, and where rows were left out, 2 for input that does not fit,
     /// 3 for reading, writing and memory, 4 for an expression that is wrong.
     pub(crate) fn status(&self) -> u8 {
         match self {
-            Failure::Query(error) | Failure::QueryOfFile(error, _) => error.status(),
-            Failure::Stream(error) | Failure::Inferred(error) => error.status(),
-            Failure::Input(_, _) | Failure::NoRefusals(_) | Failure::Telling(_, _) => 3,
-            Failure::NoText(_) => 4,
-            Failure::LeftOut(_) => 1,
+            ProgramError::Query(error) | ProgramError::QueryOfFile(error, _) => error.status(),
+            ProgramError::Stream(error) | ProgramError::Inferred(error) => error.status(),
+            ProgramError::Input(_, _) | ProgramError::NoRefusals(_) | ProgramError::Telling(_, _) =>
+                3,
+            ProgramError::NoText(_) => 4,
+            ProgramError::LeftOut(_) => 1,
         }
     }
 
     /// Whether nobody reads the output any more.
     pub(crate) fn is_closed_pipe(&self) -> bool {
         match self {
-            Failure::Stream(StreamError::Writing(error)) => {
+            ProgramError::Stream(StreamError::Writing(error)) => {
                 error.kind() == io::ErrorKind::BrokenPipe
             }
             _ => false,
@@ -91,35 +92,35 @@ impl Failure {
 }
 
 /// What went wrong, in one line.
-impl fmt::Display for Failure {
+impl fmt::Display for ProgramError {
     fn fmt<W: fmt::Write>(&self, f: &mut fmt::Formatter<W>) -> fmt::Result {
         match self {
-            Failure::Query(error) => write!(f, "{error}"),
-            Failure::QueryOfFile(error, name) => {
+            ProgramError::Query(error) => write!(f, "{error}"),
+            ProgramError::QueryOfFile(error, name) => {
                 let name = name.as_str();
                 write!(f, "{error}; {name} is a file: expected it after --input")
             }
-            Failure::Stream(error) => write!(f, "{error}"),
-            Failure::Inferred(error) => {
+            ProgramError::Stream(error) => write!(f, "{error}"),
+            ProgramError::Inferred(error) => {
                 write!(
                     f,
                     "{error}, its type by the first rows: expected it in --columns"
                 )
             }
-            Failure::Input(name, error) => {
+            ProgramError::Input(name, error) => {
                 let name = name.as_str();
                 write!(f, "reading {name}: {error}")
             }
-            Failure::NoText(name) => {
+            ProgramError::NoText(name) => {
                 let name = name.as_str();
                 write!(f, "{name}: the expression is not UTF-8")
             }
-            Failure::NoRefusals(error) => write!(f, "{error}"),
-            Failure::Telling(name, error) => {
+            ProgramError::NoRefusals(error) => write!(f, "{error}"),
+            ProgramError::Telling(name, error) => {
                 let name = name.as_str();
                 write!(f, "writing {name}: {error}")
             }
-            Failure::LeftOut(count) => write!(f, "rows left out {count}"),
+            ProgramError::LeftOut(count) => write!(f, "rows left out {count}"),
         }
     }
 }

@@ -6,12 +6,12 @@ mod progress;
 mod queries;
 mod standard_error;
 
-use crate::failure::Failure;
+use crate::failure::ProgramError;
 use crate::progress::{PRINTED_BYTES, Progress};
 use crate::queries::{format_with, query_of};
 use crate::standard_error::StandardError;
 use rowfn_batches::{
-    Asked, Refusals, RefusedRows, Settings, StreamError, Summary, Watched, check_names, explain,
+    Refusals, RefusedRows, Request, Settings, StreamError, Summary, Watched, check_names, explain,
     refusals_in, run,
 };
 use rowfn_csv::Format;
@@ -64,8 +64,8 @@ fn settings_of<'a>(options: &Options<'_>, format: Format<'a>, rows: &'a Cell<u64
 }
 
 /// A question, as a stream takes it.
-fn asked(question: &Question) -> Asked<'_> {
-    Asked {
+fn asked(question: &Question) -> Request<'_> {
+    Request {
         program: &question.program,
         places: &question.places,
     }
@@ -130,15 +130,15 @@ fn run_watched<R: Read + Drop, E: Write + Drop>(
 }
 
 /// The error, with advice where the type that a field has not was taken from the first rows.
-fn advised(inferred: &StructFields, error: StreamError) -> Failure {
+fn advised(inferred: &StructFields, error: StreamError) -> ProgramError {
     let is_inferred = match &error {
         StreamError::Misfit { column, .. } => inferred.find(column.as_str()).is_some(),
         _ => false,
     };
     if is_inferred {
-        Failure::Inferred(error)
+        ProgramError::Inferred(error)
     } else {
-        Failure::Stream(error)
+        ProgramError::Stream(error)
     }
 }
 
@@ -158,11 +158,11 @@ fn report_last<E: Write + Drop>(
 }
 
 /// The error, where reports of bad rows could not be written.
-fn unreported(rt: &impl AllocGlobal, options: &Options<'_>, error: StreamError) -> Failure {
+fn unreported(rt: &impl AllocGlobal, options: &Options<'_>, error: StreamError) -> ProgramError {
     let name = options.errors_to.unwrap_or("standard error");
     match (error, String::from_str(rt.alloc(), name)) {
-        (StreamError::Writing(error), Ok(name)) => Failure::Telling(name, error),
-        (error, _) => Failure::Stream(error),
+        (StreamError::Writing(error), Ok(name)) => ProgramError::Telling(name, error),
+        (error, _) => ProgramError::Stream(error),
     }
 }
 
@@ -173,7 +173,7 @@ fn ended<E: Write + Drop>(
     query: &Query,
     passed: Result<Summary, StreamError>,
     refusals: &mut Refusals<E>,
-) -> Result<Summary, Failure> {
+) -> Result<Summary, ProgramError> {
     let passed = match report_last(options, &passed, refusals) {
         Ok(()) => passed,
         Err(error) => Err(error),
@@ -193,7 +193,7 @@ fn run_reported<R: Read + Drop, E: Write + Drop>(
     query: &Query,
     reader: R,
     refusals: Refusals<E>,
-) -> (u64, Result<Summary, Failure>) {
+) -> (u64, Result<Summary, ProgramError>) {
     if !options.skips {
         let mut refused: RefusedRows<E> = RefusedRows::End;
         let passed = run_watched(rt, options, query, reader, &mut refused);
@@ -209,7 +209,7 @@ fn run_reported<R: Read + Drop, E: Write + Drop>(
         }
         RefusedRows::End => match passed {
             Ok(summary) => (0, Ok(summary)),
-            Err(error) => (0, Err(Failure::Stream(error))),
+            Err(error) => (0, Err(ProgramError::Stream(error))),
         },
     }
 }
@@ -221,7 +221,7 @@ fn run_counted<R: Read + Drop, E: Write + Drop>(
     query: &Query,
     reader: R,
     refusals: Refusals<E>,
-) -> Result<(), Failure> {
+) -> Result<(), ProgramError> {
     let (skipped, passed) = run_reported(rt, options, query, reader, refusals);
     match passed {
         Ok(
@@ -236,12 +236,12 @@ fn run_counted<R: Read + Drop, E: Write + Drop>(
             if skipped == 0 {
                 Ok(())
             } else {
-                Err(Failure::LeftOut(skipped))
+                Err(ProgramError::LeftOut(skipped))
             }
         }
         Err(failure) => {
             if skipped != 0 && !failure.is_closed_pipe() {
-                let _ = eprintln!(rt; "rowfn_stream: {}", Failure::LeftOut(skipped));
+                let _ = eprintln!(rt; "rowfn_stream: {}", ProgramError::LeftOut(skipped));
             }
             Err(failure)
         }
@@ -253,7 +253,7 @@ fn perform_on<R: Read + Drop>(
     rt: &(impl Print + Eprint + Files + AllocGlobal),
     options: &Options<'_>,
     reader: R,
-) -> Result<(), Failure> {
+) -> Result<(), ProgramError> {
     let alloc = rt.alloc();
     let mut reader = Again::new(alloc, reader);
     let query = query_of(rt, options, &mut reader)?;
@@ -273,13 +273,13 @@ fn perform_on<R: Read + Drop>(
 fn perform(
     rt: &(impl Input + Print + Eprint + Files + AllocGlobal),
     options: &Options<'_>,
-) -> Result<(), Failure> {
+) -> Result<(), ProgramError> {
     let Some(name) = options.input else {
         return perform_on(rt, options, rt.reader());
     };
     match fs::open(rt, name) {
         Ok(file) => perform_on(rt, options, file),
-        Err(error) => Err(Failure::Input(String::from_str(rt.alloc(), name)?, error)),
+        Err(error) => Err(ProgramError::Input(String::from_str(rt.alloc(), name)?, error)),
     }
 }
 

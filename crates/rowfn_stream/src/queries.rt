@@ -1,6 +1,6 @@
 //! The query that the options ask of rows.
 
-use crate::failure::Failure;
+use crate::failure::ProgramError;
 use rowfn_csv::Format;
 use rowfn_options::{Options, Source};
 use rowfn_queries::{Again, Query, QueryError, Words, read_query};
@@ -10,13 +10,13 @@ use std::io::{ErrorKind, Read};
 use std::rt::Files;
 
 /// The text of the file of an expression.
-fn file_text(rt: &(impl Files + AllocGlobal), name: &str) -> Result<String, Failure> {
+fn file_text(rt: &(impl Files + AllocGlobal), name: &str) -> Result<String, ProgramError> {
     match fs::read_to_string(rt, name) {
         Ok(text) => Ok(text),
         Err(error) if error.kind() == ErrorKind::InvalidData => {
-            Err(Failure::NoText(String::from_str(rt.alloc(), name)?))
+            Err(ProgramError::NoText(String::from_str(rt.alloc(), name)?))
         }
-        Err(error) => Err(Failure::Input(String::from_str(rt.alloc(), name)?, error)),
+        Err(error) => Err(ProgramError::Input(String::from_str(rt.alloc(), name)?, error)),
     }
 }
 
@@ -69,13 +69,13 @@ fn read_text<R: Read>(
     options: &Options<'_>,
     text: &str,
     reader: &mut Again<R>,
-) -> Result<Query, Failure> {
+) -> Result<Query, ProgramError> {
     match read_texts(rt, options, Some(text), reader) {
         Ok(query) => Ok(query),
         Err(error) if options.condition.is_some() && fs::open(rt, text).is_ok() => {
-            Err(Failure::QueryOfFile(error, String::from_str(rt.alloc(), text)?))
+            Err(ProgramError::QueryOfFile(error, String::from_str(rt.alloc(), text)?))
         }
-        Err(error) => Err(Failure::Query(error)),
+        Err(error) => Err(ProgramError::Query(error)),
     }
 }
 
@@ -84,7 +84,7 @@ pub(crate) fn query_of<R: Read>(
     rt: &(impl Files + AllocGlobal),
     options: &Options<'_>,
     reader: &mut Again<R>,
-) -> Result<Query, Failure> {
+) -> Result<Query, ProgramError> {
     match options.source {
         Source::Nowhere => Ok(read_texts(rt, options, None, reader)?),
         Source::Text(text) => read_text(rt, options, text, reader),

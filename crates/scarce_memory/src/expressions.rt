@@ -3,7 +3,7 @@
 use crate::seen::Tally;
 use std::alloc::Global;
 use vortex_columns::{DType, Nullability, PType, StructFields, VortexError, VortexResult};
-use vortex_expressions::{ReadError, read_answers, read_expression, write_expression};
+use vortex_expressions::{TextError, read_answers, read_expression, write_expression};
 
 const TEXT: &str = "price * 2 > 100 and \"the \"\"name\"\"\" like 'a''%'";
 
@@ -16,7 +16,7 @@ fn scope(alloc: Global) -> VortexResult<StructFields> {
 }
 
 /// `false` for a text that fails; else out of memory.
-fn refused(error: &ReadError) -> VortexResult<bool> {
+fn refused(error: &TextError) -> VortexResult<bool> {
     if error.is_out_of_memory() {
         Err(VortexError::OutOfMemory)
     } else {

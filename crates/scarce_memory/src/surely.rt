@@ -17,10 +17,10 @@ use vortex_rewriting::*;
 /// Whether a lone leaf gives the column, borrowed.
 fn lends<C: ScalarFnVTable>(alloc: Global, tree: Bound<C>, column: Made) -> VortexResult<bool> {
     let (tree, columns) = (tree?, one(alloc, column)?);
-    Ok(yes(is_lent(alloc, &*tree, &columns)))
+    Ok(yes(is_borrowed(alloc, &*tree, &columns)))
 }
 
-fn is_lent<C: ScalarFnVTable>(
+fn is_borrowed<C: ScalarFnVTable>(
     alloc: Global,
     tree: &BoundExpression<C>,
     columns: &[Column],

@@ -1,14 +1,14 @@
 //! Columns without names, places of columns, texts for null, comments, and records of any length.
 
 use crate::harness::{
-    Asked, COMMAS, Ending, Texts, answers_so, asks, each_answers, each_ends_headless, ends_so,
+    COMMAS, Ending, Request, Texts, answers_so, asks, each_answers, each_ends_headless, ends_so,
 };
 use rowfn_batches::Format;
 use rowfn_queries::Words;
 
 /// The same, without a header.
-fn headless<'a>(asked: Asked<'a>) -> Asked<'a> {
-    Asked {
+fn headless<'a>(asked: Request<'a>) -> Request<'a> {
+    Request {
         words: Words {
             header: false,
             ..asked.words
@@ -37,7 +37,7 @@ fn answers_and_conditions_need_no_column(rt: HostRuntime) {
         (("", "5 as r", "", ""), "", 0, ""),
     ];
     assert!(rt; each_ends_headless(rt, CASES));
-    let appended = Asked {
+    let appended = Request {
         appends: true,
         ..headless(asks("5 as r", "1,\"x,y\"\n"))
     };
@@ -106,7 +106,7 @@ fn a_condition_reads_a_column_by_its_place(rt: HostRuntime) {
 fn two_texts_are_null_and_comments_are_skipped(rt: HostRuntime) {
     let more = [b"-".as_slice()];
     let input = "# goods\nn,t\n1,-\nNA,\"-\"\n#2,x\n-,\"#y\"\n";
-    let asked = Asked {
+    let asked = Request {
         format: Format {
             null: b"NA",
             more_nulls: &more,
@@ -119,8 +119,8 @@ fn two_texts_are_null_and_comments_are_skipped(rt: HostRuntime) {
 }
 
 /// The same, with records of any length.
-fn fitted<'a>(asked: Asked<'a>) -> Asked<'a> {
-    Asked {
+fn fitted<'a>(asked: Request<'a>) -> Request<'a> {
+    Request {
         format: Format {
             fits: true,
             ..asked.format

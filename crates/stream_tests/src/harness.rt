@@ -10,7 +10,7 @@ use std::alloc::Global;
 
 /// What is asked, and of which rows.
 #[derive(Clone, Copy)]
-pub struct Asked<'a> {
+pub struct Request<'a> {
     pub words: Words<'a>,
     pub input: &'a str,
     pub appends: bool,
@@ -34,8 +34,8 @@ pub const COMMAS: Format<'static> = Format {
 };
 
 /// Answers of rows, whose columns take their types from the rows.
-pub fn asks<'a>(answers: &'a str, input: &'a str) -> Asked<'a> {
-    Asked {
+pub fn asks<'a>(answers: &'a str, input: &'a str) -> Request<'a> {
+    Request {
         words: Words {
             columns: None,
             answers: Some(answers),
@@ -53,9 +53,9 @@ pub fn asks<'a>(answers: &'a str, input: &'a str) -> Asked<'a> {
 }
 
 /// The same, with columns that are declared.
-pub fn declared<'a>(columns: &'a str, answers: &'a str, input: &'a str) -> Asked<'a> {
+pub fn declared<'a>(columns: &'a str, answers: &'a str, input: &'a str) -> Request<'a> {
     let plain = asks(answers, input);
-    Asked {
+    Request {
         words: Words {
             columns: Some(columns),
             ..plain.words
@@ -65,9 +65,9 @@ pub fn declared<'a>(columns: &'a str, answers: &'a str, input: &'a str) -> Asked
 }
 
 /// The rows in which a condition is true, as they stand.
-pub fn rows_where<'a>(condition: &'a str, input: &'a str) -> Asked<'a> {
+pub fn rows_where<'a>(condition: &'a str, input: &'a str) -> Request<'a> {
     let plain = asks("", input);
-    Asked {
+    Request {
         words: Words {
             answers: None,
             condition: Some(condition),
@@ -78,9 +78,9 @@ pub fn rows_where<'a>(condition: &'a str, input: &'a str) -> Asked<'a> {
 }
 
 /// The answers of those rows.
-pub fn answers_where<'a>(condition: &'a str, answers: &'a str, input: &'a str) -> Asked<'a> {
+pub fn answers_where<'a>(condition: &'a str, answers: &'a str, input: &'a str) -> Request<'a> {
     let plain = asks(answers, input);
-    Asked {
+    Request {
         words: Words {
             condition: Some(condition),
             ..plain.words
@@ -99,10 +99,10 @@ fn said(text: &str) -> Option<&str> {
 }
 
 /// What a case of a table asks, of an input with or without a header.
-fn asked_of(texts: Texts, header: bool) -> Asked<'static> {
+fn asked_of(texts: Texts, header: bool) -> Request<'static> {
     let (columns, answers, condition, input) = texts;
     let plain = asks(answers, input);
-    Asked {
+    Request {
         words: Words {
             columns: said(columns),
             answers: said(answers),
@@ -114,7 +114,7 @@ fn asked_of(texts: Texts, header: bool) -> Asked<'static> {
     }
 }
 
-fn settings_of<'a>(asked: &Asked<'a>, batch: (usize, u64)) -> Settings<'a> {
+fn settings_of<'a>(asked: &Request<'a>, batch: (usize, u64)) -> Settings<'a> {
     Settings {
         format: asked.format,
         header: asked.words.header,
@@ -188,7 +188,7 @@ fn pass_on(
 /// The query of what is asked.
 fn query_of(
     alloc: Global,
-    asked: &Asked<'_>,
+    asked: &Request<'_>,
     settings: &Settings<'_>,
     reader: &mut Again<Drips<'_>>,
 ) -> Result<Query, (u8, String)> {
@@ -205,7 +205,7 @@ fn query_of(
 /// refused end the stream, or are told and left out.
 pub fn ask_once(
     alloc: Global,
-    asked: &Asked<'_>,
+    asked: &Request<'_>,
     batch: (usize, u64),
     step: usize,
     sink: &mut Sink,
@@ -241,7 +241,7 @@ pub fn ask_once(
 }
 
 /// Whether rows that are asked end so, whatever the batches and the reads.
-pub fn ends_so(rt: HostRuntime, asked: Asked<'_>, output: &str, status: u8, told: &str) -> bool {
+pub fn ends_so(rt: HostRuntime, asked: Request<'_>, output: &str, status: u8, told: &str) -> bool {
     let alloc = rt.alloc();
     for batch in BATCHES {
         for step in STEPS {
@@ -259,7 +259,7 @@ pub fn ends_so(rt: HostRuntime, asked: Asked<'_>, output: &str, status: u8, told
 }
 
 /// Whether rows that are asked are read to their end, and that is written.
-pub fn answers_so(rt: HostRuntime, asked: Asked<'_>, output: &str) -> bool {
+pub fn answers_so(rt: HostRuntime, asked: Request<'_>, output: &str) -> bool {
     ends_so(rt, asked, output, 0, "")
 }
 
@@ -302,7 +302,7 @@ pub fn each_answers(rt: HostRuntime, cases: &[(Texts, &str)]) -> bool {
 
 /// Whether rows that are asked end with that status and that text, by batches and reads of the
 /// usual size.
-pub fn ends_once(rt: HostRuntime, asked: Asked<'_>, wanted: (u8, &str)) -> bool {
+pub fn ends_once(rt: HostRuntime, asked: Request<'_>, wanted: (u8, &str)) -> bool {
     let alloc = rt.alloc();
     let mut sink = Sink {
         taken: Vec::new(alloc),

@@ -2,7 +2,7 @@
 
 use crate::cases::is_case;
 use crate::harness::{
-    Asked, Texts, answers_so, asks, declared, each_ends_so, ends_once, ends_so, rows_where,
+    Request, Texts, answers_so, asks, declared, each_ends_so, ends_once, ends_so, rows_where,
 };
 use fixtures::same;
 use rowfn_queries::{SAMPLED_ROWS, Words, infer};
@@ -84,7 +84,7 @@ fn only_columns_that_are_named_take_types(rt: HostRuntime) {
 #[test]
 fn no_types_are_taken_where_that_is_not_asked(rt: HostRuntime) {
     let plain = asks("a", "a\n1\n");
-    let none = Asked {
+    let none = Request {
         words: Words {
             infers: false,
             ..plain.words
@@ -93,7 +93,7 @@ fn no_types_are_taken_where_that_is_not_asked(rt: HostRuntime) {
     };
     let told = "expression: line 1, column 1: no column \"a\"";
     assert!(rt; ends_so(rt, none, "", 4, told));
-    let headless = Asked {
+    let headless = Request {
         words: Words {
             header: false,
             ..plain.words
@@ -125,12 +125,12 @@ fn is_true_of(rt: HostRuntime, count: usize, condition: &str, status: u8, told: 
 
 #[test]
 fn types_are_those_of_the_first_rows_which_may_fail(rt: HostRuntime) {
-    let cut = Asked {
+    let cut = Request {
         fails: true,
         ..asks("a + 1 as b", "a\n1\n2\n3")
     };
     assert!(rt; ends_so(rt, cut, "b\n2\n3\n", 3, "reading: connection reset"));
-    let header = Asked {
+    let header = Request {
         fails: true,
         ..asks("a as b", "a")
     };
@@ -152,7 +152,7 @@ fn a_header_or_row_that_is_none_ends_the_first_rows(rt: HostRuntime) {
         ),
     ];
     assert!(rt; each_ends_so(rt, CASES));
-    let long = Asked {
+    let long = Request {
         max_field: 2,
         ..asks("a", "a,bcd\n1,2\n")
     };

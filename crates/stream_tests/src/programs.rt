@@ -1,13 +1,13 @@
 //! Questions of texts: `price i32, 3 as stock i32?: price * stock as worth`.
 
-use rowfn_batches::Asked;
+use rowfn_batches::Request;
 use rowfn_queries::{Declared, Question, read_scope};
 use std::alloc::Global;
 use vortex_program::Program;
 
 /// A question, as a stream takes it.
-pub fn asked(question: &Question) -> Asked<'_> {
-    Asked {
+pub fn asked(question: &Question) -> Request<'_> {
+    Request {
         program: &question.program,
         places: &question.places,
     }

@@ -2,7 +2,7 @@
 
 use crate::cases::is_case;
 use crate::harness::{
-    Asked, Texts, answers_so, answers_where, asks, declared, each_answers, each_ends_so, ends_so,
+    Request, Texts, answers_so, answers_where, asks, declared, each_answers, each_ends_so, ends_so,
 };
 
 const GOODS: &str = "name,price,stock\nnut,3,7\nbolt,120,\nnail,5,0\n";
@@ -190,14 +190,14 @@ fn rows_picked_are_told_by_their_numbers(rt: HostRuntime) {
     let input = "a,b\n6,2\n7,\n1,0\n8,4\n";
     let quotient = answers_where("b is not null", "a / b as q, a", input);
     assert!(rt; ends_so(rt, quotient, "q,a\n3,6\n", 1, "row 3: E7 Arithmetic.Div"));
-    let part = Asked {
+    let part = Request {
         rows_before: 10,
         ..quotient
     };
     assert!(rt; ends_so(rt, part, "q,a\n3,6\n", 1, "row 13: E7 Arithmetic.Div"));
     let condition = answers_where("a / b > 0", "a", input);
     assert!(rt; ends_so(rt, condition, "a\n6\n", 1, "row 3: E7 Arithmetic.Div"));
-    let late = Asked {
+    let late = Request {
         rows_before: u64::MAX,
         ..condition
     };
@@ -206,8 +206,8 @@ fn rows_picked_are_told_by_their_numbers(rt: HostRuntime) {
 }
 
 /// The same, with each row's own fields before its answers.
-fn appended<'a>(asked: Asked<'a>) -> Asked<'a> {
-    Asked {
+fn appended<'a>(asked: Request<'a>) -> Request<'a> {
+    Request {
         appends: true,
         ..asked
     }

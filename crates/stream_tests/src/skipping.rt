@@ -1,7 +1,7 @@
 //! Streams that go on behind rows that are refused.
 
 use crate::cases::{BATCHES, STEPS, ended_so};
-use crate::harness::{Asked, ask_once, asks, declared};
+use crate::harness::{Request, ask_once, asks, declared};
 use crate::pipes::Sink;
 use fixtures::{same, same_text};
 use rowfn_batches::refusals_in;
@@ -18,7 +18,7 @@ fn new_sink(alloc: Global) -> Sink {
 /// Whether a stream that goes on ends so, and tells that of rows that are refused.
 fn goes_on_once(
     rt: HostRuntime,
-    asked: &Asked<'_>,
+    asked: &Request<'_>,
     form: ((usize, u64), usize),
     told: &str,
     wanted: (&str, u8, &str),
@@ -31,7 +31,7 @@ fn goes_on_once(
 }
 
 /// The same, whatever the batches and the reads.
-fn stops_behind(rt: HostRuntime, asked: Asked<'_>, told: &str, wanted: (&str, u8, &str)) -> bool {
+fn stops_behind(rt: HostRuntime, asked: Request<'_>, told: &str, wanted: (&str, u8, &str)) -> bool {
     for batch in BATCHES {
         for step in STEPS {
             if !goes_on_once(rt, &asked, (batch, step), told, wanted) {
@@ -43,7 +43,7 @@ fn stops_behind(rt: HostRuntime, asked: Asked<'_>, told: &str, wanted: (&str, u8
 }
 
 /// Whether a stream goes on to the end of its input, and that is written, and that told.
-fn goes_on(rt: HostRuntime, asked: Asked<'_>, output: &str, told: &str) -> bool {
+fn goes_on(rt: HostRuntime, asked: Request<'_>, output: &str, told: &str) -> bool {
     stops_behind(rt, asked, told, (output, 0, ""))
 }
 
@@ -125,14 +125,14 @@ fn is_cut(rt: HostRuntime) -> bool {
 fn errors_that_are_no_row_s_end_the_stream(rt: HostRuntime) {
     let missing = declared("c i8", "c", "a,b\n1,2\n");
     assert!(rt; stops_behind(rt, missing, "", ("", 2, "header: column c is missing")));
-    let fails = Asked {
+    let fails = Request {
         fails: true,
         ..declared(TYPES, SUM, "a,b\n1,2\nx,3\n3,4\n")
     };
     let told = "reading: connection reset";
     let refused = "row,column,reason,field\n2,a,is no i8,x\n";
     assert!(rt; stops_behind(rt, fails, refused, ("sum\n3\n7\n", 3, told)));
-    let asked = Asked {
+    let asked = Request {
         max_field: 4,
         ..declared(TYPES, SUM, "a,b\n1,2\nx,3\n3,12345\n5,6\n")
     };
@@ -142,9 +142,9 @@ fn errors_that_are_no_row_s_end_the_stream(rt: HostRuntime) {
 }
 
 /// What is asked of rows of two columns in which a condition is true.
-fn asks_where<'a>(condition: &'a str, answers: Option<&'a str>, input: &'a str) -> Asked<'a> {
+fn asks_where<'a>(condition: &'a str, answers: Option<&'a str>, input: &'a str) -> Request<'a> {
     let plain = asks("", input);
-    Asked {
+    Request {
         words: Words {
             columns: Some(TYPES),
             answers,
@@ -181,14 +181,14 @@ fn a_condition_refuses_rows_too(rt: HostRuntime) {
 fn rows_that_are_refused_are_told_by_their_numbers(rt: HostRuntime) {
     let input = "a,b\n1,2\nx,3\n3\n5,6\n";
     let told = "row,column,reason,field\n12,a,is no i8,x\n13,,1 fields instead of 2,\n";
-    let part = Asked {
+    let part = Request {
         rows_before: 10,
         appends: true,
         ..declared(TYPES, SUM, input)
     };
     assert!(rt; goes_on(rt, part, "a,b,sum\n1,2,3\n5,6,11\n", told));
     // behind the last number none is told apart
-    let late = Asked {
+    let late = Request {
         rows_before: u64::MAX,
         ..part
     };

@@ -1,7 +1,7 @@
 //! What is written where rows are left out is what is written without them: streams of chance.
 
 use crate::chance::Chance;
-use crate::harness::{Asked, ask_once, asks};
+use crate::harness::{Request, ask_once, asks};
 use crate::pipes::Sink;
 use fixtures::same;
 use rowfn_queries::Words;
@@ -113,13 +113,13 @@ fn tried_of(alloc: Global, seed: u64) -> Result<Tried, AllocError> {
 }
 
 /// What a stream asks of an input.
-fn asked_of<'a>(tried: &Tried, input: &'a str) -> Asked<'a> {
+fn asked_of<'a>(tried: &Tried, input: &'a str) -> Request<'a> {
     let plain = asks(tried.answers, input);
     let condition = match tried.condition {
         "" => None,
         text => Some(text),
     };
-    Asked {
+    Request {
         words: Words {
             columns: Some(tried.types),
             condition,

@@ -1,12 +1,12 @@
 //! Truth values in any spelling.
 
 use crate::cases::{Case, ends, gives, plain};
-use crate::harness::{Asked, answers_so, asks, declared, ends_so, rows_where};
+use crate::harness::{Request, answers_so, asks, declared, ends_so, rows_where};
 use rowfn_batches::Format;
 
 /// The same, with truth values in any spelling.
-fn any<'a>(asked: Asked<'a>) -> Asked<'a> {
-    Asked {
+fn any<'a>(asked: Request<'a>) -> Request<'a> {
+    Request {
         format: Format {
             any_truths: true,
             ..asked.format

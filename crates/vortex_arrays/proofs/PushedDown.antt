@@ -17,8 +17,8 @@ use Rattle.vortex_arrays.specs.PushDown.{RefusesPushDown, binding, fault, Pushes
 pub inputs_are : (k : ℕ) (v : ColumnView) (d : DictView) (others : List ScalarView)
     (made : List ColumnView)
     → made ≡ inputs_of k v others → v ≡ d.values → made ≡ inputs_of k d.values others
-inputs_are k v d others made is lent =
-    is ∙ ap (λ (c : ColumnView). inputs_of k c others) lent
+inputs_are k v d others made is borrowed =
+    is ∙ ap (λ (c : ColumnView). inputs_of k c others) borrowed
 
 module _ {V O : Type 0} (m : Meaning V O) (f : Function V O) (d : DictView)
     (inputs made : List ColumnView) (is : made ≡ inputs)

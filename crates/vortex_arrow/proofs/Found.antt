@@ -9,7 +9,7 @@ use Rattle.vortex_types.specs.Values.{text}
 use Rattle.vortex_views.specs.Collected.{HaveRoom}
 use Rattle.vortex_columns.specs.ColumnView.{ColumnView}
 use Rattle.vortex_columns.specs.ValidityView.{ValidityView, form_allows_null, FitsRows}
-use Rattle.vortex_columns.specs.Made.{MakeLentTexts, lent_texts, text_rows}
+use Rattle.vortex_columns.specs.Made.{MakeBorrowedTexts, borrowed_texts, text_rows}
 use Rattle.vortex_columns.specs.Stored.{made_of}
 use Rattle.vortex_arrow.specs.declared.error.ValueFault.{ValueFault}
 use Rattle.vortex_arrow.specs.declared.error.ArrowError.{ArrowError}
@@ -34,10 +34,10 @@ module _ (n : ℕ) (lies texts : ℕ → Type 0) (faults : ℕ → ValueFault �
 
   pub found_told : (r : Result ColumnView ArrowError) (found : List (Bor (List ℕ)))
       (item : ℕ → List ℕ) (v : ValidityView) (from : ℕ) → FitsRows v n
-      → ((i : ℕ) → i < n → lies i × texts i) → lent_texts found ≡ values_from item v from n
+      → ((i : ℕ) → i < n → lies i × texts i) → borrowed_texts found ≡ values_from item v from n
       → MatchResult r
-      (λ c. MakeLentTexts found v × (c ≡ text_rows (lent_texts found) v))
-      (RefusesPush (MakeLentTexts found v))
+      (λ c. MakeBorrowedTexts found v × (c ≡ text_rows (borrowed_texts found) v))
+      (RefusesPush (MakeBorrowedTexts found v))
       → MatchResult r
       (λ c. ((i : ℕ) → i < n → lies i × texts i) × HaveRoom (values_from item v from n)
       × (c ≡ made_of (text_type (form_allows_null v.form)) v n (λ i. text (item (from + i)))))
@@ -45,14 +45,14 @@ module _ (n : ℕ) (lies texts : ℕ → Type 0) (faults : ℕ → ValueFault �
   found_told (Ok c) found item v from fits good same h = (
     good,
     subst HaveRoom same h.0.1,
-    h.1 ∙ strings_from (text_type (form_allows_null v.form)) text item v from n (lent_texts found)
+    h.1 ∙ strings_from (text_type (form_allows_null v.form)) text item v from n (borrowed_texts found)
         same,
   )
   found_told (Err e) found item v from fits good same h =
       let count : length found ≡ n =
       sym (length-map found (λ (t : Bor (List ℕ)). t.now)) ∙ ap length same
       ∙ length_values item v from n in
-      push_refused n lies texts faults (HaveRoom (values_from item v from n)) (MakeLentTexts found v) e
+      push_refused n lies texts faults (HaveRoom (values_from item v from n)) (MakeBorrowedTexts found v) e
       (λ room. (subst (FitsRows v) (sym count) fits, subst HaveRoom (sym same) room)) h
 
 -- what is found of texts by offsets, of rows with that validity

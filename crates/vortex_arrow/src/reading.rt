@@ -7,7 +7,7 @@ ghost use Rattle.vortex_views.specs.Collected.{HaveRoom};
 ghost use Rattle.vortex_columns.specs.ValidityView.{validity_of, is_valid_row, FitsRows};
 ghost use Rattle.vortex_columns.specs.ValidityView.{form_allows_null};
 ghost use Rattle.vortex_columns.specs.Stored.{made_of};
-ghost use Rattle.vortex_columns.specs.Made.{MakeLentTexts, lent_texts, text_rows};
+ghost use Rattle.vortex_columns.specs.Made.{MakeBorrowedTexts, borrowed_texts, text_rows};
 ghost use Rattle.vortex_arrow.specs.Layouts.{bits, numbers, layout_of, HasItems, has_offsets};
 ghost use Rattle.vortex_arrow.specs.Columns.{column_from, values_from, AreValues, HasBitsFor};
 ghost use Rattle.vortex_arrow.specs.Columns.{IsWellFormed, arrow_column};
@@ -20,7 +20,7 @@ use crate::column::{ArrowColumn, ArrowValues};
 use crate::error::ArrowError;
 use crate::offsets::{IndexType, Spans};
 use crate::validity::{read_bits, read_validity};
-use crate::views::LentViews;
+use crate::views::BorrowedViews;
 use crate::whole_texts::whole_texts;
 use std::alloc::Global;
 use vortex_columns::{Column, NativePType, Validity, VortexError};
@@ -96,9 +96,9 @@ fn read_byte_strings<R: ByteRows>(
 /// A column of these texts.
 fn column_of_texts(alloc: Global, texts: &[&str], validity: Validity) -> Result<Column, ArrowError>
     ensures { MatchResult result
-        (λ c. MakeLentTexts texts.now (validity_of validity)
-        × (c ≡ text_rows (lent_texts texts.now) (validity_of validity)))
-        (RefusesPush (MakeLentTexts texts.now (validity_of validity))) }
+        (λ c. MakeBorrowedTexts texts.now (validity_of validity)
+        × (c ≡ text_rows (borrowed_texts texts.now) (validity_of validity)))
+        (RefusesPush (MakeBorrowedTexts texts.now (validity_of validity))) }
 {
     match Column::try_texts(alloc, texts, validity) {
         Ok(column) => Ok(column),
@@ -265,10 +265,22 @@ fn read_values(
             read_byte_strings(alloc, &Spans { offsets, data }, from, count, validity)
         }
         ArrowValues::Utf8View { views, buffers } => {
-            read_texts(alloc, &LentViews { views, buffers }, from, count, validity)
+            read_texts(
+                alloc,
+                &BorrowedViews { views, buffers },
+                from,
+                count,
+                validity,
+            )
         }
         ArrowValues::BinaryView { views, buffers } => {
-            read_byte_strings(alloc, &LentViews { views, buffers }, from, count, validity)
+            read_byte_strings(
+                alloc,
+                &BorrowedViews { views, buffers },
+                from,
+                count,
+                validity,
+            )
         }
     }
 }

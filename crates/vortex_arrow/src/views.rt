@@ -13,7 +13,7 @@ use vortex_views::laws::equal_words_say_equal_views;
 
 /// Item `k` is what view `k` says, over buffers.
 #[derive(Clone, Copy)]
-pub(crate) struct LentViews<'a> {
+pub(crate) struct BorrowedViews<'a> {
     pub views: &'a [[u8; 16]],
     pub buffers: &'a [&'a [u8]],
 }
@@ -56,7 +56,7 @@ fn within<'a>(view: &BinaryView, buffer: &'a [u8]) -> Result<&'a [u8], ValueFaul
     Ok(&rest[..len])
 }
 
-impl ByteRows for LentViews<'_> {
+impl ByteRows for BorrowedViews<'_> {
     ghost has_item = { λ r p. p < length r.views.now };
 
     ghost item = { λ r p. view_value (buffers_of r.buffers.now)

@@ -22,9 +22,9 @@ use Rattle.vortex_cells.proofs.CellRows.{value_read, is_there}
 use Rattle.vortex_cells.proofs.IntegerTexts.{integer_text}
 
 -- bytes that are a text have its value
-pub text_said : (t : LogicalType) (bs w : List ℕ) → w ≡ bs → IsUtf8 bs
+pub token_text : (t : LogicalType) (bs w : List ℕ) → w ≡ bs → IsUtf8 bs
     → value_of_text t w ≡ field_value t (Some bs)
-text_said t bs w same readable =
+token_text t bs w same readable =
     ap (value_of_text t) same
     ∙ sym
     (ap (λ b. option_and_then (cell_value t) (if b then Some (Some bs) else None))
@@ -101,10 +101,10 @@ values_said t (f ∷ fs) =
     ap (with_first (field_value t f)) (values_said t fs)
     ∙ first_said t (field_cell f) (all_some (map field_cell fs))
 
-pub column_said : (t : LogicalType) (fs : List (Option (List ℕ)))
+pub written_column : (t : LogicalType) (fs : List (Option (List ℕ)))
     → option_and_then (column_where t) (field_values t fs)
     ≡ option_and_then (column_from t) (all_some (map field_cell fs))
-column_said t fs =
+written_column t fs =
     ap (option_and_then (column_where t)) (values_said t fs) ∙ by (all_some (map field_cell fs))
   where
     by : (o : Option (List (Option (List ℕ))))

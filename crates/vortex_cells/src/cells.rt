@@ -279,7 +279,7 @@ fn read_value<'a, K: CellKind<'a>>(
 }
 
 /// Whether the cell has a value of the type.
-fn says_value<'a, K: CellKind<'a>>(nullability: Nullability, cell: Option<&'a str>) -> bool
+fn holds_value<'a, K: CellKind<'a>>(nullability: Nullability, cell: Option<&'a str>) -> bool
     ensures { result
         ≡ is_some (cell_value (K.kind (allows_null nullability)) (cell_in cell.entry)) }
 {
@@ -367,10 +367,10 @@ pub fn cell_fits(dtype: &DType, cell: Option<&str>) -> bool
     ensures { result ≡ cell_fits (type_of dtype.now) (cell_in cell.entry) }
 {
     match dtype {
-        DType::Bool(nullability) => says_value::<BoolCells>(*nullability, cell),
-        DType::Utf8(nullability) => says_value::<TextCells>(*nullability, cell),
+        DType::Bool(nullability) => holds_value::<BoolCells>(*nullability, cell),
+        DType::Utf8(nullability) => holds_value::<TextCells>(*nullability, cell),
         DType::Primitive(ptype, nullability) => {
-            with_int_cells!(*ptype, says_value(*nullability, cell))
+            with_int_cells!(*ptype, holds_value(*nullability, cell))
         }
         _ => false,
     }

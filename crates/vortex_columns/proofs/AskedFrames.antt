@@ -15,7 +15,7 @@ use Rattle.vortex_columns.specs.ColumnView.{row}
 use Rattle.vortex_columns.specs.Cells.{sequence_value, sequence_values}
 use Rattle.vortex_columns.specs.Shapes.{shape_type}
 use Rattle.vortex_columns.specs.declared.cell.Sequence.{Sequence}
-use Rattle.vortex_columns.specs.declared.typing.Asking.{Asking}
+use Rattle.vortex_columns.specs.declared.typing.SequenceCheck.{SequenceCheck}
 use Rattle.vortex_columns.specs.Questions.{part_type, asked_count, IsAsking, PartHasType}
 use Rattle.vortex_columns.specs.Questions.{IsOpened, RestHave, with_rest}
 use Rattle.vortex_columns.proofs.Compare.{depth_inside}
@@ -24,15 +24,15 @@ use Rattle.vortex_columns.proofs.Copied.{from_next}
 use Rattle.vortex_columns.proofs.HaveTypes.{parts_typed}
 
 -- what is left to check means the same as the whole
-abbrev pub Mean : Asking → List Asking → Type 0 → Type 0
+abbrev pub Mean : SequenceCheck → List SequenceCheck → Type 0 → Type 0
 Mean f fs Whole = (RestHave f × All RestHave fs) ↔ Whole
 
 -- one value further
-abbrev pub further : Asking → Asking
+abbrev pub further : SequenceCheck → SequenceCheck
 further f = record { values = f.values; shape = f.shape; next = f.next + 1 }
 
 -- what it reads is in range, and nests no deeper
-abbrev pub IsWithin : ℕ → Asking → Type 0
+abbrev pub IsWithin : ℕ → SequenceCheck → Type 0
 IsWithin depth f = IsAsking f × (value_depth (sequence_value f.values) ≤ depth)
 
 rest_next : (P : ℕ → Type 0) (k n : ℕ) → k < n
@@ -44,11 +44,11 @@ rest_next P k n b = (
   λ h. (h k (omega arith) b, λ j low high. h j (omega arith) high),
 )
 
-further_rest : (f : Asking) → f.next < asked_count f
+further_rest : (f : SequenceCheck) → f.next < asked_count f
     → (PartHasType f f.next × RestHave (further f)) ↔ RestHave f
 further_rest f b = rest_next (PartHasType f) f.next (asked_count f) b
 
-opened : (f : Asking) (s : Sequence) (t : LogicalType) → IsOpened f s t
+opened : (f : SequenceCheck) (s : Sequence) (t : LogicalType) → IsOpened f s t
     → RestHave f ↔ HasType t (sequence_value s)
 opened f s t o =
     let whole = parts_typed (shape_type f.shape) (sequence_values f.values) in
@@ -58,13 +58,13 @@ opened f s t o =
       λ h k low b. (whole.1 h).1 k b,
     ))
 
-pub begun : (f : Asking) (s : Sequence) (t : LogicalType) → IsOpened f s t
+pub begun : (f : SequenceCheck) (s : Sequence) (t : LogicalType) → IsOpened f s t
     → Mean f [] (HasType t (sequence_value s))
 begun f s t o =
     let whole = opened f s t o in (λ h. whole.0 h.0, λ w. (whole.1 w, All-nil RestHave))
 
 -- another spelling of the next value and of its type
-pub part_is : (f : Asking) (t : LogicalType) (v : Value)
+pub part_is : (f : SequenceCheck) (t : LogicalType) (v : Value)
     → t ≡ part_type (shape_type f.shape) f.next → v ≡ row (sequence_values f.values) f.next
     → HasType t v ↔ PartHasType f f.next
 part_is f t v e d =
@@ -73,7 +73,7 @@ part_is f t v e d =
     (subst (λ (w : Value). HasType t v ↔ HasType t w) d (λ h. h, λ h. h))
 
 -- with one more frame, or with none
-all_with : (P : Asking → Type 0) (fs : List Asking) (r : Option Asking)
+all_with : (P : SequenceCheck → Type 0) (fs : List SequenceCheck) (r : Option SequenceCheck)
     → (All P fs × IfSome r P) ↔ All P (fs ++ option_to_list r)
 all_with P fs None = (
   λ h. subst (All P) (sym (append-nil fs)) h.0,
@@ -84,26 +84,26 @@ all_with P fs (Some f) = (
   λ h. All-pop P (fs ++ f ∷ []) fs (Some f) refl h,
 )
 
-rest_some : (f : Asking) → f.next < asked_count f → with_rest f ≡ Some f
+rest_some : (f : SequenceCheck) → f.next < asked_count f → with_rest f ≡ Some f
 rest_some f h = ap (λ b. if b then Some f else None) (lt-ltb f.next (asked_count f) h)
 
-rest_none : (f : Asking) → asked_count f ≤ f.next → with_rest f ≡ None
+rest_none : (f : SequenceCheck) → asked_count f ≤ f.next → with_rest f ≡ None
 rest_none f h = ap (λ b. if b then Some f else None) (le-ltb f.next (asked_count f) h)
 
-rest_cases : (f : Asking) (Q : Option Asking → Type 0) → (f.next < asked_count f → Q (Some f))
+rest_cases : (f : SequenceCheck) (Q : Option SequenceCheck → Type 0) → (f.next < asked_count f → Q (Some f))
     → (asked_count f ≤ f.next → Q None) → Q (with_rest f)
 rest_cases f Q some none =
     ⊎_elim (λ (h : f.next < asked_count f). subst Q (sym (rest_some f h)) (some h))
     (λ (h : asked_count f ≤ f.next). subst Q (sym (rest_none f h)) (none h))
     (cases_lt f.next (asked_count f))
 
-rest_have : (f : Asking) → IfSome (with_rest f) RestHave ↔ RestHave f
+rest_have : (f : SequenceCheck) → IfSome (with_rest f) RestHave ↔ RestHave f
 rest_have f =
     rest_cases f (λ r. IfSome r RestHave ↔ RestHave f) (λ _. (λ h. h, λ h. h))
     (λ b. (λ _ k low c. absurd (omega arith), λ _. tt))
 
 -- into the next value
-pub went_in : (f inner : Asking) (s : Sequence) (t : LogicalType) (fs gs : List Asking)
+pub went_in : (f inner : SequenceCheck) (s : Sequence) (t : LogicalType) (fs gs : List SequenceCheck)
     (Whole : Type 0) → f.next < asked_count f
     → gs ≡ fs ++ option_to_list (with_rest (further f)) → IsOpened inner s t
     → t ≡ part_type (shape_type f.shape) f.next
@@ -115,7 +115,7 @@ went_in f inner s t fs gs Whole b e o same_type same m =
     let next = further_rest f b in
     let all = all_with RestHave fs (with_rest (further f)) in
     let rest = rest_have (further f) in
-    subst (λ (hs : List Asking). Mean inner hs Whole) (sym e) (
+    subst (λ (hs : List SequenceCheck). Mean inner hs Whole) (sym e) (
       λ h. let a = all.1 h.1 in m.0 (next.0 (part.0 (whole.0 h.0), rest.0 a.1), a.0),
       λ w.
           let g = m.1 w in
@@ -124,7 +124,7 @@ went_in f inner s t fs gs Whole b e o same_type same m =
     )
 
 -- and out again
-pub went_out : (f g : Asking) (fs gs : List Asking) (Whole : Type 0) → asked_count f ≤ f.next
+pub went_out : (f g : SequenceCheck) (fs gs : List SequenceCheck) (Whole : Type 0) → asked_count f ≤ f.next
     → fs ≡ gs ++ g ∷ [] → Mean f fs Whole → Mean g gs Whole
 went_out f g fs gs Whole b e m =
     let all = all_with RestHave gs (Some g) in (
@@ -134,7 +134,7 @@ went_out f g fs gs Whole b e m =
       λ w. let a = all.1 (subst (All RestHave) e (m.1 w).1) in (a.1, a.0),
     )
 
-pub within_more : (depth : ℕ) (f : Asking) (fs gs : List Asking)
+pub within_more : (depth : ℕ) (f : SequenceCheck) (fs gs : List SequenceCheck)
     → gs ≡ fs ++ option_to_list (with_rest f) → IsWithin depth f → All (IsWithin depth) fs
     → All (IsWithin depth) gs
 within_more depth f fs gs e h all =
@@ -143,32 +143,32 @@ within_more depth f fs gs e h all =
     subst (All (IsWithin depth)) (sym e)
     ((all_with (IsWithin depth) fs (with_rest f)).0 (all, last))
 
-pub within_less : (depth : ℕ) (g : Asking) (fs gs : List Asking) → fs ≡ gs ++ g ∷ []
+pub within_less : (depth : ℕ) (g : SequenceCheck) (fs gs : List SequenceCheck) → fs ≡ gs ++ g ∷ []
     → All (IsWithin depth) fs → IsWithin depth g × All (IsWithin depth) gs
 within_less depth g fs gs e all =
     let a =
     (all_with (IsWithin depth) gs (Some g)).1 (subst (All (IsWithin depth)) e all) in
     (a.1, a.0)
 
-pub within_opened : (depth : ℕ) (f : Asking) (s : Sequence) (t : LogicalType) → IsOpened f s t
+pub within_opened : (depth : ℕ) (f : SequenceCheck) (s : Sequence) (t : LogicalType) → IsOpened f s t
     → value_depth (sequence_value s) ≤ depth → IsWithin depth f
 within_opened depth f s t o h =
     (o.0, omega (arith, h, ap (λ (r : Sequence). value_depth (sequence_value r)) o.2))
 
-pub deeper : (f : Asking) (v : Value) → f.next < asked_count f
+pub deeper : (f : SequenceCheck) (v : Value) → f.next < asked_count f
     → v ≡ row (sequence_values f.values) f.next
     → value_depth v < value_depth (sequence_value f.values)
 deeper f v b e =
     omega (arith, depth_inside (sequence_values f.values) f.next b, ap value_depth e)
 
 -- how many steps are left
-abbrev pub rest_size : Asking → ℕ
+abbrev pub rest_size : SequenceCheck → ℕ
 rest_size f = suc (size_from f.next f.values)
 
-abbrev pub rest_sizes : List Asking → ℕ
+abbrev pub rest_sizes : List SequenceCheck → ℕ
 rest_sizes fs = sum_by rest_size fs
 
-sizes_more : (f : Asking) (fs gs : List Asking) → gs ≡ fs ++ option_to_list (with_rest f)
+sizes_more : (f : SequenceCheck) (fs gs : List SequenceCheck) → gs ≡ fs ++ option_to_list (with_rest f)
     → rest_sizes gs ≤ rest_sizes fs + rest_size f
 sizes_more f fs gs e =
     let joined : rest_sizes gs
@@ -179,7 +179,7 @@ sizes_more f fs gs e =
     (λ _. omega arith) in
     omega (arith, joined, last)
 
-pub less_in : (f inner : Asking) (s : Sequence) (t : LogicalType) (fs gs : List Asking)
+pub less_in : (f inner : SequenceCheck) (s : Sequence) (t : LogicalType) (fs gs : List SequenceCheck)
     → f.next < asked_count f → sequence_value s ≡ row (sequence_values f.values) f.next
     → gs ≡ fs ++ option_to_list (with_rest (further f)) → IsOpened inner s t
     → rest_sizes gs + size_from inner.next inner.values

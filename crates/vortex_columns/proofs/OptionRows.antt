@@ -17,7 +17,7 @@ use Rattle.vortex_errors.proofs.Answering.{Answers-weaker, answers_where}
 use Rattle.vortex_columns.specs.ColumnView.{ColumnView}
 use Rattle.vortex_columns.specs.ValidityView.{array, ValidityView, is_valid_row, FitsRows}
 use Rattle.vortex_columns.specs.Stored.{made_of, bool_column}
-use Rattle.vortex_columns.specs.Made.{int_column, text_rows, lent_texts, MakeLentTexts}
+use Rattle.vortex_columns.specs.Made.{int_column, text_rows, borrowed_texts, MakeBorrowedTexts}
 use Rattle.vortex_views.specs.Collected.{HaveRoom}
 use Rattle.vortex_columns.specs.Options.{option_row, option_validity, option_column}
 use Rattle.vortex_columns.specs.Options.{optional_bools, optional_ints, option_text, optional_texts}
@@ -104,7 +104,7 @@ module _ (r : Result ColumnView VortexError) (v : ValidityView) where
 
 -- texts of options, blank for none
 texts_of_options : (under : Bor (List ℕ)) (xs : List (Option (Bor (List ℕ)))) → under.now ≡ []
-    → lent_texts (map (λ o. unwrap_or o under) xs) ≡ map option_text xs
+    → borrowed_texts (map (λ o. unwrap_or o under) xs) ≡ map option_text xs
 texts_of_options under [] blank = refl
 texts_of_options under (Some t ∷ xs) blank = ap (λ ts. t.now ∷ ts) (texts_of_options under xs blank)
 texts_of_options under (None ∷ xs) blank = λ i. blank i ∷ texts_of_options under xs blank i
@@ -112,8 +112,8 @@ texts_of_options under (None ∷ xs) blank = λ i. blank i ∷ texts_of_options 
 module _ (under : Bor (List ℕ)) (xs : List (Option (Bor (List ℕ)))) (vs : List (Bor (List ℕ)))
     (v : ValidityView) (blank : under.now ≡ []) (vs_are : vs ≡ map (λ o. unwrap_or o under) xs)
     (v_is : v ≡ option_validity xs) where
-  same_texts : lent_texts vs ≡ map option_text xs
-  same_texts = ap lent_texts vs_are ∙ texts_of_options under xs blank
+  same_texts : borrowed_texts vs ≡ map option_text xs
+  same_texts = ap borrowed_texts vs_are ∙ texts_of_options under xs blank
 
   value_at : (i : ℕ) → i < length xs
       → text (slice_index_or (map option_text xs) i [])
@@ -124,19 +124,19 @@ module _ (under : Bor (List ℕ)) (xs : List (Option (Bor (List ℕ)))) (vs : Li
       (omega (arith, length-map xs (λ o. unwrap_or o under), h))
       ∙ ap (λ (t : Bor (List ℕ)). t.now) (get_or-map (λ o. unwrap_or o under) xs i None under h))
 
-  texts_are : text_rows (lent_texts vs) v ≡ optional_texts xs
+  texts_are : text_rows (borrowed_texts vs) v ≡ optional_texts xs
   texts_are =
       (λ i. text_rows (same_texts i) (v_is i))
       ∙ made_of_options (λ (t : Bor (List ℕ)). text t.now) under xs _ _ (length-map xs option_text)
       value_at (text_type true)
 
   pub answers_texts : (r : Result ColumnView VortexError)
-      → AnswersWhere r (MakeLentTexts vs v) (λ c. c ≡ text_rows (lent_texts vs) v) InvalidColumn
+      → AnswersWhere r (MakeBorrowedTexts vs v) (λ c. c ≡ text_rows (borrowed_texts vs) v) InvalidColumn
       → AnswersWhere r (HaveRoom (map option_text xs)) (λ c. c ≡ optional_texts xs) InvalidColumn
   answers_texts r h =
-      Answers-weaker r (λ c. MakeLentTexts vs v × (c ≡ text_rows (lent_texts vs) v))
+      Answers-weaker r (λ c. MakeBorrowedTexts vs v × (c ≡ text_rows (borrowed_texts vs) v))
       (λ c. HaveRoom (map option_text xs) × (c ≡ optional_texts xs))
-      (λ e. (¬ (MakeLentTexts vs v)) × (e ≡ InvalidColumn))
+      (λ e. (¬ (MakeBorrowedTexts vs v)) × (e ≡ InvalidColumn))
       (λ e. (¬ (HaveRoom (map option_text xs))) × (e ≡ InvalidColumn))
       (λ c p. (subst HaveRoom same_texts p.0.1, p.1 ∙ texts_are))
       (λ e p. (

@@ -11,7 +11,7 @@ use Rattle.vortex_types.specs.Values.{is_null}
 use Rattle.vortex_types.specs.Typing.{HasType, HaveFields, IsList, IsPair}
 use Rattle.vortex_types.specs.TypeOf.{type_of}
 use Rattle.vortex_columns.specs.ColumnView.{ColumnView, row, AreTyped, valid_rows, constant_form}
-use Rattle.vortex_columns.specs.ColumnView.{entries, FormTells, TellsTruly}
+use Rattle.vortex_columns.specs.ColumnView.{entries, FormTells, TypeInvariant}
 use Rattle.vortex_columns.specs.ValidityView.{ValidityForm, non_nullable, all_valid, all_invalid}
 use Rattle.vortex_columns.specs.ValidityView.{array, ValidityView, is_valid_by, is_valid_row}
 use Rattle.vortex_columns.specs.ValidityView.{form_allows_null, FitsRowsBy, FitsRows, ReachesBy}
@@ -299,7 +299,7 @@ module _ (a : Inside) (c : ColumnView) (is : column_view a ≡ c) where
   form_is : (stored_validity (stored_of a.storage)).form ≡ c.form
   form_is = ap (λ (d : ColumnView). d.form) is
 
-  pub opened_told : IsColumn a → TellsTruly c
+  pub opened_told : IsColumn a → TypeInvariant c
   opened_told ok = (
     λ i h.
         let v = stored_validity (stored_of a.storage) in

@@ -50,8 +50,8 @@ FormTells all_invalid v = is_null v ≡ true
 FormTells array v = Unit {0}
 
 -- the form is right for each row, and the scalar of a constant column has its type
-abbrev pub TellsTruly : ColumnView → Type 0
-TellsTruly c =
+abbrev pub TypeInvariant : ColumnView → Type 0
+TypeInvariant c =
     ((i : ℕ) → i < length c.rows → FormTells c.form (row c.rows i))
     × IfSome c.constant (λ s. HasType s.dtype s.value)
 

@@ -45,11 +45,11 @@ abbrev pub MakeTexts : List (String Global) → ValidityView → Type 0
 MakeTexts ts v = FitsRows v (length ts) × HaveRoom (texts_of ts)
 
 -- texts that are in other buffers
-abbrev pub lent_texts : List (Bor (List ℕ)) → List (List ℕ)
-lent_texts ts = map (λ t. t.now) ts
+abbrev pub borrowed_texts : List (Bor (List ℕ)) → List (List ℕ)
+borrowed_texts ts = map (λ t. t.now) ts
 
-abbrev pub MakeLentTexts : List (Bor (List ℕ)) → ValidityView → Type 0
-MakeLentTexts ts v = FitsRows v (length ts) × HaveRoom (lent_texts ts)
+abbrev pub MakeBorrowedTexts : List (Bor (List ℕ)) → ValidityView → Type 0
+MakeBorrowedTexts ts v = FitsRows v (length ts) × HaveRoom (borrowed_texts ts)
 
 abbrev pub text_column : List (String Global) → ValidityView → ColumnView
 text_column ts v = text_rows (texts_of ts) v

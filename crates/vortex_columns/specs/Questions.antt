@@ -12,7 +12,7 @@ use Rattle.vortex_columns.specs.Cells.{sequence_values, IsSequence}
 use Rattle.vortex_columns.specs.Printing.{element_type}
 use Rattle.vortex_columns.specs.Shapes.{shape_type}
 use Rattle.vortex_columns.specs.declared.cell.Sequence.{Sequence}
-use Rattle.vortex_columns.specs.declared.typing.Asking.{Asking}
+use Rattle.vortex_columns.specs.declared.typing.SequenceCheck.{SequenceCheck}
 
 -- a value that is no list, and has the type
 abbrev pub HasSingleType : LogicalType → Value → Type 0
@@ -32,31 +32,31 @@ abbrev pub part_type : LogicalType → ℕ → LogicalType
 part_type (struct_type fs n) k = field_type k fs
 part_type t k = element_type t
 
-abbrev pub asked_count : Asking → ℕ
+abbrev pub asked_count : SequenceCheck → ℕ
 asked_count f = length (sequence_values f.values)
 
-abbrev pub IsAsking : Asking → Type 0
+abbrev pub IsAsking : SequenceCheck → Type 0
 IsAsking f = IsSequence f.values × IsMadeOf (shape_type f.shape) (asked_count f)
 
 -- nothing is checked yet
-abbrev pub IsOpened : Asking → Sequence → LogicalType → Type 0
+abbrev pub IsOpened : SequenceCheck → Sequence → LogicalType → Type 0
 IsOpened f s t =
     IsAsking f × (f.next ≡ 0) × (f.values ≡ s) × (shape_type f.shape ≡ t)
 
-abbrev pub PartHasType : Asking → ℕ → Type 0
+abbrev pub PartHasType : SequenceCheck → ℕ → Type 0
 PartHasType f k = HasType (part_type (shape_type f.shape) k) (row (sequence_values f.values) k)
 
 -- each value that is still to be checked has its type
-abbrev pub RestHave : Asking → Type 0
+abbrev pub RestHave : SequenceCheck → Type 0
 RestHave f = (k : ℕ) → f.next ≤ k → k < asked_count f → PartHasType f k
 
-abbrev pub with_rest : Asking → Option Asking
+abbrev pub with_rest : SequenceCheck → Option SequenceCheck
 with_rest f = if nat_lt f.next (asked_count f) then Some f else None
 
-abbrev pub frames_in : Option (Vec Asking Global) → List Asking
+abbrev pub frames_in : Option (Vec SequenceCheck Global) → List SequenceCheck
 frames_in None = []
 frames_in (Some frames) = frames.items
 
 -- pushed after the others, unless nothing is left of it
-abbrev pub LiesBehind : Bool → Asking → List Asking → List Asking → Type 0
+abbrev pub LiesBehind : Bool → SequenceCheck → List SequenceCheck → List SequenceCheck → Type 0
 LiesBehind lies f old new = new ≡ (if lies then old ++ option_to_list (with_rest f) else old)

@@ -16,20 +16,20 @@ pub use Rattle.vortex_columns.specs.Cells.{cell_value, sequence_value, sequence_
 pub use Rattle.vortex_columns.specs.Cells.{IsCell, IsSequence}
 pub use Rattle.vortex_columns.specs.CellTypes.{values_in, ArePair, IsEntryOf, AreSoMany}
 pub use Rattle.vortex_columns.specs.ColumnView.{row, part, valid_rows, scalar_in, AreTyped}
-pub use Rattle.vortex_columns.specs.ColumnView.{TellsNulls, TellsTruly, constant_form}
+pub use Rattle.vortex_columns.specs.ColumnView.{TellsNulls, TypeInvariant, constant_form}
 pub use Rattle.vortex_columns.specs.ColumnView.{constant_column}
 pub use Rattle.vortex_columns.specs.ColumnView.{null_column, HasBits, AreBits, HasInts, AreInts}
 pub use Rattle.vortex_columns.specs.ColumnView.{HasBytes, AreBytes, AreBytesAt, LieWithin}
 pub use Rattle.vortex_columns.specs.ColumnView.{HasField, IsField, HasKind, AreLists, AreMaps}
 pub use Rattle.vortex_columns.specs.ColumnView.{AreFixedSizeLists, is_list_type, is_map_type}
 pub use Rattle.vortex_columns.specs.ColumnView.{is_fixed_size_list_type}
-pub use Rattle.vortex_views.specs.LentValues.{lent_values}
+pub use Rattle.vortex_views.specs.BorrowedValues.{borrowed_values}
 pub use Rattle.vortex_views.specs.Resolved.{values_in as values_among}
 pub use Rattle.vortex_columns.specs.Stored.{bool_column, MakeStructs, MakeLists}
 pub use Rattle.vortex_columns.specs.Made.{int_column, text_column, byte_string_column, text_rows}
 pub use Rattle.vortex_columns.specs.Made.{byte_string_rows, byte_strings_of, MakeTextRows}
-pub use Rattle.vortex_columns.specs.Made.{MakeTextViews, MakeByteStringViews, MakeLentTexts}
-pub use Rattle.vortex_columns.specs.Made.{lent_texts}
+pub use Rattle.vortex_columns.specs.Made.{MakeTextViews, MakeByteStringViews, MakeBorrowedTexts}
+pub use Rattle.vortex_columns.specs.Made.{borrowed_texts}
 pub use Rattle.vortex_columns.specs.Made.{struct_column, list_column, fixed_size_list_column}
 pub use Rattle.vortex_columns.specs.Made.{map_column, MakeTexts, MakeByteStrings, MakeMaps}
 pub use Rattle.vortex_columns.specs.Made.{MakeFixedSizeLists}

@@ -67,22 +67,22 @@ impl Shape<'_> {
 
 /// A sequence whose values from index `next` on are still to be checked, and the type of the whole.
 #[derive(Clone, Copy)]
-struct Asking<'a, 't> {
+struct SequenceCheck<'a, 't> {
     values: Sequence<'a>,
     shape: Shape<'t>,
     next: usize,
 }
 
-impl<'a, 't> Asking<'a, 't> {
+impl<'a, 't> SequenceCheck<'a, 't> {
     /// Begins with the first value; none if the type does not allow that many values.
-    fn open(values: &Sequence<'a>, shape: Shape<'t>) -> Option<Asking<'a, 't>>
+    fn open(values: &Sequence<'a>, shape: Shape<'t>) -> Option<SequenceCheck<'a, 't>>
         requires { IsSequence values.now }
         ensures { MatchOption result
             (¬ HasType (shape_type shape.entry) (sequence_value values.now))
             (λ f. IsOpened f values.now (shape_type shape.entry)) }
     {
         if shape.is_made_of(values.len()) {
-            Some(Asking {
+            Some(SequenceCheck {
                 values: *values,
                 shape,
                 next: 0,
@@ -115,7 +115,7 @@ impl<'a, 't> Asking<'a, 't> {
     }
 
     /// Pushes it, unless nothing is left of it. Where the list cannot grow, nothing changes.
-    fn lay_by(self, above: &mut Option<Vec<Asking<'a, 't>>>) -> bool
+    fn lay_by(self, above: &mut Option<Vec<SequenceCheck<'a, 't>>>) -> bool
         requires { IsSequence self.values }
         ensures { LiesBehind result self.entry (frames_in above.old) (frames_in above.new) }
     {
@@ -136,7 +136,9 @@ impl<'a, 't> Asking<'a, 't> {
 }
 
 /// Pops the last one.
-fn take_last<'a, 't>(above: &mut Option<Vec<Asking<'a, 't>>>) -> Option<Asking<'a, 't>>
+fn take_last<'a, 't>(
+    above: &mut Option<Vec<SequenceCheck<'a, 't>>>,
+) -> Option<SequenceCheck<'a, 't>>
     ensures { MatchOption result (frames_in above.old ≡ [])
         (λ last. frames_in above.old ≡ frames_in above.new ++ last ∷ []) }
 {
@@ -153,7 +155,7 @@ fn has_shape(root: &Sequence<'_>, shape: Shape<'_>, levels: usize) -> bool
     requires { IsSequence root.now }
     ensures { IsTrue result ↔ HasType (shape_type shape.entry) (sequence_value root.now) }
 {
-    let Some(mut here) = Asking::open(root, shape) else {
+    let Some(mut here) = SequenceCheck::open(root, shape) else {
         return false;
     };
     let mut above = None;
@@ -164,7 +166,7 @@ fn has_shape(root: &Sequence<'_>, shape: Shape<'_>, levels: usize) -> bool
             here.next += 1;
             match cell {
                 Cell::Sequence(inner) => {
-                    let Some(opened) = Asking::open(&inner, wanted) else {
+                    let Some(opened) = SequenceCheck::open(&inner, wanted) else {
                         return false;
                     };
                     if levels == 0 && here.lay_by(&mut above) {

@@ -10,7 +10,7 @@ use Rattle.vortex_syntax.specs.AnswerLists as syntax
 use Rattle.vortex_syntax.specs.AnswerLists.{Told, told, ReadsAnswers}
 use Rattle.vortex_syntax.specs.Refusals.{ListStopsAt}
 use Rattle.vortex_syntax.proofs.AnswerSplits.{one_answers}
-use Rattle.vortex_expressions.specs.declared.error.ReadError.{ReadError}
+use Rattle.vortex_expressions.specs.declared.error.TextError.{TextError}
 use Rattle.vortex_expressions.specs.declared.refusal.Refusal.{Refusal}
 use Rattle.vortex_expressions.specs.Outcomes.{Outcome, answers, refuses, and_then}
 use Rattle.vortex_expressions.specs.Answers.{Answer, with_name, with_first, answers_of}
@@ -39,19 +39,19 @@ module _ (scope : Fields) where
     left_is cs s =
         ap (answers_left scope) (is ∙ one_answers text bs cs read s) ∙ answers_left-is cs
 
-    pub found : (r : Result A ReadError) → Finds view r (answers_left scope ts)
+    pub found : (r : Result A TextError) → Finds view r (answers_left scope ts)
         → IfOk r (λ v. ExpressesAll scope text (view v))
     found (Ok v) h = record { syntax = bs; read = read; bound = sym (left_is bs read) ∙ h }
     found (Err e) h = tt
 
-    pub only : (r : Result A ReadError) → Finds view r (answers_left scope ts)
+    pub only : (r : Result A TextError) → Finds view r (answers_left scope ts)
         → (list : List Answer) → ExpressesAll scope text list
         → ReadUnlessMemory r (λ v. view v ≡ list)
     only (Ok v) h list s =
         let e : answers (view v) ≡ answers list = sym h ∙ left_is s.syntax s.read ∙ s.bound in cc
     only (Err e) h list s = subst (λ o. ToldBy o e) (left_is s.syntax s.read ∙ s.bound) h
 
-    pub told_why : (r : Result A ReadError) → Finds view r (answers_left scope ts)
+    pub told_why : (r : Result A TextError) → Finds view r (answers_left scope ts)
         → IfErr r (TellsWhy ListStopsAt (IsRefusedAll scope text) text)
     told_why (Ok v) h = tt
     told_why (Err e) h =
@@ -60,7 +60,7 @@ module _ (scope : Fields) where
         (λ r k. record { syntax = bs; read = read; refused = k })
         (subst (λ o. ToldBy o e) (left_is bs read) h)
 
-    pub refused : (r : Result A ReadError) → Finds view r (answers_left scope ts)
+    pub refused : (r : Result A TextError) → Finds view r (answers_left scope ts)
         → (why : Refusal) → IsRefusedAll scope text why → RefusesAs why r
     refused (Ok v) h why s =
         let e : answers (view v) ≡ refuses why = sym h ∙ left_is s.syntax s.read ∙ s.refused in cc
@@ -73,7 +73,7 @@ module _ (scope : Fields) (xs : List held.SyntaxAnswer) where
   abbrev pub SoFar : ℕ → List Answer → Type 0
   SoFar n out = From 0 ≡ and_then (From n) (λ bs. answers (out ++ bs))
 
-  pub stops : (n : ℕ) (x : held.SyntaxAnswer) (out : List Answer) (e : ReadError)
+  pub stops : (n : ℕ) (x : held.SyntaxAnswer) (out : List Answer) (e : TextError)
       → n < length xs → x ≡ get_or xs n x → SoFar n out
       → ToldBy (answer_left scope (syntax.answer_in x)) e → ToldBy (From 0) e
   stops n x out e lt at so_far h =

@@ -33,7 +33,7 @@ use Rattle.vortex_expressions.specs.Items.{Tree, Item, literal, bound, meaning, 
 use Rattle.vortex_expressions.specs.Items.{constant_at, refused_at, call_of, called}
 use Rattle.vortex_expressions.specs.Calls as calls
 use Rattle.vortex_expressions.specs.Binding.{item_of, tree_of}
-use Rattle.vortex_expressions.specs.Answers.{name_of, name_said, answer_of, answers_of}
+use Rattle.vortex_expressions.specs.Answers.{name_of, written_name, answer_of, answers_of}
 
 -- there is a result with P, or an error
 abbrev pub Sure : {A : Type 0} → (A → Type 0) → Outcome A → Type 0
@@ -298,7 +298,7 @@ module _ (scope : Fields) where
   sure_name (quoted w) h = sure_quoted 34 w
   sure_name t h = absurd cc
 
-  sure_said : (o : Option Token) → IfSome o (λ n. is_name n ≡ true) → Sure (λ w. Unit {0}) (name_said o)
+  sure_said : (o : Option Token) → IfSome o (λ n. is_name n ≡ true) → Sure (λ w. Unit {0}) (written_name o)
   sure_said None h = tt
   sure_said (Some t) h = sure_then _ _ (name_of t) _ (sure_name t h) (λ w k. tt)
 
@@ -306,7 +306,7 @@ module _ (scope : Fields) where
       → Sure (λ x. Unit {0}) (answer_of scope a)
   sure_answer a s =
       sure_then IsTyped _ (tree_of scope a.tree) _ (sure_tree a.tree s.levels)
-      (λ t h. sure_then _ _ (name_said a.name) _ (sure_said a.name s.named) (λ w k. tt))
+      (λ t h. sure_then _ _ (written_name a.name) _ (sure_said a.name s.named) (λ w k. tt))
 
   pub sure_answers : {ts : List Token} {bs : List syntax.Answer} → SpellsAnswers ts bs
       → Sure (λ x. Unit {0}) (answers_of scope bs)

@@ -26,12 +26,12 @@ name_of (name w) = text_of w
 name_of (quoted w) = between_quotes 34 w
 name_of t = missing
 
-abbrev pub name_said : Option Token → Outcome (Option (List ℕ))
-name_said None = answers None
-name_said (Some t) = and_then (name_of t) (λ w. answers (Some w))
+abbrev pub written_name : Option Token → Outcome (Option (List ℕ))
+written_name None = answers None
+written_name (Some t) = and_then (name_of t) (λ w. answers (Some w))
 
 abbrev pub with_name : Option Token → Tree → Outcome Answer
-with_name n t = and_then (name_said n) (λ w. answers (record { tree = t; name = w }))
+with_name n t = and_then (written_name n) (λ w. answers (record { tree = t; name = w }))
 
 -- first all of an answer, then those after it
 abbrev pub with_first : Outcome Answer → Outcome (List Answer) → Outcome (List Answer)

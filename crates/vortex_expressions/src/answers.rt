@@ -7,13 +7,13 @@ ghost use Rattle.vortex_syntax.specs.AnswerLists as syntax;
 ghost use Rattle.vortex_syntax.specs.Refusals.{ListStopsAt};
 ghost use Rattle.vortex_expressions.specs.declared.refusal.Refusal.{Refusal};
 ghost use Rattle.vortex_expressions.specs.Answers as specs;
-ghost use Rattle.vortex_expressions.specs.Answers.{answer_in, name_of, name_said, answer_left};
+ghost use Rattle.vortex_expressions.specs.Answers.{answer_in, name_of, written_name, answer_left};
 ghost use Rattle.vortex_expressions.specs.Answers.{answers_left, ExpressesAll, IsRefusedAll};
 ghost use Rattle.vortex_expressions.specs.Answering.{Gives};
 ghost use Rattle.vortex_expressions.specs.Reading.{ReadUnlessMemory, RefusesAs, Finds};
 ghost use Rattle.vortex_expressions.specs.Reading.{TellsWhy};
 
-use crate::error::ReadError;
+use crate::error::TextError;
 use crate::messages::{out_of_memory, unnamed, unread};
 use crate::quotes::{between_quotes, text_of};
 use crate::read::bind_steps;
@@ -41,9 +41,9 @@ fn name_of(alloc: Global, token: Token<'_>) -> Result<String, BindStop>
     }
 }
 
-fn name_said(alloc: Global, token: Option<Token<'_>>) -> Result<Option<String>, BindStop>
+fn written_name(alloc: Global, token: Option<Token<'_>>) -> Result<Option<String>, BindStop>
     ensures { Gives (option_map string_bytes) result
-        (name_said (option_map token_in token.entry)) }
+        (written_name (option_map token_in token.entry)) }
 {
     match token {
         Some(token) => Ok(Some(name_of(alloc, token)?)),
@@ -57,12 +57,12 @@ fn bind_answer(
     scope: &StructFields,
     text: &str,
     answer: &SyntaxAnswer<'_>,
-) -> Result<Answer, ReadError>
+) -> Result<Answer, TextError>
     ensures { Finds answer_in result
         (answer_left (struct_fields scope.now) (syntax.answer_in answer.now)) }
 {
     let tree = bind_steps(alloc, scope, text, &answer.tree)?;
-    match name_said(alloc, answer.name) {
+    match written_name(alloc, answer.name) {
         Ok(name) => Ok(Answer { tree, name }),
         Err(stop) => Err(unnamed(alloc, text, stop)),
     }
@@ -76,7 +76,7 @@ pub fn bind_answers(
     scope: &StructFields,
     text: &str,
     list: &[SyntaxAnswer<'_>],
-) -> Result<Vec<Answer>, ReadError>
+) -> Result<Vec<Answer>, TextError>
     ensures { Finds (λ v. map answer_in v.items) result
         (answers_left (struct_fields scope.now) (map syntax.answer_in list.now)) }
 {
@@ -97,7 +97,7 @@ pub fn read_answers(
     alloc: Global,
     scope: &StructFields,
     text: &str,
-) -> Result<Vec<Answer>, ReadError>
+) -> Result<Vec<Answer>, TextError>
     // The result is the meaning of the text.
     ensures found { IfOk result
         (λ v. ExpressesAll (struct_fields scope.now) text.now (map answer_in v.items)) }

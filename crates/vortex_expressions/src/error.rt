@@ -23,7 +23,7 @@ pub enum Reason {
 /// Why a text is no expression over a scope, and where: a byte of the text, and its line and
 /// character in that line, both counted from 1. Out of memory has no position.
 #[derive(Drop)]
-pub struct ReadError {
+pub struct TextError {
     pub reason: Reason,
     pub byte: usize,
     pub line: usize,
@@ -31,19 +31,19 @@ pub struct ReadError {
     pub(crate) told: String,
 }
 
-impl ReadError {
+impl TextError {
     ghost use Rattle.std.specs.Prelude.{◌≡◌, IsTrue};
     ghost use Rattle.vortex_expressions.specs.Reading.{is_want_of_memory, UnreadBy};
 
     /// Out of memory (E9), without a position.
-    pub fn out_of_memory(alloc: Global) -> ReadError
+    pub fn out_of_memory(alloc: Global) -> TextError
         ensures { IsTrue (is_want_of_memory result) }
     {
         out_of_memory(alloc)
     }
 
     /// Why a text does not parse: the parser's reason and byte, with its line and the words for it.
-    pub fn of_syntax(alloc: Global, text: &str, error: SyntaxError) -> ReadError
+    pub fn of_syntax(alloc: Global, text: &str, error: SyntaxError) -> TextError
         ensures { UnreadBy error result }
     {
         unread(alloc, text, error)
@@ -61,7 +61,7 @@ impl ReadError {
 }
 
 /// `line 1, column 9: ..`, and what was found and expected there, in one line.
-impl fmt::Display for ReadError {
+impl fmt::Display for TextError {
     ghost use Rattle.std.specs.Prelude.{Some};
     ghost use Rattle.vortex_expressions.specs.Messages.{read_error_text};
 
@@ -76,7 +76,7 @@ impl fmt::Display for ReadError {
     }
 }
 
-impl fmt::Debug for ReadError {
+impl fmt::Debug for TextError {
     fn fmt<W: fmt::Write>(&self, f: &mut fmt::Formatter<W>) -> fmt::Result {
         write!(f, "{self}")
     }

@@ -18,7 +18,7 @@ pub fn over_scope()
 {}
 
 /// The text of a tree that a text means, means that tree.
-pub fn said_again()
+pub fn text_is_read_back()
     ensures { (scope : Fields) (text other : List ℕ) (tree : items.Tree)
         → Expresses scope text tree → text_of_tree tree ≡ Some other
         → Expresses scope other tree }

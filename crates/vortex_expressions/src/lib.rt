@@ -18,7 +18,7 @@ pub mod words;
 pub mod writing;
 
 pub use answers::{Answer, bind_answers, read_answers};
-pub use error::{ReadError, Reason};
+pub use error::{Reason, TextError};
 pub use read::read_expression;
 pub use refusal::Refusal;
 pub use vortex_syntax::Expected;

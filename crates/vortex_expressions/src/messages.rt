@@ -3,7 +3,7 @@ ghost use Rattle.std.specs.Prelude.{IsTrue};
 ghost use Rattle.vortex_expressions.specs.Reading.{is_want_of_memory, ToldAt, UnreadBy, ToldStop};
 
 use crate::binder::{Stopped, operands};
-use crate::error::{ReadError, Reason};
+use crate::error::{Reason, TextError};
 use crate::item::{Item, common_type};
 use crate::literal::Literal;
 use crate::quotes::unquoted;
@@ -16,10 +16,10 @@ use vortex_columns::{DType, MismatchPlace, StructFields, VortexError, VortexResu
 use vortex_syntax::{Call, DEPTH, Expected, Step, SyntaxError, SyntaxTree, Token};
 
 /// Out of memory.
-pub(crate) fn out_of_memory(alloc: Global) -> ReadError
+pub(crate) fn out_of_memory(alloc: Global) -> TextError
     ensures { IsTrue (is_want_of_memory result) }
 {
-    ReadError {
+    TextError {
         reason: Reason::Refused(Refusal::Binding(VortexError::OutOfMemory)),
         byte: 0,
         line: 1,
@@ -35,14 +35,14 @@ fn error_at(
     byte: usize,
     reason: Reason,
     told: VortexResult<String>,
-) -> ReadError
+) -> TextError
     ensures { ToldAt reason byte result }
 {
     let Ok(told) = told else {
         return out_of_memory(alloc);
     };
     let (line, column) = line_and_column(text, byte);
-    ReadError {
+    TextError {
         reason,
         byte,
         line,
@@ -131,7 +131,7 @@ fn syntax_text(alloc: Global, text: &str, error: SyntaxError) -> VortexResult<St
 }
 
 /// Why a text is read as no syntax tree.
-pub(crate) fn unread(alloc: Global, text: &str, error: SyntaxError) -> ReadError
+pub(crate) fn unread(alloc: Global, text: &str, error: SyntaxError) -> TextError
     ensures { UnreadBy error result }
 {
     let told = syntax_text(alloc, text, error);
@@ -265,7 +265,7 @@ fn push_untyped(out: &mut String, name: &[u8], items: &[Item]) -> VortexResult<(
 
 /// The report for a text without syntax errors.
 #[derive(Clone, Copy)]
-struct Failure<'a> {
+struct TextFailure<'a> {
     alloc: Global,
     scope: &'a StructFields,
     text: &'a str,
@@ -274,7 +274,7 @@ struct Failure<'a> {
     byte: usize,
 }
 
-impl<'a> Failure<'a> {
+impl<'a> TextFailure<'a> {
     /// The items that the step takes.
     fn items(&self) -> VortexResult<Vec<Item>> {
         let mut items = operands(self.alloc, self.scope, &self.tree.steps, self.step);
@@ -348,7 +348,7 @@ impl Stopped {
         scope: &StructFields,
         text: &str,
         tree: &SyntaxTree<'_>,
-    ) -> ReadError
+    ) -> TextError
         ensures { ToldStop self.stop result }
     {
         let step = self.step;
@@ -357,7 +357,7 @@ impl Stopped {
             Some(byte) => *byte,
             None => tree.places.last().copied().unwrap_or(text.len()),
         };
-        let failure = Failure {
+        let failure = TextFailure {
             alloc,
             scope,
             text,
@@ -385,7 +385,7 @@ impl Stopped {
 }
 
 /// Why an answer has no name.
-pub(crate) fn unnamed(alloc: Global, text: &str, stop: BindStop) -> ReadError
+pub(crate) fn unnamed(alloc: Global, text: &str, stop: BindStop) -> TextError
     ensures { ToldStop stop result }
 {
     let told = match String::from_str(alloc, "a name is not UTF-8") {

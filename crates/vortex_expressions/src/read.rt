@@ -9,7 +9,7 @@ ghost use Rattle.vortex_expressions.specs.Reading.{ReadUnlessMemory, RefusesAs, 
 ghost use Rattle.vortex_expressions.specs.Reading.{TellsWhy};
 
 use crate::binder::bind;
-use crate::error::ReadError;
+use crate::error::TextError;
 use crate::messages::unread;
 use std::alloc::Global;
 use vortex_columns::StructFields;
@@ -22,7 +22,7 @@ pub(crate) fn bind_steps(
     scope: &StructFields,
     text: &str,
     tree: &SyntaxTree<'_>,
-) -> Result<BoundExpression<NoCustom>, ReadError>
+) -> Result<BoundExpression<NoCustom>, TextError>
     ensures { Bound (struct_fields scope.now) tree.now.steps.items result }
 {
     match bind(alloc, scope, &tree.steps) {
@@ -37,7 +37,7 @@ pub fn read_expression(
     alloc: Global,
     scope: &StructFields,
     text: &str,
-) -> Result<BoundExpression<NoCustom>, ReadError>
+) -> Result<BoundExpression<NoCustom>, TextError>
     // The result is the meaning of the text.
     ensures found { IfOk result (λ tree. Expresses (struct_fields scope.now) text.now tree) }
     // The meaning of the text is returned.

@@ -51,12 +51,12 @@ module _ (V O : Type 0) (cs : List ColumnView) where
   leaf_tree_fits (Literal s alloc) b h = h
 
   -- a column at the leaf's place is borrowed
-  pub leaf_lent : (l : ExpressionLeaf) (p : ℕ) (name : String Global) (t : DType)
+  pub leaf_borrowed : (l : ExpressionLeaf) (p : ℕ) (name : String Global) (t : DType)
       (b : Bor ColumnView)
       → l ≡ Column p name t → LeavesFit {V = V} {O = O} cs (expression_leaf l)
       → b.now ≡ get_or cs p b.now
       → LendsLeaf {V = V} {O = O} cs (expression_leaf l) (Ok (cow.Borrowed b))
-  leaf_lent l p name t b is fit e =
+  leaf_borrowed l p name t b is fit e =
       let h : LeavesFit {V = V} {O = O} cs (expression_leaf (Column p name t)) =
       subst (λ (x : ExpressionLeaf). LeavesFit {V = V} {O = O} cs (expression_leaf x)) is fit in
       let q : h.0 ≡ b.now = sym (get_or_from_slice_get cs p h.0 b.now h.1) ∙ sym e in

@@ -23,13 +23,13 @@ module _ {V O : Type 0} (m : Meaning V O) (a : Array V O) where
   abbrev pub AnswersArray : Answer → Type 0
   AnswersArray result = AnswersTree m [] (rows_in a) (tree_in a) result
 
-abbrev pub IsLent : ColumnView → Cow ColumnView → Type 0
-IsLent c (Borrowed lent) = lent.now ≡ c
-IsLent c (Owned d) = ⊥
+abbrev pub IsBorrowed : ColumnView → Cow ColumnView → Type 0
+IsBorrowed c (Borrowed borrowed) = borrowed.now ≡ c
+IsBorrowed c (Owned d) = ⊥
 
 -- the column of a lone column leaf is borrowed, and nothing is allocated
 abbrev pub LendsColumn : {V O : Type 0} → Array V O → Answer → Type 0
-LendsColumn a result = IfSome (column_in a) (λ c. IsOkAnd result (IsLent c))
+LendsColumn a result = IfSome (column_in a) (λ c. IsOkAnd result (IsBorrowed c))
 
 -- in each row in which the first array has a value the second one has the same
 abbrev pub KeepsValues : {V O : Type 0} → Meaning V O → Array V O → Array V O → Type 0

@@ -71,6 +71,6 @@ IsLeafAt k (leaf (place p name t)) = k ≡ p
 IsLeafAt k t = ⊥
 
 -- the result is the column at the leaf's place, borrowed
-abbrev pub IsLentLeaf : {V O : Type 0} → List ColumnView → Tree V O → Cow ColumnView → Type 0
-IsLentLeaf cs (leaf (place p name t)) (cow.Borrowed c) = slice_get cs p ≡ Some c.now
-IsLentLeaf cs t c = ⊥
+abbrev pub IsBorrowedLeaf : {V O : Type 0} → List ColumnView → Tree V O → Cow ColumnView → Type 0
+IsBorrowedLeaf cs (leaf (place p name t)) (cow.Borrowed c) = slice_get cs p ≡ Some c.now
+IsBorrowedLeaf cs t c = ⊥

@@ -10,7 +10,7 @@ use Rattle.vortex_interface.specs.Trees.{Tree, leaf}
 use Rattle.vortex_interface.specs.Eval.{HasTreeRows, IsFirstFault}
 use Rattle.vortex_interface.specs.Execution.{LeafFits, LeavesFit, other_length, Executes}
 use Rattle.vortex_interface.specs.Execution.{RefusesColumns, RefusesExecution}
-use Rattle.vortex_functions.specs.Binding.{IsLeaf, IsLentLeaf}
+use Rattle.vortex_functions.specs.Binding.{IsLeaf, IsBorrowedLeaf}
 
 abbrev Answer : Type 0
 Answer = Result (Cow ColumnView) VortexError
@@ -35,7 +35,7 @@ module _ {V O : Type 0} (m : Meaning V O) (columns : List ColumnView) (n : ℕ) 
 
 -- the column of a lone leaf is borrowed, and nothing is allocated
 abbrev pub LendsLeaf : {V O : Type 0} → List ColumnView → Tree V O → Answer → Type 0
-LendsLeaf columns t result = IsLeaf t → IsOkAnd result (IsLentLeaf columns t)
+LendsLeaf columns t result = IsLeaf t → IsOkAnd result (IsBorrowedLeaf columns t)
 
 -- what a node alone requires of the columns: a leaf, that its own exists
 abbrev pub NodeFits : {V O : Type 0} → List ColumnView → Tree V O → Type 0

@@ -105,7 +105,7 @@ impl<C: ScalarFnVTable> ArrayRef<C> {
         // proves that each row has the type, and that the scalar of a constant column is in each
         let _typed = column.dtype();
         let _told = column.as_constant();
-        column.tells_truly();
+        column.type_invariant();
         let len = column.len();
         Ok(Tree {
             node: Node::Leaf(ArrayLeaf::Column(Rc::new(alloc, column)?)),

@@ -3,8 +3,8 @@ pub use Rattle.vortex_bits.specs.Bits.{bit}
 pub use Rattle.vortex_bits.specs.Forms.{shifted_there, shifted_bit}
 pub use Rattle.vortex_bits.specs.Rows.{AreRows}
 pub use Rattle.vortex_columns.specs.ColumnView.{row, IsIntegerType, AreInts}
-pub use Rattle.vortex_views.specs.LentValues.{lent_values}
-pub use Rattle.vortex_views.specs.LentValue.{constant_value}
+pub use Rattle.vortex_views.specs.BorrowedValues.{borrowed_values}
+pub use Rattle.vortex_views.specs.BorrowedValue.{constant_value}
 pub use Rattle.vortex_kernels.specs.ArithmeticIntegers.{FitsResult, AnswersExact}
 pub use Rattle.vortex_kernels.specs.Between.{HasBetweenRows, AreBeside, AreBounded, HasNoNull}
 pub use Rattle.vortex_kernels.specs.Between.{any_nullable, between_scalar}

@@ -3,7 +3,7 @@ ghost use Rattle.std.specs.Prelude.{◌≡◌, ◌<◌, ◌+◌, ◌^◌, ℕ, t
 ghost use Rattle.std.specs.Prelude.{IsSome, IfSome, IfNone};
 ghost use Rattle.std.specs.declared.cmp.Ordering.{Ordering};
 ghost use Rattle.vortex_kernels.specs.Words.{AnswersUnlessMemory, number, truth, truth_of};
-ghost use Rattle.vortex_kernels.specs.Words.{is_text_type, row, lent_values, holds, row_orders};
+ghost use Rattle.vortex_kernels.specs.Words.{is_text_type, row, borrowed_values, holds, row_orders};
 ghost use Rattle.vortex_kernels.specs.Words.{int_orders, int_orders_with, bit_orders};
 ghost use Rattle.vortex_kernels.specs.Words.{bit_orders_with, byte_orders, byte_orders_with};
 ghost use Rattle.vortex_kernels.specs.Words.{constant_value, bit};
@@ -173,10 +173,10 @@ pub(crate) struct BytesPairs<'a> {
 }
 
 impl Pairs for BytesPairs<'_> {
-    ghost has_pair = { λ p i. (i < length (lent_values p.left))
-        × (i < length (lent_values p.right)) };
+    ghost has_pair = { λ p i. (i < length (borrowed_values p.left))
+        × (i < length (borrowed_values p.right)) };
 
-    ghost order = { λ p. byte_orders (lent_values p.left) (lent_values p.right) };
+    ghost order = { λ p. byte_orders (borrowed_values p.left) (borrowed_values p.right) };
 
     fn holds_at<P: Comparison>(&self, i: usize) -> bool {
         P::holds_of_bytes(&self.left.row(i), &self.right.row(i))
@@ -191,9 +191,9 @@ pub(crate) struct BytesAndOne<'a> {
 }
 
 impl Pairs for BytesAndOne<'_> {
-    ghost has_pair = { λ p i. i < length (lent_values p.left) };
+    ghost has_pair = { λ p i. i < length (borrowed_values p.left) };
 
-    ghost order = { λ p. byte_orders_with (lent_values p.left) (constant_value p.right) };
+    ghost order = { λ p. byte_orders_with (borrowed_values p.left) (constant_value p.right) };
 
     fn holds_at<P: Comparison>(&self, i: usize) -> bool {
         P::holds_of_bytes(&self.left.row(i), &self.right)

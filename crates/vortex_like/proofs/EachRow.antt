@@ -17,7 +17,7 @@ pub row_like : (options : LikeOptions) (v w : Value) (p : PatternView)
     → p ≡ pattern_of options.escape own options.case_insensitive ascii → own ≡ ps' → ps' ≡ ps
     → bs' ≡ bs
     → IsLikeBit options v w b
-row_like options v w p own ps ps' bs bs' ascii b hv hw nv nw told of_own same lent read =
+row_like options v w p own ps ps' bs bs' ascii b hv hw nv nw told of_own same borrowed read =
     subst (λ (x : Value). IsLikeBit options x w b) (sym (hv.value nv))
     (subst (λ (y : Value). IsLikeBit options (text bs) y b) (sym (hw.value nw)) answer)
   where
@@ -27,5 +27,5 @@ row_like options v w p own ps ps' bs bs' ascii b hv hw nv nw told of_own same le
         ∙ ap
         (λ (q : PatternView).
         turned options.negated (is_match q.case_insensitive q.tokens (chars bs'))) of_own
-        ∙ ap (λ (t : List ℕ). like options bs' t) (same ∙ lent)
+        ∙ ap (λ (t : List ℕ). like options bs' t) (same ∙ borrowed)
         ∙ ap (λ (x : List ℕ). like options x ps) read

@@ -14,13 +14,13 @@ use Rattle.vortex_like.specs.Shapes.{whole_tokens, front_tokens}
 use Rattle.vortex_like.proofs.Shapes.{plain_tokens, unescaped_first}
 
 module _ (escape : Option ℕ) where
-  any_front : (front rest : List ℕ) → list_any (is_special escape) front ≡ false
+  any_prefix : (front rest : List ℕ) → list_any (is_special escape) front ≡ false
       → list_any (is_special escape) (front ++ rest) ≡ list_any (is_special escape) rest
-  any_front [] rest e = refl
-  any_front (c ∷ front) rest e =
+  any_prefix [] rest e = refl
+  any_prefix (c ∷ front) rest e =
       let parts = or_parts (is_special escape c) (list_any (is_special escape) front) e in
       ap (λ (b : Bool). b || list_any (is_special escape) (front ++ rest)) parts.0
-      ∙ any_front front rest parts.1
+      ∙ any_prefix front rest parts.1
 
   percent_front : (front rest : List ℕ) (c : ℕ) → list_any (is_special escape) front ≡ false
       → is_literal_then_percent escape (front ++ c ∷ rest)
@@ -39,7 +39,7 @@ module _ (escape : Option ℕ) where
       → (is_literal escape pattern ≡ true) × (tokens_of escape pattern ≡ whole_tokens front)
   whole_front pattern front rest e f plain =
       let same : pattern ≡ front ++ [] = e ∙ ap (λ (cs : List ℕ). front ++ cs) f in (
-        ap (is_literal escape) same ∙ ap not (any_front front [] plain),
+        ap (is_literal escape) same ∙ ap not (any_prefix front [] plain),
         ap (tokens_of escape) same ∙ plain_tokens escape front [] plain
             ∙ append-nil (map character front),
       )
@@ -49,7 +49,7 @@ module _ (escape : Option ℕ) where
       → rest ≡ c ∷ behind → list_any (is_special escape) front ≡ false → StartsSpecial escape rest
       → is_literal escape pattern ≡ false
   no_literal pattern front rest behind c e f plain special =
-      ap (is_literal escape) e ∙ ap not (any_front front rest plain) ∙ by rest behind c f special
+      ap (is_literal escape) e ∙ ap not (any_prefix front rest plain) ∙ by rest behind c f special
     where
       by : (rest behind : List ℕ) (c : ℕ) → rest ≡ c ∷ behind → StartsSpecial escape rest
           → not (list_any (is_special escape) rest) ≡ false

@@ -149,13 +149,13 @@ constant_row s c e i h =
 
 -- the cell of a value that is null or a text is no other kind
 pub null_cell : (c : Cell) (v : Value) → cell_value c ≡ v → IsNullOrText v
-    → ((lent : Bor (List ℕ)) → c ≡ Text lent → ⊥) → is_null v ≡ true
+    → ((borrowed : Bor (List ℕ)) → c ≡ Text borrowed → ⊥) → is_null v ≡ true
 null_cell c null e h none = refl
 null_cell Null (text bs) e h none = cc
 null_cell (BoolCell b) (text bs) e h none = cc
 null_cell (Int z) (text bs) e h none = cc
-null_cell (Text lent) (text bs) e h none = absurd (none lent refl)
-null_cell (Bytes lent) (text bs) e h none = cc
+null_cell (Text borrowed) (text bs) e h none = absurd (none borrowed refl)
+null_cell (Bytes borrowed) (text bs) e h none = cc
 null_cell (Sequence s) (text bs) e h none = cc
 null_cell c (truth b) e h none = absurd h
 null_cell c (number z) e h none = absurd h

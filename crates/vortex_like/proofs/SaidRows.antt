@@ -12,7 +12,7 @@ module _ (f g : List ℕ → Bool) (negated : Bool) where
   said_alike : (v : Value) (own : List ℕ) (b : Bool) → IsTextOf v own
       → (is_null v ≡ false → f own ≡ g own) → IsSaid f negated v b → IsSaid g negated v b
   said_alike (text bs) own b h alike said =
-      let lent : text bs ≡ text own = h.value refl in
+      let borrowed : text bs ≡ text own = h.value refl in
       let same : bs ≡ own = cc in
       said ∙ ap (turned negated) (ap f same ∙ alike refl ∙ ap g (sym same))
   said_alike null own b h alike said = tt
@@ -40,7 +40,7 @@ module _ (f : List ℕ → Bool) (negated : Bool) where
   said_text : (v : Value) (own : List ℕ) (b : Bool) → IsTextOf v own
       → (is_null v ≡ false → b ≡ turned negated (f own)) → IsSaid f negated v b
   said_text (text bs) own b h told =
-      let lent : text bs ≡ text own = h.value refl in
+      let borrowed : text bs ≡ text own = h.value refl in
       let same : bs ≡ own = cc in
       told refl ∙ ap (turned negated) (ap f (sym same))
   said_text null own b h told = tt

@@ -4,7 +4,7 @@ use Rattle.std.specs.Prelude.{IsUtf8}
 use Rattle.std.specs.Str.{IsAscii}
 use Rattle.vortex_types.specs.Values.{Value, text, is_null}
 use Rattle.vortex_columns.specs.ColumnView.{ColumnView, row}
-use Rattle.vortex_views.specs.LentValues.{lent_values}
+use Rattle.vortex_views.specs.BorrowedValues.{borrowed_values}
 use Rattle.vortex_like.specs.Rows.{IsConstantOf}
 use Rattle.vortex_like.specs.declared.texts.Texts.{Texts}
 use Rattle.vortex_like.specs.declared.texts.TextColumn.{TextColumn}
@@ -12,7 +12,7 @@ use Rattle.vortex_like.specs.declared.texts.TextColumn.TheVariants.{One, Rows, N
 
 -- the borrowed bytes
 abbrev pub texts_of : Texts → List (List ℕ)
-texts_of texts = lent_values texts.rows
+texts_of texts = borrowed_values texts.rows
 
 abbrev pub text_at : List (List ℕ) → ℕ → List ℕ
 text_at texts i = slice_index_or texts i []

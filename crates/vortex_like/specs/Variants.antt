@@ -33,19 +33,19 @@ meets_escape escape (c ∷ pattern) =
     if is_escape escape c then true
     else if c == percent || c == underscore then false else meets_escape escape pattern
 
-abbrev pub is_lent : CowStr Global → Bool
-is_lent (Borrowed text) = true
-is_lent (Owned text) = false
+abbrev pub is_borrowed : CowStr Global → Bool
+is_borrowed (Borrowed text) = true
+is_borrowed (Owned text) = false
 
 -- the text of the pattern without its escapes, borrowed exactly where no escape was met
 abbrev pub IsVariantOf : Option ℕ → List ℕ → Option LikeVariant → Type 0
 IsVariantOf escape pattern None = AreLiteralThenWildcard (tokens_of escape pattern) []
 IsVariantOf escape pattern (Some (Exact text)) =
     AreLiteral (tokens_of escape pattern) (chars (cow_str_bytes text))
-    × (is_lent text ≡ not (meets_escape escape pattern))
+    × (is_borrowed text ≡ not (meets_escape escape pattern))
 IsVariantOf escape pattern (Some (Prefix text)) =
     AreLiteralThenWildcard (tokens_of escape pattern) (chars (cow_str_bytes text))
-    × (chars (cow_str_bytes text) ≢ []) × (is_lent text ≡ not (meets_escape escape pattern))
+    × (chars (cow_str_bytes text) ≢ []) × (is_borrowed text ≡ not (meets_escape escape pattern))
 
 -- what that means for the texts that the pattern matches, by their characters: Exact matches only
 -- that text, and each text that Prefix matches begins with it

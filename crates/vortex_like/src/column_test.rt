@@ -8,7 +8,7 @@ ghost use Rattle.vortex_like.specs.Words.{IsSaid, turned, texts_of, text_at, Are
 ghost use Rattle.vortex_like.specs.Words.{test_form, test_tokens, test_folds, is_ascii_form};
 ghost use Rattle.vortex_like.specs.Words.{form_said, holds_inside};
 
-use crate::any_front::AnyFrontTest;
+use crate::any_prefix::AnyPrefixTest;
 use crate::first_byte::FirstByte;
 use crate::form_test::FormTest;
 use crate::gathered::held_rows;
@@ -21,7 +21,7 @@ use std::alloc::Global;
 use vortex_bits::{RowBits, collect_rows};
 use vortex_columns::{BitBuffer, Column, VortexResult};
 use vortex_views::{
-    BinaryView, LongFront, LongWhole, Row, ShortFront, ShortWhole, ValueTest, WholeEnd,
+    BinaryView, LongPrefix, LongWhole, Row, ShortPrefix, ShortWhole, ValueTest, WholeEnd,
     WordsOfBytes,
 };
 
@@ -70,7 +70,7 @@ impl<T: ValueTest> RowBits for ValidTested<'_, T> {
 }
 
 /// The results for a column of a test that reads any bytes, negated if `negated`.
-fn said_by_test<T: ValueTest>(
+fn test_results<T: ValueTest>(
     alloc: Global,
     column: &Column,
     texts: Texts<'_>,
@@ -91,7 +91,7 @@ fn said_by_test<T: ValueTest>(
 }
 
 /// The results of a test that reads only texts, never under a null.
-fn said_of_texts<'a, T: ValueTest>(
+fn text_results<'a, T: ValueTest>(
     alloc: Global,
     column: &'a Column,
     texts: Texts<'a>,
@@ -114,7 +114,7 @@ fn said_of_texts<'a, T: ValueTest>(
 
 /// The results of a token test for the texts of a column. Large columns are filtered by the texts'
 /// first bytes, unless the tokens begin with `%`.
-fn said_by_first<'a, T: ValueTest>(
+fn first_byte_results<'a, T: ValueTest>(
     alloc: Global,
     column: &'a Column,
     texts: Texts<'a>,
@@ -131,7 +131,7 @@ fn said_by_first<'a, T: ValueTest>(
     let (tokens, test) = tests;
     let own = tokens.tokens.as_slice();
     if column.len() < FEW || own.is_empty() || own[0].is_any() {
-        return said_of_texts(alloc, column, texts, test, negated);
+        return text_results(alloc, column, texts, test, negated);
     }
     let first = FirstByte::new(alloc, own, tokens.case_insensitive)?;
     tested_after(alloc, column, texts, (&first, test), negated)
@@ -139,7 +139,7 @@ fn said_by_first<'a, T: ValueTest>(
 
 /// The results of a token test, after a test by words of each text's prefix and suffix, or else of
 /// its first byte.
-fn said_by_tokens<'a>(
+fn token_results<'a>(
     alloc: Global,
     column: &'a Column,
     texts: Texts<'a>,
@@ -153,22 +153,22 @@ fn said_by_tokens<'a>(
 {
     let front = test.front.as_bytes();
     if front.is_empty() && test.end.is_empty() {
-        return said_by_first(alloc, column, texts, (test, &ByBytes { test }), negated);
+        return first_byte_results(alloc, column, texts, (test, &ByBytes { test }), negated);
     }
     if front.len() <= 4 {
-        let front = ShortFront::new(front);
+        let front = ShortPrefix::new(front);
         return tested_after_ends(alloc, column, texts, (&front, test), negated);
     }
-    let front = LongFront::new(front);
+    let front = LongPrefix::new(front);
     tested_after_ends(alloc, column, texts, (&front, test), negated)
 }
 
 /// Which texts begin with a literal part, ignoring case, likewise.
-pub(crate) fn said_by_any_front(
+pub(crate) fn any_prefix_results(
     alloc: Global,
     column: &Column,
     texts: Texts<'_>,
-    test: &AnyFrontTest,
+    test: &AnyPrefixTest,
     negated: bool,
 ) -> VortexResult<BitBuffer>
     requires { AreTexts column.now (texts_of texts) }
@@ -176,7 +176,7 @@ pub(crate) fn said_by_any_front(
         (λ bytes. is_match test.now.tokens.case_insensitive test.now.tokens.tokens.items
         (chars bytes)) negated (row column.now.rows i) b)) }
 {
-    said_by_first(
+    first_byte_results(
         alloc,
         column,
         texts,
@@ -187,7 +187,7 @@ pub(crate) fn said_by_any_front(
 
 /// Which texts of a column equal this one, negated if `negated`: by the words of their views; the
 /// literal's words are precomputed.
-fn said_by_whole(
+fn whole_results(
     alloc: Global,
     column: &Column,
     texts: Texts<'_>,
@@ -201,16 +201,16 @@ fn said_by_whole(
 {
     let literal = test.literal.as_bytes();
     if literal.len() <= BinaryView::MAX_INLINED_SIZE {
-        return said_by_test(alloc, column, texts, &ShortWhole::new(literal), negated);
+        return test_results(alloc, column, texts, &ShortWhole::new(literal), negated);
     }
     if literal.len() <= BinaryView::MAX_SIZE {
-        return said_by_test(alloc, column, texts, &LongWhole::new(literal), negated);
+        return test_results(alloc, column, texts, &LongWhole::new(literal), negated);
     }
-    said_by_test(alloc, column, texts, &ByBytes { test }, negated)
+    test_results(alloc, column, texts, &ByBytes { test }, negated)
 }
 
 /// Which texts begin with it, likewise.
-fn said_by_front(
+fn prefix_results(
     alloc: Global,
     column: &Column,
     texts: Texts<'_>,
@@ -224,13 +224,13 @@ fn said_by_front(
 {
     let literal = test.literal.as_bytes();
     if literal.len() <= 4 {
-        return said_by_test(alloc, column, texts, &ShortFront::new(literal), negated);
+        return test_results(alloc, column, texts, &ShortPrefix::new(literal), negated);
     }
-    said_by_test(alloc, column, texts, &LongFront::new(literal), negated)
+    test_results(alloc, column, texts, &LongPrefix::new(literal), negated)
 }
 
 /// Which texts end with it, likewise.
-fn said_by_end(
+fn suffix_results(
     alloc: Global,
     column: &Column,
     texts: Texts<'_>,
@@ -243,7 +243,7 @@ fn said_by_end(
         negated (row column.now.rows i) b)) }
 {
     let end = WholeEnd::new(test.literal.as_bytes());
-    said_by_test(alloc, column, texts, &end, negated)
+    test_results(alloc, column, texts, &end, negated)
 }
 
 /// Rows that are known to contain a needle or not, negated if `negated`.
@@ -264,7 +264,7 @@ impl RowBits for Held<'_> {
 }
 
 /// Which texts of a column contain it, likewise: by one search over many if there are many.
-fn said_by_search(
+fn search_results(
     alloc: Global,
     column: &Column,
     texts: Texts<'_>,
@@ -276,7 +276,7 @@ fn said_by_search(
         (holds_inside test.now.finder) negated (row column.now.rows i) b)) }
 {
     if column.len() < FEW {
-        return said_by_test(alloc, column, texts, &ByBytes { test }, negated);
+        return test_results(alloc, column, texts, &ByBytes { test }, negated);
     }
     let held = held_rows(alloc, &texts, test, false)?;
     let rows = Held {
@@ -288,7 +288,7 @@ fn said_by_search(
 
 /// Which texts of a column contain a literal part, ignoring case, likewise, by lower case; each is
 /// ASCII or null.
-fn said_in_small(
+fn lower_case_results(
     alloc: Global,
     column: &Column,
     texts: Texts<'_>,
@@ -310,7 +310,7 @@ fn said_in_small(
 }
 
 /// The results of the test of a pattern for the texts of a column, negated if `negated`.
-fn said_by_form(
+fn form_results(
     alloc: Global,
     column: &Column,
     texts: Texts<'_>,
@@ -324,25 +324,25 @@ fn said_by_form(
         (λ i b. IsSaid (form_said test.now) negated (row column.now.rows i) b)) }
 {
     match test {
-        FormTest::Eq(test) => said_by_whole(alloc, column, texts, test, negated),
-        FormTest::StartsWith(test) => said_by_front(alloc, column, texts, test, negated),
-        FormTest::EndsWith(test) => said_by_end(alloc, column, texts, test, negated),
-        FormTest::Contains(test) => said_by_search(alloc, column, texts, test, negated),
+        FormTest::Eq(test) => whole_results(alloc, column, texts, test, negated),
+        FormTest::StartsWith(test) => prefix_results(alloc, column, texts, test, negated),
+        FormTest::EndsWith(test) => suffix_results(alloc, column, texts, test, negated),
+        FormTest::Contains(test) => search_results(alloc, column, texts, test, negated),
         FormTest::IEqAscii(test) => {
-            said_by_test(alloc, column, texts, &ByBytes { test }, negated)
+            test_results(alloc, column, texts, &ByBytes { test }, negated)
         }
         FormTest::IStartsWithAscii(test) => {
-            said_by_test(alloc, column, texts, &ByBytes { test }, negated)
+            test_results(alloc, column, texts, &ByBytes { test }, negated)
         }
         FormTest::IEndsWithAscii(test) => {
-            said_by_test(alloc, column, texts, &ByBytes { test }, negated)
+            test_results(alloc, column, texts, &ByBytes { test }, negated)
         }
-        FormTest::Tokens(test) => said_by_tokens(alloc, column, texts, test, negated),
+        FormTest::Tokens(test) => token_results(alloc, column, texts, test, negated),
         FormTest::SmallInside(test) if ascii => {
-            said_in_small(alloc, column, texts, test, negated)
+            lower_case_results(alloc, column, texts, test, negated)
         }
         FormTest::SmallInside(test) => {
-            said_by_tokens(alloc, column, texts, &test.tokens, negated)
+            token_results(alloc, column, texts, &test.tokens, negated)
         }
     }
 }
@@ -365,5 +365,5 @@ pub(crate) fn tested_by_form(
         (λ bytes. is_match (test_folds test.now) (test_tokens test.now) (chars bytes))
         negated (row column.now.rows i) b)) }
 {
-    said_by_form(alloc, column, texts, test, negated, ascii)
+    form_results(alloc, column, texts, test, negated, ascii)
 }

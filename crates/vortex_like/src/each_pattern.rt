@@ -7,7 +7,7 @@ ghost use Rattle.vortex_like.specs.Words.{AnswersUnlessMemory, is_null, row, is_
 ghost use Rattle.vortex_like.specs.Words.{AreLikeBits};
 ghost use Rattle.vortex_like.specs.Words.{IsTextOf, AreTexts, texts_of, IsCompiled, AreBothValid};
 ghost use Rattle.vortex_like.specs.Words.{IsKept, IsKeptAt};
-ghost use Rattle.vortex_views.specs.LentValue.{row_value};
+ghost use Rattle.vortex_views.specs.BorrowedValue.{row_value};
 
 use crate::options::LikeOptions;
 use crate::pattern::LikePattern;

@@ -6,8 +6,8 @@ ghost use Rattle.vortex_like.specs.Words.{AreTold, IsSaid, is_match, tokens_of, 
 ghost use Rattle.vortex_like.specs.Words.{front_tokens};
 ghost use Rattle.std.specs.Str.{chars};
 
-use crate::any_front::AnyFrontTest;
-use crate::column_test::said_by_any_front;
+use crate::any_prefix::AnyPrefixTest;
+use crate::column_test::any_prefix_results;
 use crate::each_pattern::{SideBySide, each_bits};
 use crate::form::{PatternShape, shape_of};
 use crate::form_test::tokens_test;
@@ -45,7 +45,7 @@ fn like_of_constants(
 }
 
 /// The results of ILIKE for the texts of a column and a pattern that is this literal part and `%`.
-fn front_bits(
+fn prefix_bits(
     alloc: Global,
     column: &Column,
     texts: Texts<'_>,
@@ -61,8 +61,8 @@ fn front_bits(
         options.negated (row column.now.rows i) b)) }
 {
     let tokens = tokens_test(alloc, both.0, options.escape, true)?;
-    let test = AnyFrontTest::new(alloc, tokens, both.1)?;
-    said_by_any_front(alloc, column, texts, &test, options.negated)
+    let test = AnyPrefixTest::new(alloc, tokens, both.1)?;
+    any_prefix_results(alloc, column, texts, &test, options.negated)
 }
 
 /// The results of LIKE for the texts of a column and one pattern, compiled once. For a prefix,
@@ -84,7 +84,7 @@ fn one_pattern_bits(
     let shape = shape_of(pattern, options.escape);
     if options.case_insensitive {
         if let PatternShape::Front(literal) = shape {
-            return front_bits(alloc, column, texts, (pattern, literal), options);
+            return prefix_bits(alloc, column, texts, (pattern, literal), options);
         }
     }
     let past_case = options.case_insensitive && pattern.is_ascii() && !shape.is_other();

@@ -58,7 +58,7 @@ fn is_percent(escape: Option<char>, c: char) -> bool
 }
 
 /// The shape of a pattern that is a literal part, or one and `%`.
-fn front_shape(pattern: &str, escape: Option<char>) -> PatternShape<'_>
+fn prefix_shape(pattern: &str, escape: Option<char>) -> PatternShape<'_>
     ensures { IsFrontOf escape (chars pattern.now) result }
 {
     let cut = cut_at_special(pattern, escape);
@@ -84,7 +84,7 @@ fn percent_shape(pattern: &str, escape: Option<char>) -> PatternShape<'_>
     if !is_percent(escape, c) {
         return PatternShape::Other;
     }
-    match front_shape(behind, escape) {
+    match prefix_shape(behind, escape) {
         PatternShape::Whole(literal) => PatternShape::End(literal),
         PatternShape::Front(literal) => PatternShape::Inside(literal),
         _ => PatternShape::Other,
@@ -95,7 +95,7 @@ fn percent_shape(pattern: &str, escape: Option<char>) -> PatternShape<'_>
 pub(crate) fn shape_of(pattern: &str, escape: Option<char>) -> PatternShape<'_>
     ensures { IsShapeOf escape (chars pattern.now) result }
 {
-    match front_shape(pattern, escape) {
+    match prefix_shape(pattern, escape) {
         PatternShape::Other => percent_shape(pattern, escape),
         shape => shape,
     }

@@ -35,7 +35,7 @@ pub(crate) enum FormTest {
 
 /// The prefix of each text that a pattern matches: its characters before the first special one;
 /// empty if case is ignored.
-fn needed_front(
+fn needed_prefix(
     alloc: Global,
     pattern: &str,
     escape: Option<char>,
@@ -81,7 +81,7 @@ pub(crate) fn tokens_test(
     ensures folds { AnswersUnlessMemory result (λ t. t.case_insensitive ≡ case_insensitive) }
 {
     let tokens = tokens_of(alloc, pattern, escape)?;
-    let front = needed_front(alloc, pattern, escape, case_insensitive)?;
+    let front = needed_prefix(alloc, pattern, escape, case_insensitive)?;
     let end = needed_end(alloc, pattern, escape, case_insensitive)?;
     Ok(TokenTest::new(tokens, case_insensitive, front, end))
 }

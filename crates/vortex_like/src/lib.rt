@@ -1,7 +1,7 @@
 //! LIKE patterns over texts and over columns of texts.
 #![tactic(auto)]
 
-mod any_front;
+mod any_prefix;
 mod characters;
 mod column_test;
 mod cuts;

@@ -146,7 +146,7 @@ impl RowTexts for OneText<'_> {
 }
 
 impl<'a> Texts<'a> {
-    ghost use Rattle.vortex_views.specs.LentValue.{row_value};
+    ghost use Rattle.vortex_views.specs.BorrowedValue.{row_value};
 
     /// The text of a row, with the words of its view.
     #[inline(always)]

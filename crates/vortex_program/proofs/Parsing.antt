@@ -9,7 +9,7 @@ use Rattle.vortex_syntax.specs.Grammar.{Reads}
 use Rattle.vortex_syntax.specs.Refusals.{TreeStopsAt}
 use Rattle.vortex_syntax.specs.AnswerLists.{Told}
 use Rattle.vortex_syntax.proofs.Whole.{one_tree}
-use Rattle.vortex_expressions.specs.declared.error.ReadError.{ReadError}
+use Rattle.vortex_expressions.specs.declared.error.TextError.{TextError}
 use Rattle.vortex_expressions.specs.declared.refusal.Refusal.{Refusal}
 use Rattle.vortex_expressions.specs.Outcomes.{Outcome, answers, refuses, missing, and_then}
 use Rattle.vortex_expressions.specs.Items.{Tree}
@@ -49,7 +49,7 @@ one_left (answers t) = refl
 one_left (refuses r) = refl
 one_left missing = refl
 
-told_of : (o : Outcome Tree) (e : ReadError) → ToldBy (alone o) e → ToldBy o e
+told_of : (o : Outcome Tree) (e : TextError) → ToldBy (alone o) e → ToldBy o e
 told_of (answers t) e h = h
 told_of (refuses r) e h = h
 told_of missing e h = h
@@ -77,13 +77,13 @@ module _ (scope : Fields) (text : List ℕ) (ts : List Told) (parsed : ReadsOne 
   meant missing list e h = cc
 
   module _ {A : Type 0} (view : A → List Answer) where
-    found_one : (r : Result A ReadError) → Finds view r (answers_left scope ts)
+    found_one : (r : Result A TextError) → Finds view r (answers_left scope ts)
         → IfOk r (λ v. MeansOne scope text (view v))
     found_one (Ok v) h =
         meant (tree_of scope parsed.tree) (view v) refl (sym (left_is parsed.tree parsed.read) ∙ h)
     found_one (Err e) h = tt
 
-    only_one : (r : Result A ReadError) → Finds view r (answers_left scope ts)
+    only_one : (r : Result A TextError) → Finds view r (answers_left scope ts)
         → (list : List Answer) → MeansOne scope text list
         → ReadUnlessMemory r (λ v. view v ≡ list)
     only_one (Ok v) h list s =
@@ -94,7 +94,7 @@ module _ (scope : Fields) (text : List ℕ) (ts : List Told) (parsed : ReadsOne 
     only_one (Err e) h list s =
         subst (λ o. ToldBy o e) (left_is s.said.syntax s.said.read ∙ ap alone s.said.bound) h
 
-    refused_one : (r : Result A ReadError) → Finds view r (answers_left scope ts)
+    refused_one : (r : Result A TextError) → Finds view r (answers_left scope ts)
         → (w : Refusal) → IsRefused scope text w → RefusesAs w r
     refused_one (Ok v) h w s =
         let e : answers (view v) ≡ refuses w =
@@ -102,7 +102,7 @@ module _ (scope : Fields) (text : List ℕ) (ts : List Told) (parsed : ReadsOne 
     refused_one (Err e) h w s =
         subst (λ o. ToldBy o e) (left_is s.syntax s.read ∙ ap alone s.refused) h
 
-    why_one : (r : Result A ReadError) → Finds view r (answers_left scope ts)
+    why_one : (r : Result A TextError) → Finds view r (answers_left scope ts)
         → IfErr r (TellsWhy TreeStopsAt (IsRefused scope text) text)
     why_one (Ok v) h = tt
     why_one (Err e) h =
@@ -114,24 +114,24 @@ module _ (scope : Fields) (text : List ℕ) (ts : List Told) (parsed : ReadsOne 
 
 module _ (scope : Fields) (text : List ℕ) (ts : List Told) {A : Type 0} (view : A → List Answer)
   where
-    pub found : (f : Form) → IsParsed f text ts → (r : Result A ReadError)
+    pub found : (f : Form) → IsParsed f text ts → (r : Result A TextError)
         → Finds view r (answers_left scope ts) → IfOk r (λ v. Means f scope text (view v))
     found form.Answers p r h = listed.found scope view text p.list ts p.read p.is r h
     found form.Condition p r h = found_one scope text ts p view r h
 
-    pub only : (f : Form) → IsParsed f text ts → (r : Result A ReadError)
+    pub only : (f : Form) → IsParsed f text ts → (r : Result A TextError)
         → Finds view r (answers_left scope ts) → (list : List Answer) → Means f scope text list
         → ReadUnlessMemory r (λ v. view v ≡ list)
     only form.Answers p r h = listed.only scope view text p.list ts p.read p.is r h
     only form.Condition p r h = only_one scope text ts p view r h
 
-    pub refused : (f : Form) → IsParsed f text ts → (r : Result A ReadError)
+    pub refused : (f : Form) → IsParsed f text ts → (r : Result A TextError)
         → Finds view r (answers_left scope ts) → (w : Refusal) → IsRefusedOver f scope text w
         → RefusesAs w r
     refused form.Answers p r h = listed.refused scope view text p.list ts p.read p.is r h
     refused form.Condition p r h = refused_one scope text ts p view r h
 
-    pub told_why : (f : Form) → IsParsed f text ts → (r : Result A ReadError)
+    pub told_why : (f : Form) → IsParsed f text ts → (r : Result A TextError)
         → Finds view r (answers_left scope ts)
         → IfErr r (TellsWhy (StopsAt f) (IsRefusedOver f scope text) text)
     told_why form.Answers p r h = listed.told_why scope view text p.list ts p.read p.is r h
@@ -140,13 +140,13 @@ module _ (scope : Fields) (text : List ℕ) (ts : List Told) {A : Type 0} (view 
 -- the answers that are left, under their names; or memory ran out
 module _ (scope : Fields) (text : List ℕ) (ts : List Told) (f : Form) (parsed : IsParsed f text ts)
     (list : List Answer) (left : answers_left scope ts ≡ answers list) where
-  abbrev Named : Result (Vec bound.Answer Global) ReadError → Type 0
+  abbrev Named : Result (Vec bound.Answer Global) TextError → Type 0
   Named r = ReadUnlessMemory r (λ v. AllMean (IsNamedAnswer scope) list v.items)
 
   abbrev same : List Answer → List Answer
   same xs = xs
 
-  pub named_found : (r : Result (Vec bound.Answer Global) ReadError) → Named r
+  pub named_found : (r : Result (Vec bound.Answer Global) TextError) → Named r
       → IfOk r (λ v. AreAnswersOf f scope text v.items)
   named_found (Ok v) h = record {
     list = list;
@@ -155,7 +155,7 @@ module _ (scope : Fields) (text : List ℕ) (ts : List Told) (f : Form) (parsed 
   }
   named_found (Err e) h = tt
 
-  pub named_only : (r : Result (Vec bound.Answer Global) ReadError) → Named r
+  pub named_only : (r : Result (Vec bound.Answer Global) TextError) → Named r
       → (other : List Answer) → Means f scope text other
       → ReadUnlessMemory r (λ v. trees_of v.items ≡ map (λ a. a.tree) other)
   named_only (Ok v) h other s =
@@ -163,11 +163,11 @@ module _ (scope : Fields) (text : List ℕ) (ts : List Told) (f : Form) (parsed 
       ∙ ap (map (λ (a : Answer). a.tree)) (only scope text ts same f parsed (Ok list) left other s)
   named_only (Err e) h other s = h
 
-  pub named_refused : (r : Result (Vec bound.Answer Global) ReadError) (w : Refusal)
+  pub named_refused : (r : Result (Vec bound.Answer Global) TextError) (w : Refusal)
       → IsRefusedOver f scope text w → RefusesAs w r
   named_refused r w s = absurd (refused scope text ts same f parsed (Ok list) left w s)
 
-  pub named_why : (r : Result (Vec bound.Answer Global) ReadError) → Named r
+  pub named_why : (r : Result (Vec bound.Answer Global) TextError) → Named r
       → IfErr r (TellsWhy (StopsAt f) (IsRefusedOver f scope text) text)
   named_why (Ok v) h = tt
   named_why (Err e) h =
@@ -183,5 +183,5 @@ module _ (Stops : List Token → ℕ → Type 0) (P Q : Refusal → Type 0)
   for_weaker (reason.Refused r) byte (inl p) = inl (weaker r p)
   for_weaker (reason.Refused r) byte (inr memory) = inr memory
 
-  pub why_weaker : (e : ReadError) → TellsWhy Stops P text e → TellsWhy Stops Q text e
+  pub why_weaker : (e : TextError) → TellsWhy Stops P text e → TellsWhy Stops Q text e
   why_weaker e h = for_weaker e.reason e.byte h

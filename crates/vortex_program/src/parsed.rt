@@ -21,7 +21,7 @@ use crate::form::Form;
 use crate::naming::all_named;
 use std::alloc::Global;
 use vortex_columns::StructFields;
-use vortex_expressions::{ReadError, bind_answers};
+use vortex_expressions::{TextError, bind_answers};
 use vortex_syntax::{SyntaxAnswer, SyntaxTree, read_answer_list, read_syntax};
 
 /// A text that was parsed, with what it says: answers or a condition, whose columns are not yet
@@ -37,7 +37,7 @@ pub struct Parsed<'t> {
 /// Parses a list of answers, each with a name after `as` or without one:
 /// `price * stock as worth, price > 100`. Ok exactly where the text is such a list, whatever columns
 /// there are.
-pub fn parse_answers(alloc: Global, text: &str) -> Result<Parsed<'_>, ReadError>
+pub fn parse_answers(alloc: Global, text: &str) -> Result<Parsed<'_>, TextError>
     ensures text { IfOk result (λ p. p.text.now ≡ text.now) }
     ensures read { IfOk result IsRead }
     ensures form { IfOk result (λ p. p.form ≡ form.Answers) }
@@ -51,25 +51,25 @@ pub fn parse_answers(alloc: Global, text: &str) -> Result<Parsed<'_>, ReadError>
             form: Form::Answers,
             answers,
         }),
-        Err(error) => Err(ReadError::of_syntax(alloc, text, error)),
+        Err(error) => Err(TextError::of_syntax(alloc, text, error)),
     }
 }
 
 /// A tree as the one answer of a condition.
-fn one_answer<'t>(alloc: Global, tree: SyntaxTree<'t>) -> Result<Vec<SyntaxAnswer<'t>>, ReadError>
+fn one_answer<'t>(alloc: Global, tree: SyntaxTree<'t>) -> Result<Vec<SyntaxAnswer<'t>>, TextError>
     ensures { ReadUnlessMemory result
         (λ answers. map answer_in answers.items ≡ unnamed tree.entry) }
 {
     let mut answers = Vec::new(alloc);
     match answers.push(SyntaxAnswer { tree, name: None }) {
         Ok(()) => Ok(answers),
-        Err(_) => Err(ReadError::out_of_memory(alloc)),
+        Err(_) => Err(TextError::out_of_memory(alloc)),
     }
 }
 
 /// Parses one expression without a name: `price > 100 and stock is not null`. Ok exactly where the
 /// text is one, whatever columns there are.
-pub fn parse_condition(alloc: Global, text: &str) -> Result<Parsed<'_>, ReadError>
+pub fn parse_condition(alloc: Global, text: &str) -> Result<Parsed<'_>, TextError>
     ensures text { IfOk result (λ p. p.text.now ≡ text.now) }
     ensures read { IfOk result IsRead }
     ensures form { IfOk result (λ p. p.form ≡ form.Condition) }
@@ -79,7 +79,7 @@ pub fn parse_condition(alloc: Global, text: &str) -> Result<Parsed<'_>, ReadErro
 {
     let tree = match read_syntax(alloc, text.as_bytes()) {
         Ok(tree) => tree,
-        Err(error) => return Err(ReadError::of_syntax(alloc, text, error)),
+        Err(error) => return Err(TextError::of_syntax(alloc, text, error)),
     };
     match one_answer(alloc, tree) {
         Ok(answers) => Ok(Parsed {
@@ -96,14 +96,14 @@ fn name_all(
     alloc: Global,
     scope: &StructFields,
     list: &[vortex_expressions::Answer],
-) -> Result<Vec<Answer>, ReadError>
+) -> Result<Vec<Answer>, TextError>
     ensures { ReadUnlessMemory result (λ answers.
         AllMean (IsNamedAnswer (struct_fields scope.now)) (map specs.answer_in list.now)
         answers.items) }
 {
     match all_named(alloc, scope, list) {
         Ok(answers) => Ok(answers),
-        Err(_) => Err(ReadError::out_of_memory(alloc)),
+        Err(_) => Err(TextError::out_of_memory(alloc)),
     }
 }
 
@@ -112,7 +112,7 @@ impl Parsed<'_> {
     /// that of the column which it is, else its text. Together with parsing it finds the answers
     /// that the text means over the scope, and fails as the text is refused over it: that is said of
     /// what was parsed, which each clause asks first.
-    pub fn bind(&self, alloc: Global, scope: &StructFields) -> Result<Vec<Answer>, ReadError>
+    pub fn bind(&self, alloc: Global, scope: &StructFields) -> Result<Vec<Answer>, TextError>
         ensures found { IsRead self.now → IfOk result (λ v.
             AreAnswersOf self.now.form (struct_fields scope.now) self.now.text.now v.items) }
         ensures only { (list : List specs.Answer) → IsRead self.now

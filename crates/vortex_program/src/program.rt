@@ -16,7 +16,7 @@ use crate::naming::text_of;
 use crate::parsed::parse_answers;
 use std::alloc::Global;
 use vortex_columns::{StructFields, VortexResult};
-use vortex_expressions::ReadError;
+use vortex_expressions::TextError;
 use vortex_functions::{BoundExpression, NoCustom};
 use vortex_rewriting::Rewrite;
 
@@ -68,7 +68,7 @@ impl Program {
     /// Reads a list of answers over the fields of a scope:
     /// `price * stock as worth, price > 100`. Ok exactly where the text is such a list, where no
     /// allocation fails.
-    pub fn read(alloc: Global, scope: StructFields, text: &str) -> Result<Program, ReadError>
+    pub fn read(alloc: Global, scope: StructFields, text: &str) -> Result<Program, TextError>
         ensures scope { IfOk result (λ p. p.scope ≡ scope) }
         ensures found { IfOk result
             (λ p. AreAnswersOf Answers (struct_fields scope) text.now p.written.items) }
@@ -92,7 +92,7 @@ impl Program {
         };
         match Program::of(alloc, scope, written) {
             Ok(program) => Ok(program),
-            Err(_) => Err(ReadError::out_of_memory(alloc)),
+            Err(_) => Err(TextError::out_of_memory(alloc)),
         }
     }
 

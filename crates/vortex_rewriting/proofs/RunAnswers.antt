@@ -53,7 +53,7 @@ module _ {V O : Type 0} (m : Meaning V O) (lawful : Lawful m) (r : Rules V O)
       record { last = u; run = run; rows = h.rows; kept = after.rows.kept } in
       record {
         executes = record { fit = fits.0; lengths = fits.1; rows = rows };
-        lent = lends (h.fit, h.lengths);
+        borrowed = lends (h.fit, h.lengths);
       }
   run_answers cs n t u k (Err e) is bound fits typed run h lends =
       let rule = expression_step m r in

@@ -4,7 +4,7 @@ pub mod Rewriting
 pub mod Rules
 pub mod Parents
 pub mod Frames
-pub mod Found
+pub mod FoundRewrite
 pub mod Runs
 pub mod Keeping
 pub mod Contexts

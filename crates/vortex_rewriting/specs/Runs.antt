@@ -9,7 +9,7 @@ use Rattle.vortex_interface.specs.Meaning.{Meaning}
 use Rattle.vortex_interface.specs.Trees.{Tree}
 use Rattle.vortex_interface.specs.Rules.{Rules}
 use Rattle.vortex_interface.specs.Running.{ExecutesAfter, RefusesAfter, HasRowsAfter, IsFaultAfter}
-use Rattle.vortex_functions.specs.Binding.{IsLeaf, IsLentLeaf}
+use Rattle.vortex_functions.specs.Binding.{IsLeaf, IsBorrowedLeaf}
 use Rattle.vortex_functions.specs.Arrays.{Array, tree_in, rows_in}
 use Rattle.vortex_rewriting.specs.Rules.{expression_rule, array_rule}
 use Rattle.vortex_rewriting.specs.Driving.{first_rule}
@@ -28,7 +28,7 @@ module _ {V O : Type 0} (m : Meaning V O) (r : Rules V O) where
     pub record IsRunAnswer (cs : List ColumnView) (n : ℕ) (t : Tree V O) (c : Cow ColumnView)
         : Type 0 where
       pub executes : ExecutesAfter m cs n expression_step limit t (cow_value c)
-      pub lent : IsLeaf executes.rows.last → IsLentLeaf cs executes.rows.last c
+      pub borrowed : IsLeaf executes.rows.last → IsBorrowedLeaf cs executes.rows.last c
 
     -- over columns, each of that many rows
     abbrev pub AnswersRun : List ColumnView → ℕ → Tree V O → Result (Cow ColumnView) VortexError

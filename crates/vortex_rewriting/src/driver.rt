@@ -4,7 +4,7 @@ ghost use Rattle.std.specs.Option.{option_map};
 ghost use Rattle.vortex_interface.specs.Driver.{step, Runs};
 ghost use Rattle.vortex_functions.specs.Words.{tree_type, AnswersUnlessMemory};
 ghost use Rattle.vortex_rewriting.specs.Frames.{plug, frames_in, AreFrames, HaveRows};
-ghost use Rattle.vortex_rewriting.specs.Found.{IsFound, FoundHasRows};
+ghost use Rattle.vortex_rewriting.specs.FoundRewrite.{IsFound, FoundHasRows};
 
 use crate::frames::{Opened, next_child, over_children, whole_tree};
 use crate::leaf::RewriteLeaf;
@@ -31,7 +31,7 @@ fn apply_first<C: ScalarFnRules, L: RewriteLeaf<C>>(
 
 /// The result of a search for the next place.
 #[derive(Drop)]
-enum Found<T> {
+enum FoundRewrite<T> {
     /// There is none, and this is the whole tree.
     Settled(T),
     /// The frames above the place, the tree there, and the rule's result for it.
@@ -44,7 +44,7 @@ fn seek<C: ScalarFnRules, L: RewriteLeaf<C>>(
     alloc: Global,
     above: Vec<Opened<Tree<C, L>>>,
     node: Tree<C, L>,
-) -> VortexResult<Found<Tree<C, L>>>
+) -> VortexResult<FoundRewrite<Tree<C, L>>>
     requires frames { AreFrames L.rule (frames_in L.tree_of above.items) }
     requires typed { IsSome (tree_type C.meaning
         (plug (frames_in L.tree_of above.items) (L.tree_of node))) }
@@ -70,11 +70,11 @@ fn seek<C: ScalarFnRules, L: RewriteLeaf<C>>(
             None => {
                 let mut whole = over_children(alloc, node, done)?;
                 if let Some(made) = apply_first(alloc, &whole)? {
-                    return Ok(Found::Place(above, whole, made));
+                    return Ok(FoundRewrite::Place(above, whole, made));
                 }
                 whole.mark_settled();
                 let Some(parent) = above.pop() else {
-                    return Ok(Found::Settled(whole));
+                    return Ok(FoundRewrite::Settled(whole));
                 };
                 node = parent.node;
                 done = parent.done;
@@ -116,14 +116,14 @@ pub(crate) fn take_steps<C: ScalarFnRules, L: RewriteLeaf<C>>(
     let mut steps = 0;
     loop {
         match seek(alloc, above, place)? {
-            Found::Settled(tree) => {
+            FoundRewrite::Settled(tree) => {
                 return Ok(Optimized {
                     tree,
                     steps,
                     done: true,
                 });
             }
-            Found::Place(frames, old, made) => {
+            FoundRewrite::Place(frames, old, made) => {
                 if steps == limit {
                     return Ok(Optimized {
                         tree: whole_tree(alloc, frames, old)?,

@@ -8,7 +8,7 @@ use vortex_functions::{ArrayRef, BoundExpression};
 use vortex_interface::ScalarFnVTable;
 
 /// The rows of columns have their types.
-fn tell_types(columns: &[Column])
+fn types_invariant(columns: &[Column])
     ensures { All (λ c. AreTyped c.dtype c.rows) columns.now }
 {
     for column in columns {
@@ -27,7 +27,7 @@ pub fn rewrites_keep_rows<C: ScalarFnVTable>(
     ensures { RewritesKeepRows C.meaning columns.now row_count tree.now }
 {
     let _typed = tree.dtype();
-    tell_types(columns);
+    types_invariant(columns);
 }
 
 /// Every rewrite of an array tree has its value in each row in which it has one, and faults only

@@ -32,7 +32,7 @@ pub trait ReduceTree<C: ScalarFnVTable>: Sized + Drop {
     ghost seen: { Self → InContext C C.Options Self.Context };
 
     /// The tree is borrowed, so walking down allocates nothing.
-    ghost lent: { Self → Type 0 };
+    ghost borrowed: { Self → Type 0 };
 
     /// The type of the tree's values.
     fn node_dtype(&self) -> &DType
@@ -55,7 +55,7 @@ pub trait ReduceTree<C: ScalarFnVTable>: Sized + Drop {
         ensures answer { AnswersUnlessMemory result
             (λ node. (slice_get (children_of (seen self.now).tree) index ≡ Some (seen node).tree)
             × ((seen node).context ≡ (seen self.now).context)) }
-        ensures lent { lent self.now → IsOkAnd result lent };
+        ensures borrowed { borrowed self.now → IsOkAnd result borrowed };
 
     /// The call of a function on nodes of the same context. E6 exactly if their count does not fit
     /// its arity, then E3 exactly if their types are not accepted.

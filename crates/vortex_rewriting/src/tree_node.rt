@@ -41,7 +41,7 @@ impl<'a, T: Drop> TreeReduceNode<'a, T> {
     /// The node of a tree.
     pub fn new(tree: Cow<'a, T>) -> Self
         ensures value { cow_value result.tree ≡ cow_value tree.entry }
-        ensures lent { IsBorrowed tree.entry → IsBorrowed result.tree }
+        ensures borrowed { IsBorrowed tree.entry → IsBorrowed result.tree }
         ensures owned { IsOwned tree.entry → IsOwned result.tree }
     {
         TreeReduceNode { tree }
@@ -136,7 +136,7 @@ impl<'a, C: ScalarFnVTable, L: RuleLeaf<C>> ReduceTree<C> for TreeReduceNode<'a,
 
     ghost seen = { λ n. in_context L.tree_of L.context_of (cow_value n.tree) };
 
-    ghost lent = { λ n. IsBorrowed n.tree };
+    ghost borrowed = { λ n. IsBorrowed n.tree };
 
     fn node_dtype(&self) -> &DType {
         self.tree().dtype()

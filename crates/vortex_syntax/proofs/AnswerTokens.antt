@@ -10,8 +10,8 @@ use Rattle.vortex_syntax.specs.declared.frame.Mode.{Mode}
 use Rattle.vortex_syntax.specs.declared.frame.Mode.TheVariants as mode
 use Rattle.vortex_syntax.specs.Tokens.{Token, name, nullable, sign}
 use Rattle.vortex_syntax.specs.Postfix.{Step}
-use Rattle.vortex_syntax.specs.Reading.{State, settled, as_behind, predicate, word_behind}
-use Rattle.vortex_syntax.specs.Reading.{cast_wanted, next, finish, run}
+use Rattle.vortex_syntax.specs.Reading.{State, settled, as_behind, predicate, word_after}
+use Rattle.vortex_syntax.specs.Reading.{cast_expected, next, finish, run}
 use Rattle.vortex_syntax.specs.AnswerParts.{is_comma}
 
 -- what is read of the first token, where all are read
@@ -23,7 +23,7 @@ ran (Some r) ts xs e = (r, refl, e)
 
 comma_stops : (m : Mode) (fs : List Frame) (out : List Step)
     → next m fs out (sign sign.Comma) ≡ None
-unfolding next word_behind predicate
+unfolding next word_after predicate
 comma_stops mode.Want fs out = refl
 comma_stops m fs out = refl
 
@@ -54,13 +54,13 @@ cast_behind fs out r e = absurd cc
 
 as_next : (m : Mode) (fs : List Frame) (out : List Step) (r : State)
     → next m fs out (sign sign.As) ≡ Some r → r.mode ≡ mode.CastType
-unfolding next word_behind predicate
+unfolding next word_after predicate
 as_next (mode.Have l) fs out r e =
     cast_behind (settled 0 l fs out).frames (settled 0 l fs out).steps r e
 as_next m fs out r e = absurd cc
 
 type_next : (t : Token) (fs : List Frame) (out : List Step) (r : State)
-    → cast_wanted fs out t ≡ Some r → r.mode ≡ mode.CastEnd
+    → cast_expected fs out t ≡ Some r → r.mode ≡ mode.CastEnd
 type_next (name w) fs out r e = sym (ap mode_of e)
 type_next (nullable w) fs out r e = sym (ap mode_of e)
 type_next t fs out r e = absurd cc

@@ -23,7 +23,7 @@ use Rattle.vortex_syntax.specs.Postfix.{null_call, like_step, postfix}
 use Rattle.vortex_syntax.specs.Reading as specs
 use Rattle.vortex_syntax.specs.Reading.{State, state, hole, top_hole, guard, whole, closing}
 use Rattle.vortex_syntax.specs.Reading.{operand_of, settled, waiting, shifted, joining, operator_of}
-use Rattle.vortex_syntax.specs.Reading.{and_behind, predicate, word_behind, behind, next, finish}
+use Rattle.vortex_syntax.specs.Reading.{and_behind, predicate, word_after, behind, next, finish}
 use Rattle.vortex_syntax.specs.Reading.{run, steps_of}
 use Rattle.vortex_syntax.proofs.Tables.{own_left, own_right, tight, guard_hole, hole_atom, reach_of}
 use Rattle.vortex_syntax.proofs.Tables.{reach, not_two, lower, not_lower, at_most}
@@ -62,7 +62,7 @@ closed out f = out ++ (closing f ∷ [])
 sign_closes : (l : ℕ) (f : Frame) (fs : List Frame) (out : List Step) (s : Sign) (ts : List Token)
     → reach_of s < guard f
     → have l (f ∷ fs) out (sign s ∷ ts) ≡ have (whole f) fs (closed out f) (sign s ∷ ts)
-unfolding run next word_behind predicate
+unfolding run next word_after predicate
 sign_closes l f fs out sign.And ts h =
     ap (λ a. ran ts (and_behind a.level a.frames a.steps)) (settled_one 1 l f fs out h)
 sign_closes l f fs out sign.Or ts h =
@@ -157,7 +157,7 @@ and_joins l (frame.Like n ∷ fs) out h k = absurd (let j : ⊥ = omega (arith, 
 step_join : (o : WrittenOperator) (l : ℕ) (fs : List Frame) (out : List Step) (ts : List Token)
     → left o ≤ l → top_hole fs ≤ own o
     → have l fs out (sign (operator_sign o) ∷ ts) ≡ want (frame.Join o ∷ fs) out ts
-unfolding run next word_behind
+unfolding run next word_after
 step_join operator.And l fs out ts h k =
     ap (λ a. ran ts (and_behind a.level a.frames a.steps)) (settled_none 1 l fs out k)
     ∙ ap (ran ts) (and_joins l fs out h k)
@@ -197,7 +197,7 @@ step_join operator.Div l fs out ts h k =
 step_negating : (l : ℕ) (fs : List Frame) (out : List Step) (ts : List Token) → 6 ≤ l
     → top_hole fs ≤ 5
     → have l fs out (sign sign.Not ∷ ts) ≡ run (state (mode.Negating l) fs out) ts
-unfolding run next word_behind
+unfolding run next word_after
 step_negating l fs out ts h k =
     ap (λ a. ran ts (specs.not_behind a.level a.frames a.steps)) (settled_none 5 l fs out k)
     ∙ rw (at_most 6 l h, at_most (top_hole fs) 5 k) refl
@@ -205,7 +205,7 @@ step_negating l fs out ts h k =
 step_between : (n : Bool) (l : ℕ) (fs : List Frame) (out : List Step) (ts : List Token) → 6 ≤ l
     → top_hole fs ≤ 5
     → have l fs out (with_not n sign.Between ++ ts) ≡ want (frame.Between n ∷ fs) out ts
-unfolding run next word_behind predicate
+unfolding run next word_after predicate
 step_between true l fs out ts h k = step_negating l fs out (sign sign.Between ∷ ts) h k
     ∙ ap (ran ts) (shifts 5 6 (frame.Between true) l fs out h k)
 step_between false l fs out ts h k = ap (ran ts) (shifts 5 6 (frame.Between false) l fs out h k)
@@ -214,7 +214,7 @@ step_like : (n i : Bool) (l : ℕ) (fs : List Frame) (out : List Step) (ts : Lis
     → top_hole fs ≤ 5
     → have l fs out (like_sign (specs.like_kind n i) ++ ts)
     ≡ want (frame.Like (specs.like_kind n i) ∷ fs) out ts
-unfolding run next word_behind predicate
+unfolding run next word_after predicate
 step_like true true l fs out ts h k = step_negating l fs out (sign sign.Ilike ∷ ts) h k
     ∙ ap (ran ts) (shifts 5 6 (frame.Like (specs.like_kind true true)) l fs out h k)
 step_like true false l fs out ts h k = step_negating l fs out (sign sign.Like ∷ ts) h k
@@ -226,13 +226,13 @@ step_like false false l fs out ts h k =
 
 step_bound : (n : Bool) (l : ℕ) (fs : List Frame) (out : List Step) (ts : List Token)
     → have l (frame.Between n ∷ fs) out (sign sign.And ∷ ts) ≡ want (frame.Bounded n ∷ fs) out ts
-unfolding run next word_behind settled
+unfolding run next word_after settled
 step_bound n l fs out ts = refl
 
 step_null : (n : Bool) (l : ℕ) (fs : List Frame) (out : List Step) (ts : List Token) → 3 ≤ l
     → top_hole fs ≤ 3
     → have l fs out (null_test n ++ ts) ≡ have 3 fs (out ++ (called (null_call n) ∷ [])) ts
-unfolding run next word_behind
+unfolding run next word_after
 step_null true l fs out ts h k =
     ap (λ a. ran (sign sign.Not ∷ sign sign.Null ∷ ts) (specs.is_behind a.level a.frames a.steps))
     (settled_none 3 l fs out k)
@@ -243,20 +243,20 @@ step_null false l fs out ts h k =
 
 step_close : (l : ℕ) (fs : List Frame) (out : List Step) (ts : List Token)
     → have l (frame.Open ∷ fs) out (sign sign.Close ∷ ts) ≡ have 8 fs out ts
-unfolding run next word_behind settled
+unfolding run next word_after settled
 step_close l fs out ts = refl
 
 step_typed : (l : ℕ) (fs : List Frame) (out : List Step) (w : List ℕ) (n : Bool) (ts : List Token)
     → 9 ≤ l
     → have l fs out (sign sign.Typed ∷ type_token w n ∷ ts) ≡ have 8 fs (out ++ (typed w n ∷ [])) ts
-unfolding run next word_behind
+unfolding run next word_after
 step_typed l fs out w true ts h = rw (at_most 9 l h) refl
 step_typed l fs out w false ts h = rw (at_most 9 l h) refl
 
 step_cast : (l : ℕ) (fs : List Frame) (out : List Step) (w : List ℕ) (n : Bool) (ts : List Token)
     → have l (frame.Cast ∷ fs) out (sign sign.As ∷ type_token w n ∷ sign sign.Close ∷ ts)
     ≡ have 8 fs (out ++ (cast w n ∷ [])) ts
-unfolding run next word_behind settled
+unfolding run next word_after settled
 step_cast l fs out w true ts = refl
 step_cast l fs out w false ts = refl
 
@@ -264,7 +264,7 @@ step_escape : (k : LikeKind) (e : List ℕ) (l : ℕ) (fs : List Frame) (out : L
     (ts : List Token)
     → have l (frame.Like k ∷ fs) out (sign sign.Escape ∷ text e ∷ ts)
     ≡ have 5 fs (out ++ (escaped k e ∷ [])) ts
-unfolding run next word_behind settled
+unfolding run next word_after settled
 step_escape k e l fs out ts = refl
 
 step_operand : (t : Token) (fs : List Frame) (out : List Step) (ts : List Token)

@@ -19,7 +19,7 @@ use Rattle.vortex_syntax.specs.Reading as specs
 use Rattle.vortex_syntax.specs.Reading.{State, state, hole, top_hole, guard, whole, closing}
 use Rattle.vortex_syntax.specs.Reading.{Operand, operand_of, settled, waiting, shifted, operator_of}
 use Rattle.vortex_syntax.specs.Reading.{and_behind, is_behind, close_behind, as_behind}
-use Rattle.vortex_syntax.specs.Reading.{escape_behind, end_behind, predicate, word_behind, behind}
+use Rattle.vortex_syntax.specs.Reading.{escape_behind, end_behind, predicate, word_after, behind}
 use Rattle.vortex_syntax.specs.Reading.{next, finish, run, steps_of}
 use Rattle.vortex_syntax.proofs.Tables.{top_atom}
 use Rattle.vortex_syntax.proofs.Held.{opened, casting, negating}
@@ -46,7 +46,7 @@ not_sound fs out s before e b =
     (fits_below (top_hole fs) 2 c.0))
 
 pub sign_wanted_sound : (fs : List Frame) (out : List Step) (u : Sign) (s : State)
-    (before : List Token) → specs.sign_wanted fs out u ≡ Some s → Behind fs out before [] []
+    (before : List Token) → specs.sign_expected fs out u ≡ Some s → Behind fs out before [] []
     → HoldsIn s (before ++ (sign u ∷ []))
 sign_wanted_sound fs out sign.Minus s before e b =
     along (state mode.Signed fs out) s (before ++ (sign sign.Minus ∷ [])) e
@@ -107,7 +107,7 @@ wanted_sound fs out t s before true k e b =
 wanted_sound fs out t s before false k e b = other_wanted_sound fs out t s before e b
 
 pub digits_sound : (fs : List Frame) (out : List Step) (t : Token) (s : State) (before : List Token)
-    → specs.digits_wanted fs out t ≡ Some s → Behind fs out before [] (sign sign.Minus ∷ [])
+    → specs.digits_expected fs out t ≡ Some s → Behind fs out before [] (sign sign.Minus ∷ [])
     → HoldsIn s (before ++ (t ∷ []))
 digits_sound fs out (number ds) s before e b =
     along (state (mode.Have 9) fs (out ++ (negative ds ∷ []))) s (before ++ (number ds ∷ [])) e
@@ -136,7 +136,7 @@ typed_is l fs out before w n a le =
     (typed w n ∷ []) (type_token w n ∷ []) a.behind))
 
 pub type_sound : (l : ℕ) (fs : List Frame) (out : List Step) (t : Token) (s : State)
-    (before : List Token) → specs.type_wanted fs out t ≡ Some s
+    (before : List Token) → specs.type_expected fs out t ≡ Some s
     → HasOperand l fs out before (sign sign.Typed ∷ []) → 9 ≤ l → HoldsIn s (before ++ (t ∷ []))
 type_sound l fs out (name w) s before e a le =
     along (state (mode.Have 8) fs (out ++ (typed w false ∷ []))) s (before ++ (name w ∷ [])) e
@@ -166,7 +166,7 @@ tested_is l fs out before us n e a le place =
     (sign sign.Null ∷ []) a.behind))
 
 pub is_sign_sound : (l : ℕ) (fs : List Frame) (out : List Step) (u : Sign) (s : State)
-    (before : List Token) → specs.behind_is fs out (sign u) ≡ Some s
+    (before : List Token) → specs.after_is fs out (sign u) ≡ Some s
     → HasOperand l fs out before (sign sign.Is ∷ []) → 3 ≤ l → top_hole fs ≤ 3
     → HoldsIn s (before ++ (sign u ∷ []))
 is_sign_sound l fs out sign.Null s before e a le place =
@@ -203,7 +203,7 @@ is_sign_sound l fs out sign.Comma s before e a le place = absurd cc
 is_sign_sound l fs out sign.Typed s before e a le place = absurd cc
 
 pub null_sign_sound : (l : ℕ) (fs : List Frame) (out : List Step) (u : Sign) (s : State)
-    (before : List Token) → specs.behind_is_not fs out (sign u) ≡ Some s
+    (before : List Token) → specs.after_is_not fs out (sign u) ≡ Some s
     → HasOperand l fs out before (sign sign.Is ∷ sign sign.Not ∷ []) → 3 ≤ l → top_hole fs ≤ 3
     → HoldsIn s (before ++ (sign u ∷ []))
 null_sign_sound l fs out sign.Null s before e a le place =
@@ -238,7 +238,7 @@ null_sign_sound l fs out sign.Comma s before e a le place = absurd cc
 null_sign_sound l fs out sign.Typed s before e a le place = absurd cc
 
 pub is_follows : (l : ℕ) (fs : List Frame) (out : List Step) (t : Token) (s : State)
-    (before : List Token) → specs.behind_is fs out t ≡ Some s
+    (before : List Token) → specs.after_is fs out t ≡ Some s
     → HasOperand l fs out before (sign sign.Is ∷ []) → 3 ≤ l → top_hole fs ≤ 3
     → HoldsIn s (before ++ (t ∷ []))
 is_follows l fs out (sign u) s before e a le place = is_sign_sound l fs out u s before e a le place
@@ -249,7 +249,7 @@ is_follows l fs out (number w) s before e a le place = absurd cc
 is_follows l fs out (text w) s before e a le place = absurd cc
 
 pub is_not_follows : (l : ℕ) (fs : List Frame) (out : List Step) (t : Token) (s : State)
-    (before : List Token) → specs.behind_is_not fs out t ≡ Some s
+    (before : List Token) → specs.after_is_not fs out t ≡ Some s
     → HasOperand l fs out before (sign sign.Is ∷ sign sign.Not ∷ []) → 3 ≤ l → top_hole fs ≤ 3
     → HoldsIn s (before ++ (t ∷ []))
 is_not_follows l fs out (sign u) s before e a le place =
@@ -261,7 +261,7 @@ is_not_follows l fs out (number w) s before e a le place = absurd cc
 is_not_follows l fs out (text w) s before e a le place = absurd cc
 
 pub cast_sign_sound : (fs : List Frame) (out : List Step) (u : Sign) (s : State)
-    (before : List Token) → specs.behind_cast fs out (sign u) ≡ Some s
+    (before : List Token) → specs.after_cast fs out (sign u) ≡ Some s
     → Behind fs out before [] (sign sign.Cast ∷ [])
     → HoldsIn s (before ++ (sign u ∷ []))
 cast_sign_sound fs out sign.Open s before e b =
@@ -297,7 +297,7 @@ cast_sign_sound fs out sign.Comma s before e b = absurd cc
 cast_sign_sound fs out sign.Typed s before e b = absurd cc
 
 pub cast_follows : (fs : List Frame) (out : List Step) (t : Token) (s : State) (before : List Token)
-    → specs.behind_cast fs out t ≡ Some s → Behind fs out before [] (sign sign.Cast ∷ [])
+    → specs.after_cast fs out t ≡ Some s → Behind fs out before [] (sign sign.Cast ∷ [])
     → HoldsIn s (before ++ (t ∷ []))
 cast_follows fs out (sign u) s before e b = cast_sign_sound fs out u s before e b
 cast_follows fs out (name w) s before e b = absurd cc
@@ -326,7 +326,7 @@ cast_typed a fs out before w n b =
     (type_token w n ∷ []) b)
 
 pub cast_type_sound : (a : Syntax) (fs : List Frame) (out : List Step) (t : Token) (s : State)
-    (before : List Token) → specs.cast_wanted fs out t ≡ Some s → Fits a
+    (before : List Token) → specs.cast_expected fs out t ≡ Some s → Fits a
     → Behind fs out before (postfix a)
     (sign sign.Cast ∷ sign sign.Open ∷ (spelling a ++ (sign sign.As ∷ [])))
     → HoldsIn s (before ++ (t ∷ []))
@@ -359,7 +359,7 @@ cast_is_whole a w n fs out before f b =
     (sign sign.Close ∷ []) b))
 
 pub cast_end_sign : (a : Syntax) (w : List ℕ) (n : Bool) (fs : List Frame) (out : List Step)
-    (u : Sign) (s : State) (before : List Token) → specs.behind_cast_type fs out (sign u) ≡ Some s
+    (u : Sign) (s : State) (before : List Token) → specs.after_cast_type fs out (sign u) ≡ Some s
     → Fits a
     → Behind fs out before (postfix a ++ (cast w n ∷ []))
     (sign sign.Cast ∷ sign sign.Open ∷ (spelling a ++ (sign sign.As ∷ type_token w n ∷ [])))
@@ -395,7 +395,7 @@ cast_end_sign a w n fs out sign.Comma s before e f b = absurd cc
 cast_end_sign a w n fs out sign.Typed s before e f b = absurd cc
 
 pub cast_end_sound : (a : Syntax) (v : List ℕ) (n : Bool) (fs : List Frame) (out : List Step)
-    (t : Token) (s : State) (before : List Token) → specs.behind_cast_type fs out t ≡ Some s
+    (t : Token) (s : State) (before : List Token) → specs.after_cast_type fs out t ≡ Some s
     → Fits a
     → Behind fs out before (postfix a ++ (cast v n ∷ []))
     (sign sign.Cast ∷ sign sign.Open ∷ (spelling a ++ (sign sign.As ∷ type_token v n ∷ [])))
@@ -436,7 +436,7 @@ escaped_is k a p fs out before c ha hp fa fp place b =
     (text c ∷ []) b)))
 
 pub escaping_sound : (k : LikeKind) (fs : List Frame) (out : List Step) (t : Token) (s : State)
-    (before : List Token) → specs.behind_escape k fs out t ≡ Some s
+    (before : List Token) → specs.after_escape k fs out t ≡ Some s
     → Holds (mode.Escaping k) fs out before
     → HoldsIn s (before ++ (t ∷ []))
 escaping_sound k fs out (text c) s before e (a, p, ha, hp, fa, fp, place, b) =

@@ -20,7 +20,7 @@ use Rattle.vortex_syntax.specs.Reading as specs
 use Rattle.vortex_syntax.specs.Reading.{State, state, hole, top_hole, guard, whole, closing}
 use Rattle.vortex_syntax.specs.Reading.{Operand, operand_of, settled, waiting, shifted, operator_of}
 use Rattle.vortex_syntax.specs.Reading.{and_behind, is_behind, not_behind, close_behind, as_behind}
-use Rattle.vortex_syntax.specs.Reading.{escape_behind, end_behind, predicate, word_behind, behind}
+use Rattle.vortex_syntax.specs.Reading.{escape_behind, end_behind, predicate, word_after, behind}
 use Rattle.vortex_syntax.specs.Reading.{next, finish, run, steps_of}
 use Rattle.vortex_syntax.proofs.Tables.{top_atom}
 use Rattle.vortex_syntax.proofs.Held.{Held, opened, casting, joining, lower, upper, matching}
@@ -345,7 +345,7 @@ typed_sound l fs out s before e a =
 pub behind_sign : (l : ℕ) (fs : List Frame) (out : List Step) (u : Sign) (s : State)
     (before : List Token) → behind l fs out (sign u) ≡ Some s → HasOperand l fs out before []
     → HoldsIn s (before ++ (sign u ∷ []))
-unfolding word_behind predicate
+unfolding word_after predicate
 behind_sign l fs out sign.And s before e a = let b = settled 1 l fs out in
     and_sound b.level b.frames b.steps s before e (settled_operand 1 l fs out before [] a)
 behind_sign l fs out sign.Or s before e a = joining_sound operator.Or l fs out s before e a

@@ -185,26 +185,26 @@ predicate n level fs out sign.Ilike =
     shifted predicate_level sum_level (frame.Like (like_kind n true)) level fs out
 predicate n level fs out s = None
 
-unfoldable pub word_behind : ℕ → List Frame → List Step → Sign → Option State
-word_behind level fs out sign.And =
+unfoldable pub word_after : ℕ → List Frame → List Step → Sign → Option State
+word_after level fs out sign.And =
     let a = settled and_level level fs out in and_behind a.level a.frames a.steps
-word_behind level fs out sign.Is =
+word_after level fs out sign.Is =
     let a = settled is_level level fs out in is_behind a.level a.frames a.steps
-word_behind level fs out sign.Not =
+word_after level fs out sign.Not =
     let a = settled predicate_level level fs out in not_behind a.level a.frames a.steps
-word_behind level fs out sign.Close =
+word_after level fs out sign.Close =
     let a = settled or_level level fs out in close_behind a.frames a.steps
-word_behind level fs out sign.As =
+word_after level fs out sign.As =
     let a = settled or_level level fs out in as_behind a.frames a.steps
-word_behind level fs out sign.Escape =
+word_after level fs out sign.Escape =
     let a = settled sum_level level fs out in escape_behind a.frames a.steps
-word_behind level fs out sign.Typed =
+word_after level fs out sign.Typed =
     if nat_le literal_level level then Some (state mode.Typing fs out) else None
-word_behind level fs out s = predicate false level fs out s
+word_after level fs out s = predicate false level fs out s
 
 abbrev pub operator_or_word : ℕ → List Frame → List Step → Sign → Option WrittenOperator
     → Option State
-operator_or_word level fs out s None = word_behind level fs out s
+operator_or_word level fs out s None = word_after level fs out s
 operator_or_word level fs out s (Some o) = joining o level fs out
 
 abbrev pub behind : ℕ → List Frame → List Step → Token → Option State
@@ -216,16 +216,16 @@ negating level fs out (sign s) = predicate true level fs out s
 negating level fs out t = None
 
 -- an operand's first token
-abbrev pub sign_wanted : List Frame → List Step → Sign → Option State
-sign_wanted fs out sign.Minus = Some (state mode.Signed fs out)
-sign_wanted fs out sign.Not =
+abbrev pub sign_expected : List Frame → List Step → Sign → Option State
+sign_expected fs out sign.Minus = Some (state mode.Signed fs out)
+sign_expected fs out sign.Not =
     if nat_le (top_hole fs) not_level then Some (state mode.Want (frame.Not ∷ fs) out) else None
-sign_wanted fs out sign.Open = Some (state mode.Want (frame.Open ∷ fs) out)
-sign_wanted fs out sign.Cast = Some (state mode.Casting fs out)
-sign_wanted fs out s = None
+sign_expected fs out sign.Open = Some (state mode.Want (frame.Open ∷ fs) out)
+sign_expected fs out sign.Cast = Some (state mode.Casting fs out)
+sign_expected fs out s = None
 
 abbrev pub other_wanted : List Frame → List Step → Token → Option State
-other_wanted fs out (sign s) = sign_wanted fs out s
+other_wanted fs out (sign s) = sign_expected fs out s
 other_wanted fs out t = None
 
 abbrev pub before_operand : List Frame → List Step → Token → Option State
@@ -233,60 +233,60 @@ before_operand fs out t =
     if is_operand t then Some (state (mode.Have (operand_level t)) fs (out ++ (operand t ∷ [])))
     else other_wanted fs out t
 
-abbrev pub digits_wanted : List Frame → List Step → Token → Option State
-digits_wanted fs out (number ds) =
+abbrev pub digits_expected : List Frame → List Step → Token → Option State
+digits_expected fs out (number ds) =
     Some (state (mode.Have literal_level) fs (out ++ (negative ds ∷ [])))
-digits_wanted fs out t = None
+digits_expected fs out t = None
 
-abbrev pub type_wanted : List Frame → List Step → Token → Option State
-type_wanted fs out (name w) = Some (state (mode.Have atom_level) fs (out ++ (typed w false ∷ [])))
-type_wanted fs out (nullable w) =
+abbrev pub type_expected : List Frame → List Step → Token → Option State
+type_expected fs out (name w) = Some (state (mode.Have atom_level) fs (out ++ (typed w false ∷ [])))
+type_expected fs out (nullable w) =
     Some (state (mode.Have atom_level) fs (out ++ (typed w true ∷ [])))
-type_wanted fs out t = None
+type_expected fs out t = None
 
-abbrev pub cast_wanted : List Frame → List Step → Token → Option State
-cast_wanted fs out (name w) = Some (state mode.CastEnd fs (out ++ (cast w false ∷ [])))
-cast_wanted fs out (nullable w) = Some (state mode.CastEnd fs (out ++ (cast w true ∷ [])))
-cast_wanted fs out t = None
+abbrev pub cast_expected : List Frame → List Step → Token → Option State
+cast_expected fs out (name w) = Some (state mode.CastEnd fs (out ++ (cast w false ∷ [])))
+cast_expected fs out (nullable w) = Some (state mode.CastEnd fs (out ++ (cast w true ∷ [])))
+cast_expected fs out t = None
 
 -- the words and signs that have only one possible successor
 abbrev pub null_test : Bool → List Frame → List Step → Option State
 null_test n fs out = Some (state (mode.Have is_level) fs (out ++ (called (null_call n) ∷ [])))
 
-abbrev pub behind_is : List Frame → List Step → Token → Option State
-behind_is fs out (sign sign.Null) = null_test false fs out
-behind_is fs out (sign sign.Not) = Some (state mode.IsNot fs out)
-behind_is fs out t = None
+abbrev pub after_is : List Frame → List Step → Token → Option State
+after_is fs out (sign sign.Null) = null_test false fs out
+after_is fs out (sign sign.Not) = Some (state mode.IsNot fs out)
+after_is fs out t = None
 
-abbrev pub behind_is_not : List Frame → List Step → Token → Option State
-behind_is_not fs out (sign sign.Null) = null_test true fs out
-behind_is_not fs out t = None
+abbrev pub after_is_not : List Frame → List Step → Token → Option State
+after_is_not fs out (sign sign.Null) = null_test true fs out
+after_is_not fs out t = None
 
-abbrev pub behind_cast : List Frame → List Step → Token → Option State
-behind_cast fs out (sign sign.Open) = Some (state mode.Want (frame.Cast ∷ fs) out)
-behind_cast fs out t = None
+abbrev pub after_cast : List Frame → List Step → Token → Option State
+after_cast fs out (sign sign.Open) = Some (state mode.Want (frame.Cast ∷ fs) out)
+after_cast fs out t = None
 
-abbrev pub behind_cast_type : List Frame → List Step → Token → Option State
-behind_cast_type fs out (sign sign.Close) = Some (state (mode.Have atom_level) fs out)
-behind_cast_type fs out t = None
+abbrev pub after_cast_type : List Frame → List Step → Token → Option State
+after_cast_type fs out (sign sign.Close) = Some (state (mode.Have atom_level) fs out)
+after_cast_type fs out t = None
 
-abbrev pub behind_escape : LikeKind → List Frame → List Step → Token → Option State
-behind_escape k fs out (text e) =
+abbrev pub after_escape : LikeKind → List Frame → List Step → Token → Option State
+after_escape k fs out (text e) =
     Some (state (mode.Have predicate_level) fs (out ++ (escaped k e ∷ [])))
-behind_escape k fs out t = None
+after_escape k fs out t = None
 
 unfoldable pub next : Mode → List Frame → List Step → Token → Option State
 next mode.Want fs out t = before_operand fs out t
-next mode.Signed fs out t = digits_wanted fs out t
+next mode.Signed fs out t = digits_expected fs out t
 next (mode.Have level) fs out t = behind level fs out t
-next mode.Typing fs out t = type_wanted fs out t
-next mode.Is fs out t = behind_is fs out t
-next mode.IsNot fs out t = behind_is_not fs out t
+next mode.Typing fs out t = type_expected fs out t
+next mode.Is fs out t = after_is fs out t
+next mode.IsNot fs out t = after_is_not fs out t
 next (mode.Negating level) fs out t = negating level fs out t
-next mode.Casting fs out t = behind_cast fs out t
-next mode.CastType fs out t = cast_wanted fs out t
-next mode.CastEnd fs out t = behind_cast_type fs out t
-next (mode.Escaping k) fs out t = behind_escape k fs out t
+next mode.Casting fs out t = after_cast fs out t
+next mode.CastType fs out t = cast_expected fs out t
+next mode.CastEnd fs out t = after_cast_type fs out t
+next (mode.Escaping k) fs out t = after_escape k fs out t
 
 -- where the tokens end
 unfoldable pub finish : Mode → List Frame → List Step → Option (List Step)

@@ -136,10 +136,10 @@ impl<'a> Reading<'a> {
     }
 
     /// A sign after an operand that is no operator.
-    #[tactic(auto, unfolding(crate::specs::Reading::word_behind))]
-    fn word_behind(&mut self, level: u8, sign: Sign) -> Result<Option<Mode>, AllocError>
+    #[tactic(auto, unfolding(crate::specs::Reading::word_after))]
+    fn word_after(&mut self, level: u8, sign: Sign) -> Result<Option<Mode>, AllocError>
         ensures { Gives result self.new
-            (specs.word_behind level (frames_in self.old) (steps_in self.old) sign) }
+            (specs.word_after level (frames_in self.old) (steps_in self.old) sign) }
     {
         match sign {
             Sign::And => {
@@ -175,7 +175,7 @@ impl<'a> Reading<'a> {
         }
     }
 
-    fn sign_behind(&mut self, level: u8, sign: Sign) -> Result<Option<Mode>, AllocError>
+    fn sign_after(&mut self, level: u8, sign: Sign) -> Result<Option<Mode>, AllocError>
         ensures { Gives result self.new (specs.operator_or_word level (frames_in self.old)
             (steps_in self.old) sign (specs.operator_of sign)) }
     {
@@ -184,7 +184,7 @@ impl<'a> Reading<'a> {
                 let frame = Frame::Join(operator);
                 self.shift(own(operator), left(operator), frame, level)
             }
-            None => self.word_behind(level, sign),
+            None => self.word_after(level, sign),
         }
     }
 
@@ -194,7 +194,7 @@ impl<'a> Reading<'a> {
             (specs.behind level (frames_in self.old) (steps_in self.old) (token_in token.entry)) }
     {
         match token {
-            Token::Sign(sign) => self.sign_behind(level, sign),
+            Token::Sign(sign) => self.sign_after(level, sign),
             _ => Ok(None),
         }
     }

@@ -11,9 +11,9 @@ use crate::token::{Sign, Token};
 use std::alloc::AllocError;
 
 impl<'a> Reading<'a> {
-    fn sign_wanted(&mut self, sign: Sign) -> Result<Option<Mode>, AllocError>
+    fn sign_expected(&mut self, sign: Sign) -> Result<Option<Mode>, AllocError>
         ensures { Gives result self.new
-            (specs.sign_wanted (frames_in self.old) (steps_in self.old) sign) }
+            (specs.sign_expected (frames_in self.old) (steps_in self.old) sign) }
     {
         match sign {
             Sign::Minus => Ok(Some(Mode::Signed)),
@@ -43,15 +43,15 @@ impl<'a> Reading<'a> {
             return Ok(Some(Mode::Have(operand_level(token))));
         }
         match token {
-            Token::Sign(sign) => self.sign_wanted(sign),
+            Token::Sign(sign) => self.sign_expected(sign),
             _ => Ok(None),
         }
     }
 
     /// The digits after a minus sign.
-    pub fn digits_wanted(&mut self, token: Token<'a>) -> Result<Option<Mode>, AllocError>
+    pub fn digits_expected(&mut self, token: Token<'a>) -> Result<Option<Mode>, AllocError>
         ensures { Gives result self.new
-            (specs.digits_wanted (frames_in self.old) (steps_in self.old) (token_in token.entry)) }
+            (specs.digits_expected (frames_in self.old) (steps_in self.old) (token_in token.entry)) }
     {
         match token {
             Token::Number(digits) => {
@@ -63,9 +63,9 @@ impl<'a> Reading<'a> {
     }
 
     /// The type after two colons.
-    pub fn type_wanted(&mut self, token: Token<'a>) -> Result<Option<Mode>, AllocError>
+    pub fn type_expected(&mut self, token: Token<'a>) -> Result<Option<Mode>, AllocError>
         ensures { Gives result self.new
-            (specs.type_wanted (frames_in self.old) (steps_in self.old) (token_in token.entry)) }
+            (specs.type_expected (frames_in self.old) (steps_in self.old) (token_in token.entry)) }
     {
         match token {
             Token::Name(word) => {
@@ -81,9 +81,9 @@ impl<'a> Reading<'a> {
     }
 
     /// The type to cast to.
-    pub fn cast_wanted(&mut self, token: Token<'a>) -> Result<Option<Mode>, AllocError>
+    pub fn cast_expected(&mut self, token: Token<'a>) -> Result<Option<Mode>, AllocError>
         ensures { Gives result self.new
-            (specs.cast_wanted (frames_in self.old) (steps_in self.old) (token_in token.entry)) }
+            (specs.cast_expected (frames_in self.old) (steps_in self.old) (token_in token.entry)) }
     {
         match token {
             Token::Name(word) => {
@@ -99,9 +99,9 @@ impl<'a> Reading<'a> {
     }
 
     /// What follows `is`.
-    pub fn behind_is(&mut self, token: Token<'a>) -> Result<Option<Mode>, AllocError>
+    pub fn after_is(&mut self, token: Token<'a>) -> Result<Option<Mode>, AllocError>
         ensures { Gives result self.new
-            (specs.behind_is (frames_in self.old) (steps_in self.old) (token_in token.entry)) }
+            (specs.after_is (frames_in self.old) (steps_in self.old) (token_in token.entry)) }
     {
         match token {
             Token::Sign(Sign::Not) => Ok(Some(Mode::IsNot)),
@@ -114,9 +114,9 @@ impl<'a> Reading<'a> {
     }
 
     /// What follows `is not`.
-    pub fn behind_is_not(&mut self, token: Token<'a>) -> Result<Option<Mode>, AllocError>
+    pub fn after_is_not(&mut self, token: Token<'a>) -> Result<Option<Mode>, AllocError>
         ensures { Gives result self.new
-            (specs.behind_is_not (frames_in self.old) (steps_in self.old) (token_in token.entry)) }
+            (specs.after_is_not (frames_in self.old) (steps_in self.old) (token_in token.entry)) }
     {
         match token {
             Token::Sign(Sign::Null) => {
@@ -128,9 +128,9 @@ impl<'a> Reading<'a> {
     }
 
     /// The bracket after `cast`.
-    pub fn behind_cast(&mut self, token: Token<'a>) -> Result<Option<Mode>, AllocError>
+    pub fn after_cast(&mut self, token: Token<'a>) -> Result<Option<Mode>, AllocError>
         ensures { Gives result self.new
-            (specs.behind_cast (frames_in self.old) (steps_in self.old) (token_in token.entry)) }
+            (specs.after_cast (frames_in self.old) (steps_in self.old) (token_in token.entry)) }
     {
         match token {
             Token::Sign(Sign::Open) => {
@@ -142,9 +142,9 @@ impl<'a> Reading<'a> {
     }
 
     /// The bracket after the type of a cast.
-    pub fn behind_cast_type(&mut self, token: Token<'a>) -> Result<Option<Mode>, AllocError>
+    pub fn after_cast_type(&mut self, token: Token<'a>) -> Result<Option<Mode>, AllocError>
         ensures { Gives result self.new
-            (specs.behind_cast_type (frames_in self.old) (steps_in self.old) (token_in token.entry)) }
+            (specs.after_cast_type (frames_in self.old) (steps_in self.old) (token_in token.entry)) }
     {
         match token {
             Token::Sign(Sign::Close) => Ok(Some(Mode::Have(ATOM))),
@@ -153,13 +153,13 @@ impl<'a> Reading<'a> {
     }
 
     /// The text after `escape`.
-    pub fn behind_escape(
+    pub fn after_escape(
         &mut self,
         kind: LikeKind,
         token: Token<'a>,
     ) -> Result<Option<Mode>, AllocError>
         ensures { Gives result self.new
-            (specs.behind_escape kind (frames_in self.old) (steps_in self.old) (token_in token.entry)) }
+            (specs.after_escape kind (frames_in self.old) (steps_in self.old) (token_in token.entry)) }
     {
         match token {
             Token::Text(text) => {

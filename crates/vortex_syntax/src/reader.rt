@@ -18,7 +18,7 @@ use crate::tree::SyntaxTree;
 use std::alloc::{AllocError, Global};
 
 /// Where a token is reported: its own byte, unless it belongs to an earlier token.
-fn told_at(mode: Mode, before: usize, place: usize) -> usize {
+fn reported_at(mode: Mode, before: usize, place: usize) -> usize {
     match mode {
         Mode::Signed | Mode::Is | Mode::IsNot | Mode::Negating(_) | Mode::Escaping(_) => before,
         _ => place,
@@ -37,19 +37,19 @@ impl<'a> Reading<'a> {
         ensures { Gives result self.new
             (specs.next mode (frames_in self.old) (steps_in self.old) (token_in token.entry)) }
     {
-        self.at = told_at(mode, self.at, place);
+        self.at = reported_at(mode, self.at, place);
         match mode {
             Mode::Want => self.before_operand(token),
-            Mode::Signed => self.digits_wanted(token),
+            Mode::Signed => self.digits_expected(token),
             Mode::Have(level) => self.behind(level, token),
-            Mode::Typing => self.type_wanted(token),
-            Mode::Is => self.behind_is(token),
-            Mode::IsNot => self.behind_is_not(token),
+            Mode::Typing => self.type_expected(token),
+            Mode::Is => self.after_is(token),
+            Mode::IsNot => self.after_is_not(token),
             Mode::Negating(level) => self.negating(level, token),
-            Mode::Casting => self.behind_cast(token),
-            Mode::CastType => self.cast_wanted(token),
-            Mode::CastEnd => self.behind_cast_type(token),
-            Mode::Escaping(kind) => self.behind_escape(kind, token),
+            Mode::Casting => self.after_cast(token),
+            Mode::CastType => self.cast_expected(token),
+            Mode::CastEnd => self.after_cast_type(token),
+            Mode::Escaping(kind) => self.after_escape(kind, token),
         }
     }
 

@@ -40,7 +40,7 @@ fn in_place_of(sign: Sign, expected: Expected) -> Expected {
 
 impl<'a> Reading<'a> {
     /// What may follow an operand, by the brackets that are open.
-    fn behind_operand(&self, whole: Expected) -> Expected {
+    fn expected_after(&self, whole: Expected) -> Expected {
         for frame in self.frames.iter().rev() {
             match frame {
                 Frame::Open => return Expected::OperatorOrClose,
@@ -72,9 +72,9 @@ impl<'a> Reading<'a> {
             (Mode::Want, _) => self.operand_expected(),
             (Mode::Signed, _) => Expected::Digits,
             (Mode::Have(_), Some(Token::Sign(sign))) => {
-                in_place_of(sign, self.behind_operand(whole))
+                in_place_of(sign, self.expected_after(whole))
             }
-            (Mode::Have(_), _) => self.behind_operand(whole),
+            (Mode::Have(_), _) => self.expected_after(whole),
             (Mode::Typing | Mode::CastType, _) => Expected::TypeName,
             (Mode::Is, _) => Expected::NullOrNot,
             (Mode::IsNot, _) => Expected::Null,

@@ -1,8 +1,8 @@
 pub mod ViewBytes
 pub mod ValueWords
 pub mod Resolved
-pub mod LentValues
-pub mod LentValue
+pub mod BorrowedValues
+pub mod BorrowedValue
 pub mod Placing
 pub mod Building
 pub mod Built

@@ -14,14 +14,14 @@ pub trait ByteString: Drop {
     ghost bytes: { Self → List ℕ };
 
     /// The bytes, borrowed.
-    fn lend_bytes(&self) -> &[u8]
+    fn borrow_bytes(&self) -> &[u8]
         ensures { result.now ≡ bytes self.now };
 }
 
 impl ByteString for String {
     ghost bytes = { string_bytes };
 
-    fn lend_bytes(&self) -> &[u8] {
+    fn borrow_bytes(&self) -> &[u8] {
         self.as_bytes()
     }
 }
@@ -29,7 +29,7 @@ impl ByteString for String {
 impl ByteString for &str {
     ghost bytes = { λ s. s.now };
 
-    fn lend_bytes(&self) -> &[u8] {
+    fn borrow_bytes(&self) -> &[u8] {
         self.as_bytes()
     }
 }
@@ -37,7 +37,7 @@ impl ByteString for &str {
 impl ByteString for Vec<u8> {
     ghost bytes = { λ b. b.items };
 
-    fn lend_bytes(&self) -> &[u8] {
+    fn borrow_bytes(&self) -> &[u8] {
         self.as_slice()
     }
 }
@@ -52,7 +52,7 @@ pub fn collect_views<T: ByteString>(alloc: Global, values: &[T]) -> VortexResult
 {
     let mut builder = ViewsBuilder::new(alloc);
     for value in values {
-        builder.push(value.lend_bytes())?;
+        builder.push(value.borrow_bytes())?;
     }
     builder.finish()
 }

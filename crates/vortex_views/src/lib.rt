@@ -15,7 +15,7 @@ mod words;
 
 pub use builder::ViewsBuilder;
 pub use collect::{ByteString, collect_views};
-pub use literals::{LongFront, LongWhole, ShortFront, ShortWhole, ValueTest, WholeEnd};
+pub use literals::{LongPrefix, LongWhole, ShortPrefix, ShortWhole, ValueTest, WholeEnd};
 pub use ordered::{ConstantBytes, Row, WordsOfBytes, compare, equal};
 pub use places::{Place, Places, gather};
 pub use resolved::{ResolvedViews, check_views, fits};

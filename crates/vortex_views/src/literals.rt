@@ -7,7 +7,7 @@ ghost use Rattle.std.specs.List.{starts_with, ends_with};
 ghost use Rattle.std.specs.Str.{bytes_eq};
 ghost use Rattle.vortex_views.specs.ViewBytes.{view_bytes, inlined_view};
 ghost use Rattle.vortex_views.specs.ValueWords.{head_word, order_prefix_word, order_tail_word};
-ghost use Rattle.vortex_views.specs.LentValue.{row_value};
+ghost use Rattle.vortex_views.specs.BorrowedValue.{row_value};
 
 use crate::byte_words::equal_after;
 use crate::laws::{learn_bytes, words_tell_equal_values};
@@ -125,27 +125,27 @@ fn first_of_eight(word: u64, len: usize) -> u64
 
 /// Whether a value begins with these bytes, at most four: by its length and its first four bytes.
 #[derive(Clone, Copy)]
-pub struct ShortFront<'a> {
+pub struct ShortPrefix<'a> {
     literal: &'a [u8],
     first: u64,
     ghost short: { length literal.now ≤ 4 },
     ghost first_is: { first ≡ order_prefix_word literal.now / 256 ^ (4 - length literal.now) },
 }
 
-impl<'a> ShortFront<'a> {
-    pub fn new(literal: &'a [u8]) -> ShortFront<'a>
+impl<'a> ShortPrefix<'a> {
+    pub fn new(literal: &'a [u8]) -> ShortPrefix<'a>
         requires { length literal.now ≤ 4 }
         ensures { result.literal.now ≡ literal.now }
     {
         let prefix = u32::from_be_bytes(first_four(literal));
-        ShortFront {
+        ShortPrefix {
             literal,
             first: first_of_four(prefix, literal.len()),
         }
     }
 }
 
-impl ValueTest for ShortFront<'_> {
+impl ValueTest for ShortPrefix<'_> {
     ghost can_read = { λ t value. Unit {0} };
 
     ghost said = { λ t value. starts_with nat_eq value t.literal.now };
@@ -163,7 +163,7 @@ impl ValueTest for ShortFront<'_> {
 /// Whether a value begins with these bytes, more than four: by its length and its first four
 /// bytes, then by its next eight where these are enough, else by its bytes.
 #[derive(Clone, Copy)]
-pub struct LongFront<'a> {
+pub struct LongPrefix<'a> {
     literal: &'a [u8],
     prefix: u32,
     tail: u64,
@@ -172,12 +172,12 @@ pub struct LongFront<'a> {
     ghost tail_is: { tail ≡ order_tail_word literal.now },
 }
 
-impl<'a> LongFront<'a> {
-    pub fn new(literal: &'a [u8]) -> LongFront<'a>
+impl<'a> LongPrefix<'a> {
+    pub fn new(literal: &'a [u8]) -> LongPrefix<'a>
         requires { 4 < length literal.now }
         ensures { result.literal.now ≡ literal.now }
     {
-        LongFront {
+        LongPrefix {
             literal,
             prefix: u32::from_be_bytes(first_four(literal)),
             tail: u64::from_be_bytes(next_eight(literal, 4)),
@@ -197,7 +197,7 @@ fn begins_after(value: &[u8], literal: &[u8]) -> bool
     equal_after(&value[..literal.len()], literal, 4)
 }
 
-impl ValueTest for LongFront<'_> {
+impl ValueTest for LongPrefix<'_> {
     ghost can_read = { λ t value. Unit {0} };
 
     ghost said = { λ t value. starts_with nat_eq value t.literal.now };

@@ -51,7 +51,7 @@ pub struct ConstantBytes<'a> {
 }
 
 impl<'a> Row<'a> {
-    ghost use Rattle.vortex_views.specs.LentValue.{row_value};
+    ghost use Rattle.vortex_views.specs.BorrowedValue.{row_value};
     ghost use Rattle.vortex_views.specs.Resolved.{value_in};
 
     #[inline(always)]
@@ -73,7 +73,7 @@ impl<'a> Row<'a> {
 }
 
 impl<'a> ConstantBytes<'a> {
-    ghost use Rattle.vortex_views.specs.LentValue.{constant_value};
+    ghost use Rattle.vortex_views.specs.BorrowedValue.{constant_value};
 
     /// These bytes, with their words.
     pub fn new(bytes: &'a [u8]) -> ConstantBytes<'a>
@@ -89,7 +89,7 @@ impl<'a> ConstantBytes<'a> {
 }
 
 impl<'a> WordsOfBytes for ConstantBytes<'a> {
-    ghost use Rattle.vortex_views.specs.LentValue.{constant_value};
+    ghost use Rattle.vortex_views.specs.BorrowedValue.{constant_value};
 
     ghost value = { constant_value };
 
@@ -124,7 +124,7 @@ fn long_tail(bytes: &[u8]) -> u64
 }
 
 impl<'a> WordsOfBytes for Row<'a> {
-    ghost use Rattle.vortex_views.specs.LentValue.{row_value};
+    ghost use Rattle.vortex_views.specs.BorrowedValue.{row_value};
 
     ghost value = { row_value };
 

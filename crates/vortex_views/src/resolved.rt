@@ -21,16 +21,16 @@ pub struct ResolvedViews<'a> {
 }
 
 impl<'a> ResolvedViews<'a> {
-    ghost use Rattle.vortex_views.specs.LentValues.{lent_values, lent_views, lent_buffers};
-    ghost use Rattle.vortex_views.specs.LentValue.{row_value};
+    ghost use Rattle.vortex_views.specs.BorrowedValues.{borrowed_values, borrowed_views, borrowed_buffers};
+    ghost use Rattle.vortex_views.specs.BorrowedValue.{row_value};
 
     /// These views over the buffers that they refer to.
     pub fn new(views: &'a [BinaryView], buffers: &'a [Vec<u8>]) -> ResolvedViews<'a>
         requires { AreViewsIn (map (λ b. b.items) buffers.now) views.now }
-        ensures values { lent_values result
+        ensures values { borrowed_values result
             ≡ values_in (map (λ b. b.items) buffers.now) views.now }
-        ensures views { lent_views result ≡ views.now }
-        ensures buffers { lent_buffers result ≡ map (λ b. b.items) buffers.now }
+        ensures views { borrowed_views result ≡ views.now }
+        ensures buffers { borrowed_buffers result ≡ map (λ b. b.items) buffers.now }
     {
         ResolvedViews { views, buffers }
     }
@@ -38,7 +38,7 @@ impl<'a> ResolvedViews<'a> {
     /// How many values there are.
     #[inline(always)]
     pub fn len(&self) -> usize
-        ensures { result ≡ length (lent_values self.now) }
+        ensures { result ≡ length (borrowed_values self.now) }
     {
         self.views.len()
     }
@@ -47,11 +47,11 @@ impl<'a> ResolvedViews<'a> {
     /// offset there.
     #[inline(always)]
     pub fn view(&self, i: usize) -> &'a BinaryView
-        requires { i < length (lent_values self.now) }
-        ensures lent { view_bytes result.now
-            ≡ slice_index_or (map view_bytes (lent_views self.now)) i [] }
-        ensures fits { IsViewIn (lent_buffers self.now) (view_bytes result.now) }
-        ensures value { IsViewOf (slice_index_or (lent_values self.now) i [])
+        requires { i < length (borrowed_values self.now) }
+        ensures borrowed { view_bytes result.now
+            ≡ slice_index_or (map view_bytes (borrowed_views self.now)) i [] }
+        ensures fits { IsViewIn (borrowed_buffers self.now) (view_bytes result.now) }
+        ensures value { IsViewOf (slice_index_or (borrowed_values self.now) i [])
             (view_bytes result.now) }
     {
         view_at(self.views, i)
@@ -60,8 +60,8 @@ impl<'a> ResolvedViews<'a> {
     /// Value `i`, with its words.
     #[inline(always)]
     pub fn row(&self, i: usize) -> Row<'a>
-        requires { i < length (lent_values self.now) }
-        ensures { row_value result ≡ slice_index_or (lent_values self.now) i [] }
+        requires { i < length (borrowed_values self.now) }
+        ensures { row_value result ≡ slice_index_or (borrowed_values self.now) i [] }
     {
         Row::new(view_at(self.views, i), self.buffers)
     }
@@ -69,8 +69,8 @@ impl<'a> ResolvedViews<'a> {
     /// The bytes of value `i`, borrowed from its view or from a buffer.
     #[inline]
     pub fn bytes(&self, i: usize) -> &'a [u8]
-        requires { i < length (lent_values self.now) }
-        ensures { result.now ≡ slice_index_or (lent_values self.now) i [] }
+        requires { i < length (borrowed_values self.now) }
+        ensures { result.now ≡ slice_index_or (borrowed_values self.now) i [] }
     {
         value_of(view_at(self.views, i), self.buffers)
     }

@@ -4,7 +4,7 @@ ghost use Rattle.vortex_errors.specs.Answers.{MadeWhere};
 ghost use Rattle.vortex_errors.specs.declared.error.VortexError.TheVariants.{InvalidColumn};
 ghost use Rattle.vortex_views.specs.Places.{places_of};
 ghost use Rattle.vortex_views.specs.Resolved.{AreViewsIn, values_in};
-ghost use Rattle.vortex_views.specs.LentValues.{lent_values};
+ghost use Rattle.vortex_views.specs.BorrowedValues.{borrowed_values};
 
 use crate::places::{Places, gather};
 use crate::resolved::{ResolvedViews, check_views};
@@ -67,7 +67,7 @@ impl BinaryViews {
 
     /// The values, in place. Allocates nothing.
     pub fn resolved(&self) -> ResolvedViews<'_>
-        ensures { lent_values result ≡ self.now }
+        ensures { borrowed_values result ≡ self.now }
     {
         ResolvedViews::new(self.views.as_slice(), self.buffers.as_slice())
     }

@@ -5,8 +5,8 @@ use Rattle.vortex_types.specs.declared.dtype.StructFields.{StructFields}
 use Rattle.vortex_types.specs.TypeOf.{struct_fields}
 use Rattle.vortex_expressions.specs.declared.refusal.Refusal.{Refusal}
 use Rattle.vortex_expressions.specs.Answers.{Answer, ExpressesAll, IsRefusedAll}
-use Rattle.yurkije_columns.specs.declared.fields.LentField.{LentField}
-use Rattle.yurkije_columns.specs.Scopes.{answers, scope_lent}
+use Rattle.yurkije_columns.specs.declared.fields.BorrowedField.{BorrowedField}
+use Rattle.yurkije_columns.specs.Scopes.{answers, scope_borrowed}
 use Rattle.vortex_program.specs.declared.form.Form.TheVariants as form
 use Rattle.vortex_program.specs.declared.program.Program.{Program}
 use Rattle.vortex_program.specs.Programs.{trees_of, AreOptimized}
@@ -19,8 +19,8 @@ use Rattle.yurkije.specs.Reading.{Reads, HoldsRead}
 use Rattle.yurkije.specs.Reading.{read, no_program, without_memory}
 
 module _ (held : Option HeldView) (result : ℕ) (old report : Report) where
-  pub read_holds : (fields : List LentField) (said : List ℕ) (scope : StructFields)
-      (r : Result Program ProgramError) → scope_lent fields ≡ answers (struct_fields scope)
+  pub read_holds : (fields : List BorrowedField) (said : List ℕ) (scope : StructFields)
+      (r : Result Program ProgramError) → scope_borrowed fields ≡ answers (struct_fields scope)
       → IfOk r (λ p. p.scope ≡ scope)
       → IfOk r (λ p. AreAnswersOf form.Answers (struct_fields scope) said p.written.items)
       → IfOk r (λ p. AreOptimized p.written.items p.optimized.items)
@@ -30,11 +30,11 @@ module _ (held : Option HeldView) (result : ℕ) (old report : Report) where
       → RefusesFor w r)
       → IfErr r (IsNoText said) → Reads r held result old report
       → HoldsRead fields said held result old report
-  read_holds fields said scope (Ok p) lent same asked kept only refused utf8 (inl h) =
-      read p (lent ∙ ap (λ s. answers (struct_fields s)) (sym same))
+  read_holds fields said scope (Ok p) borrowed same asked kept only refused utf8 (inl h) =
+      read p (borrowed ∙ ap (λ s. answers (struct_fields s)) (sym same))
       (subst (λ s. AreAnswersOf form.Answers (struct_fields s) said p.written.items) (sym same) asked) kept h.0 h.1
-  read_holds fields said scope (Ok p) lent same asked kept only refused utf8 (inr w) =
+  read_holds fields said scope (Ok p) borrowed same asked kept only refused utf8 (inr w) =
       without_memory w
-  read_holds fields said scope (Err e) lent same asked kept only refused utf8 h =
-      no_program (struct_fields scope) e lent
+  read_holds fields said scope (Err e) borrowed same asked kept only refused utf8 h =
+      no_program (struct_fields scope) e borrowed
       (record { utf8 = utf8; only = only; refused = refused }) h

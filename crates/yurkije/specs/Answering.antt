@@ -9,21 +9,21 @@ use Rattle.vortex_columns.specs.TrueRows.{true_rows}
 use Rattle.vortex_arrow.specs.declared.column.ArrowColumn.{ArrowColumn}
 use Rattle.vortex_arrow.specs.declared.error.CopyError.{CopyError}
 use Rattle.vortex_arrow.specs.Written.{SameBehind, RefusesSelection}
-use Rattle.yurkije_columns.specs.declared.lent.LentColumn.{LentColumn}
-use Rattle.yurkije_columns.specs.declared.lent.LentError.{LentError}
+use Rattle.yurkije_columns.specs.declared.borrowed.BorrowedColumn.{BorrowedColumn}
+use Rattle.yurkije_columns.specs.declared.borrowed.BorrowedError.{BorrowedError}
 use Rattle.yurkije_columns.specs.declared.rooms.Size.{Size}
 use Rattle.yurkije_columns.specs.declared.rooms.Room.{Room}
 use Rattle.yurkije_columns.specs.declared.rooms.RoomError.{RoomError}
 use Rattle.yurkije_columns.specs.declared.rooms.RoomError.TheVariants as room
-use Rattle.yurkije_columns.specs.Lent.{AllSay, RefusesLent}
+use Rattle.yurkije_columns.specs.Borrowed.{AllSay, RefusesBorrowed}
 use Rattle.yurkije_columns.specs.Rooms.{IsSize, RefusesSize, IsCopied, RefusesCopy}
 use Rattle.yurkije_columns.specs.Statuses.{copy_status}
-use Rattle.yurkije_core.specs.declared.running.RunError.{RunError}
+use Rattle.yurkije_core.specs.declared.running.BatchRunError.{BatchRunError}
 use Rattle.yurkije_core.specs.declared.report.Report.{Report}
 use Rattle.yurkije_core.specs.Running.{AnswersBatch, RefusesRun}
-use Rattle.yurkije_core.specs.Reports.{Tells, nowhere, lent_told, run_told}
+use Rattle.yurkije_core.specs.Reports.{Tells, nowhere, borrowed_told, run_told}
 use Rattle.yurkije_core.specs.Messages.{HasMessage, IsRunWords}
-use Rattle.yurkije_columns.specs.Messages.{lent_words}
+use Rattle.yurkije_columns.specs.Messages.{borrowed_words}
 use Rattle.yurkije.specs.Views.{ProgramView, HeldView, answers_in}
 use Rattle.yurkije.specs.Asking.{Asks}
 use Rattle.yurkije.specs.Reading.{Done, Wants, Refuses}
@@ -31,22 +31,22 @@ use Rattle.yurkije.specs.Reading.{Done, Wants, Refuses}
 -- The handle holds what the program answers over the columns that are lent, and 0 is answered; or
 -- it holds nothing, and why is told: a column is wrong, or an answer faults, or memory ran out. Of a
 -- program that was read, what is run are rewrites of what was written.
-pub data HoldsAnswers (p : ProgramView) (lent : List LentColumn) (rows : ℕ) (held : Option HeldView)
+pub data HoldsAnswers (p : ProgramView) (borrowed : List BorrowedColumn) (rows : ℕ) (held : Option HeldView)
     (result : ℕ) (old report : Report) : Type 0 where
-  answered : (columns : List ArrowColumn) (answers : List ColumnView) → AllSay lent columns
+  answered : (columns : List ArrowColumn) (answers : List ColumnView) → AllSay borrowed columns
       → (AllMean (Rewrites meaning) p.written p.optimized
       → AnswersBatch p.scope rows columns p.written answers)
       → answers_in held ≡ Some answers → Done result old report
-      → HoldsAnswers p lent rows held result old report
-  no_kind : (e : LentError) → RefusesLent lent e
-      → Refuses (λ w. w ≡ lent_words e) (lent_told e) held result old report
-      → HoldsAnswers p lent rows held result old report
-  refused : (columns : List ArrowColumn) (e : RunError) → AllSay lent columns
+      → HoldsAnswers p borrowed rows held result old report
+  no_kind : (e : BorrowedError) → RefusesBorrowed borrowed e
+      → Refuses (λ w. w ≡ borrowed_words e) (borrowed_told e) held result old report
+      → HoldsAnswers p borrowed rows held result old report
+  refused : (columns : List ArrowColumn) (e : BatchRunError) → AllSay borrowed columns
       → (AllMean (Rewrites meaning) p.written p.optimized
       → RefusesRun p.scope rows columns p.written p.optimized e)
       → Refuses (IsRunWords p.scope p.names rows e) (run_told e) held result old report
-      → HoldsAnswers p lent rows held result old report
-  without_memory : Wants held result old report → HoldsAnswers p lent rows held result old report
+      → HoldsAnswers p borrowed rows held result old report
+  without_memory : Wants held result old report → HoldsAnswers p borrowed rows held result old report
 
 -- there is no program to run
 pub record HoldsNothing (held : Option HeldView) (result : ℕ) (old report : Report) : Type 0 where
@@ -55,10 +55,10 @@ pub record HoldsNothing (held : Option HeldView) (result : ℕ) (old report : Re
   pub told : Tells report (nowhere 100)
   pub message : HasMessage (codes "the handle holds no expression") old report
 
-abbrev pub Runs : Option ProgramView → List LentColumn → ℕ → Option HeldView → ℕ → Report → Report
+abbrev pub Runs : Option ProgramView → List BorrowedColumn → ℕ → Option HeldView → ℕ → Report → Report
     → Type 0
-Runs None lent rows held result old report = HoldsNothing held result old report
-Runs (Some p) lent rows held result old report = HoldsAnswers p lent rows held result old report
+Runs None borrowed rows held result old report = HoldsNothing held result old report
+Runs (Some p) borrowed rows held result old report = HoldsAnswers p borrowed rows held result old report
 
 -- how long the buffers have to be, or why that is not told, and then nothing is
 abbrev pub Sizes : ColumnView → Size → Size → ℕ → Type 0

@@ -5,9 +5,9 @@ use Rattle.vortex_types.specs.LogicalTypes.{Fields}
 use Rattle.vortex_types.specs.TypeOf.{struct_fields}
 use Rattle.vortex_expressions.specs.declared.refusal.Refusal.{Refusal}
 use Rattle.vortex_expressions.specs.Answers.{Answer, ExpressesAll, IsRefusedAll}
-use Rattle.yurkije_columns.specs.declared.fields.LentField.{LentField}
-use Rattle.yurkije_columns.specs.declared.fields.ScopeError.{ScopeError}
-use Rattle.yurkije_columns.specs.Scopes.{answers, refuses, scope_lent}
+use Rattle.yurkije_columns.specs.declared.fields.BorrowedField.{BorrowedField}
+use Rattle.yurkije_columns.specs.declared.fields.FieldError.{FieldError}
+use Rattle.yurkije_columns.specs.Scopes.{answers, refuses, scope_borrowed}
 use Rattle.vortex_program.specs.declared.form.Form.TheVariants as form
 use Rattle.vortex_program.specs.declared.program.Program.{Program}
 use Rattle.vortex_program.specs.Programs.{AreOptimized}
@@ -15,7 +15,7 @@ use Rattle.vortex_program.specs.Texts.{AreAnswersOf}
 use Rattle.yurkije_core.specs.declared.reading.ProgramError.{ProgramError}
 use Rattle.yurkije_core.specs.declared.report.Report.{Report}
 use Rattle.yurkije_core.specs.Programs.{IsNoText, IsOutOfMemory, IsFor}
-use Rattle.yurkije_core.specs.declared.report.Told.{Told}
+use Rattle.yurkije_core.specs.declared.report.ErrorNumbers.{ErrorNumbers}
 use Rattle.yurkije_core.specs.Messages.{HasMessage, IsToldIn, IsProgramWords}
 use Rattle.yurkije_columns.specs.Messages.{memory_words, scope_words}
 use Rattle.yurkije_columns.specs.declared.fields.ScopeFault.TheVariants.{OutOfMemory}
@@ -40,7 +40,7 @@ pub record Wants (held : Option HeldView) (result : ℕ) (old report : Report) :
   pub message : HasMessage memory_words old report
 
 -- the handle holds nothing, and that is told in words of P
-pub record Refuses (P : List ℕ → Type 0) (t : Told) (held : Option HeldView) (result : ℕ)
+pub record Refuses (P : List ℕ → Type 0) (t : ErrorNumbers) (held : Option HeldView) (result : ℕ)
     (old report : Report) : Type 0 where
   pub left : held ≡ None
   pub status : result ≡ t.status
@@ -63,16 +63,16 @@ pub record IsRefusedText (scope : Fields) (text : List ℕ) (e : ProgramError) :
 
 -- the handle holds what the text means over the fields, and 0 is returned; or it holds nothing, and
 -- why is told: a field is wrong, or the text, or memory ran out
-pub data HoldsRead (fields : List LentField) (text : List ℕ) (held : Option HeldView) (result : ℕ)
+pub data HoldsRead (fields : List BorrowedField) (text : List ℕ) (held : Option HeldView) (result : ℕ)
     (old report : Report) : Type 0 where
-  read : (p : Program) → scope_lent fields ≡ answers (struct_fields p.scope)
+  read : (p : Program) → scope_borrowed fields ≡ answers (struct_fields p.scope)
       → AreAnswersOf form.Answers (struct_fields p.scope) text p.written.items
       → AreOptimized p.written.items p.optimized.items → Holds held p → Done result old report
       → HoldsRead fields text held result old report
-  no_scope : (e : ScopeError) → (e.fault ≢ OutOfMemory → scope_lent fields ≡ refuses e)
+  no_scope : (e : FieldError) → (e.fault ≢ OutOfMemory → scope_borrowed fields ≡ refuses e)
       → Refuses (λ w. w ≡ scope_words e.field e.fault) (scope_told e) held result old report
       → HoldsRead fields text held result old report
-  no_program : (scope : Fields) (e : ProgramError) → scope_lent fields ≡ answers scope
+  no_program : (scope : Fields) (e : ProgramError) → scope_borrowed fields ≡ answers scope
       → IsRefusedText scope text e
       → Refuses (IsProgramWords e) (program_told e) held result old report
       → HoldsRead fields text held result old report

@@ -7,8 +7,8 @@ use crate::handle::Handle;
 use crate::running::{put_answer, put_size, put_true_rows, run_held};
 use crate::statuses::EMPTY_HANDLE;
 use std::alloc::Global;
-use yurkije_columns::{LentColumn, Room, Size, placed};
-use yurkije_core::{Report, Told};
+use yurkije_columns::{BorrowedColumn, Room, Size, placed};
+use yurkije_core::{ErrorNumbers, Report};
 
 /// Runs the expression over a batch. 0 exactly where the handle then holds its answers; that of
 /// answers is empty where the call is refused.
@@ -16,7 +16,7 @@ use yurkije_core::{Report, Told};
 pub extern "C" fn yk_run(
     alloc: Global,
     expression: &mut Handle,
-    columns: &[LentColumn<'_>],
+    columns: &[BorrowedColumn<'_>],
     rows: usize,
     answers: &mut Handle,
     error: &mut Report<'_>,
@@ -27,7 +27,10 @@ pub extern "C" fn yk_run(
 {
     answers.clear(alloc);
     let Some(held) = expression.open(alloc) else {
-        return error.tell(Told::of(EMPTY_HANDLE), "the handle holds no expression");
+        return error.tell(
+            ErrorNumbers::of(EMPTY_HANDLE),
+            "the handle holds no expression",
+        );
     };
     let status = run_held(alloc, &held, placed(columns), rows, answers, error);
     expression.close(held);

@@ -13,8 +13,8 @@ use crate::queries::{
 };
 use crate::statuses::{EMPTY_HANDLE, OUT_OF_MEMORY};
 use std::alloc::Global;
-use yurkije_columns::{LentField, Type, placed, read_fields, scope_words};
-use yurkije_core::{Program, ProgramError, Report, Told, program_words, read_program};
+use yurkije_columns::{BorrowedField, Type, placed, read_fields, scope_words};
+use yurkije_core::{ErrorNumbers, Program, ProgramError, Report, program_words, read_program};
 
 /// Holds a program, or tells why there is none.
 fn hold(
@@ -30,7 +30,7 @@ fn hold(
         Ok(program) => program,
         Err(wrong) => {
             let words = program_words(alloc, &wrong);
-            return error.tell_in(Told::of_program(&wrong), words);
+            return error.report_text(ErrorNumbers::of_program(&wrong), words);
         }
     };
     match Box::new(alloc, Held::of_program(program)) {
@@ -38,7 +38,7 @@ fn hold(
             expression.close(held);
             error.clear()
         }
-        Err(_) => error.tell(Told::of(OUT_OF_MEMORY), "out of memory"),
+        Err(_) => error.tell(ErrorNumbers::of(OUT_OF_MEMORY), "out of memory"),
     }
 }
 
@@ -48,7 +48,7 @@ fn hold(
 pub extern "C" fn yk_expression_new(
     alloc: Global,
     text: &[u8],
-    fields: &[LentField<'_>],
+    fields: &[BorrowedField<'_>],
     expression: &mut Handle,
     error: &mut Report<'_>,
 ) -> u32
@@ -62,7 +62,7 @@ pub extern "C" fn yk_expression_new(
         }
         Err(wrong) => {
             let words = scope_words(alloc, wrong);
-            error.tell_in(Told::of_scope(wrong), words)
+            error.report_text(ErrorNumbers::of_scope(wrong), words)
         }
     }
 }

@@ -8,7 +8,7 @@ ghost use Rattle.yurkije.specs.Asking.{TellsAnswerName, TellsAnswerType, TellsAn
 use crate::held::Held;
 use crate::statuses::{EMPTY_HANDLE, NO_SUCH_NUMBER, OK, OUT_OF_MEMORY, ROOM_TOO_SMALL};
 use std::alloc::Global;
-use yurkije_columns::{Type, put_text, type_told};
+use yurkije_columns::{Type, put_text, reported_type};
 
 /// Writes a text, and tells how long it is.
 pub(crate) fn put(text: &str, room: &mut [u8], len: &mut usize) -> u32
@@ -59,7 +59,7 @@ pub(crate) fn field_type(held: &Held, field: usize, dtype: &mut Type) -> u32
     match held.program() {
         Some(program) => {
             if field < program.scope.len() {
-                *dtype = type_told(program.scope.dtype(field));
+                *dtype = reported_type(program.scope.dtype(field));
                 OK
             } else {
                 NO_SUCH_NUMBER
@@ -103,7 +103,7 @@ pub(crate) fn answer_type(held: &Held, answer: usize, dtype: &mut Type) -> u32
     match held.program() {
         Some(program) => match program.written.get(answer) {
             Some(answer) => {
-                *dtype = type_told(answer.tree.dtype());
+                *dtype = reported_type(answer.tree.dtype());
                 OK
             }
             None => NO_SUCH_NUMBER,

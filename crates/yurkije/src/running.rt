@@ -13,9 +13,9 @@ use vortex_arrow::{IndexType, copy_true_rows, true_count};
 use vortex_columns::Column;
 use yurkije_columns::statuses::copy_status;
 use yurkije_columns::{
-    LentColumn, Room, RoomError, Size, arrow_columns, copy_answer, lent_words, size_of,
+    BorrowedColumn, Room, RoomError, Size, arrow_columns, borrowed_words, copy_answer, size_of,
 };
-use yurkije_core::{Program, Report, Told, run_program, run_words};
+use yurkije_core::{ErrorNumbers, Program, Report, run_program, run_words};
 
 /// Holds answers, or tells that memory ran out.
 fn hold(alloc: Global, columns: Vec<Column>, answers: &mut Handle, error: &mut Report<'_>) -> u32
@@ -27,7 +27,7 @@ fn hold(alloc: Global, columns: Vec<Column>, answers: &mut Handle, error: &mut R
             answers.close(held);
             error.clear()
         }
-        Err(_) => error.tell(Told::of(OUT_OF_MEMORY), "out of memory"),
+        Err(_) => error.tell(ErrorNumbers::of(OUT_OF_MEMORY), "out of memory"),
     }
 }
 
@@ -35,7 +35,7 @@ fn hold(alloc: Global, columns: Vec<Column>, answers: &mut Handle, error: &mut R
 fn run(
     alloc: Global,
     program: &Program,
-    columns: &[LentColumn<'_>],
+    columns: &[BorrowedColumn<'_>],
     rows: usize,
     answers: &mut Handle,
     error: &mut Report<'_>,
@@ -47,15 +47,15 @@ fn run(
     let columns = match arrow_columns(alloc, columns) {
         Ok(columns) => columns,
         Err(wrong) => {
-            let words = lent_words(alloc, wrong);
-            return error.tell_in(Told::of_lent(wrong), words);
+            let words = borrowed_words(alloc, wrong);
+            return error.report_text(ErrorNumbers::of_borrowed(wrong), words);
         }
     };
     match run_program(alloc, program, &columns, rows) {
         Ok(columns) => hold(alloc, columns, answers, error),
         Err(wrong) => {
             let words = run_words(alloc, program, &wrong, rows);
-            error.tell_in(Told::of_run(&wrong), words)
+            error.report_text(ErrorNumbers::of_run(&wrong), words)
         }
     }
 }
@@ -64,7 +64,7 @@ fn run(
 pub(crate) fn run_held(
     alloc: Global,
     held: &Held,
-    columns: &[LentColumn<'_>],
+    columns: &[BorrowedColumn<'_>],
     rows: usize,
     answers: &mut Handle,
     error: &mut Report<'_>,
@@ -75,7 +75,10 @@ pub(crate) fn run_held(
 {
     match held.program() {
         Some(program) => run(alloc, program, columns, rows, answers, error),
-        None => error.tell(Told::of(EMPTY_HANDLE), "the handle holds no expression"),
+        None => error.tell(
+            ErrorNumbers::of(EMPTY_HANDLE),
+            "the handle holds no expression",
+        ),
     }
 }
 
@@ -94,7 +97,7 @@ fn column_of(held: &Held, answer: usize) -> Result<&Column, u32>
 }
 
 /// How long the buffers of an answer have to be.
-fn size_told(column: &Column, size: &mut Size) -> u32
+fn reported_size(column: &Column, size: &mut Size) -> u32
     ensures { Sizes column.now size.old size.new result }
 {
     match size_of(column) {
@@ -111,7 +114,7 @@ pub(crate) fn put_size(held: &Held, answer: usize, size: &mut Size) -> u32
         (λ c. Sizes c size.old size.new result) }
 {
     match column_of(held, answer) {
-        Ok(column) => size_told(column, size),
+        Ok(column) => reported_size(column, size),
         Err(status) => status,
     }
 }
@@ -138,7 +141,7 @@ pub(crate) fn put_answer(held: &Held, answer: usize, room: &mut Room<'_>) -> u32
 }
 
 /// The numbers of the rows of a column that are true.
-fn true_rows_told<I: IndexType>(column: &Column, numbers: &mut [I], count: &mut usize) -> u32
+fn reported_true_rows<I: IndexType>(column: &Column, numbers: &mut [I], count: &mut usize) -> u32
     ensures { SelectsBy I.number column.now I.most numbers.old numbers.new count.new result }
 {
     *count = true_count(column);
@@ -159,7 +162,7 @@ pub(crate) fn put_true_rows<I: IndexType>(
         (λ c. SelectsBy I.number c I.most numbers.old numbers.new count.new result) }
 {
     match column_of(held, answer) {
-        Ok(column) => true_rows_told(column, numbers, count),
+        Ok(column) => reported_true_rows(column, numbers, count),
         Err(status) => status,
     }
 }

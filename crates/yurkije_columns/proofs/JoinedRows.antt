@@ -168,15 +168,15 @@ module _ (n : ℕ) (rows : List Value) (old_bits : List ℕ) (old : Layout) (new
   value_or false v w e plain = let none : is_null v ≡ true = ap is_null e in cc
 
   -- a row of those after them
-  behind_is : (b : Bool) → (b ≡ false → (j : ℕ) → j < length rows → is_null (row rows j) ≡ false)
+  after_is : (b : Bool) → (b ≡ false → (j : ℕ) → j < length rows → is_null (row rows j) ≡ false)
       → (j : ℕ) → j < length rows
       → row rows j ≡ said b new_bits new (n + length rows) (n + j)
-  behind_is false plain j lt =
+  after_is false plain j lt =
       let place : 0 + (n + j) ≡ n + j = omega arith in
       value_or (bit_of new_bits (n + j)) (row rows j) (value_at new (n + j)) (joins.behind j lt)
       (plain refl j lt)
       ∙ ap (value_at new) (sym place)
-  behind_is true plain j lt =
+  after_is true plain j lt =
       let place : 0 + (n + j) ≡ n + j = omega arith in
       joins.behind j lt
       ∙ ap (λ b. cond b (value_at new (n + j)) null)
@@ -209,7 +209,7 @@ module _ (n : ℕ) (rows : List Value) (old_bits : List ℕ) (old : Layout) (new
         get_or-append_right (rows_in b old_bits old n) rows n i null (counted b old_bits old n)
         (omega (arith, h.2))
         ∙ ap (row rows) back
-        ∙ behind_is b plain h.0 h.1
+        ∙ after_is b plain h.0 h.1
         ∙ ap (said b new_bits new (n + length rows)) (sym h.2)
 
     pub joined_rows : rows_in b new_bits new (n + length rows)

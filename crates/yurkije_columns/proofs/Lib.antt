@@ -1,6 +1,6 @@
 pub mod Serving
 pub mod ScopesSoFar
-pub mod LentSoFar
+pub mod BorrowedSoFar
 pub mod TextRooms
 pub mod PutMessages
 pub mod JoinedRows

@@ -8,22 +8,22 @@ use Rattle.vortex_arrow.specs.Columns.{IsWellFormed}
 use Rattle.vortex_arrow.specs.Refusals.{TellsOf}
 use Rattle.yurkije_columns.specs.declared.batch.ColumnFault.{ColumnFault}
 use Rattle.yurkije_columns.specs.declared.batch.ColumnFault.TheVariants as fault
-use Rattle.yurkije_columns.specs.declared.batch.BatchError.{BatchError}
+use Rattle.yurkije_columns.specs.declared.batch.ColumnError.{ColumnError}
 
-abbrev pub type_lent : ArrowColumn → LogicalType
-type_lent c = layout_type (layout_of c.values) c.nullable
+abbrev pub type_borrowed : ArrowColumn → LogicalType
+type_borrowed c = layout_type (layout_of c.values) c.nullable
 
 -- the column serves a field of that type, in a batch of n rows
 pub record Serves (t : LogicalType) (n : ℕ) (c : ArrowColumn) : Type 0 where
-  pub dtype : type_lent c ≡ t
+  pub dtype : type_borrowed c ≡ t
   pub rows : c.length ≡ n
   pub buffers : IsWellFormed c
 
 -- why a column does not
 abbrev pub RefusesColumn : LogicalType → ℕ → ArrowColumn → ColumnFault → Type 0
-RefusesColumn t n c fault.OtherType = type_lent c ≢ t
-RefusesColumn t n c (fault.OtherLength rows) = (type_lent c ≡ t) × (rows ≡ c.length) × (rows ≢ n)
-RefusesColumn t n c (fault.Unread e) = (type_lent c ≡ t) × (c.length ≡ n) × TellsOf c e
+RefusesColumn t n c fault.OtherType = type_borrowed c ≢ t
+RefusesColumn t n c (fault.OtherLength rows) = (type_borrowed c ≡ t) × (rows ≡ c.length) × (rows ≢ n)
+RefusesColumn t n c (fault.Unread e) = (type_borrowed c ≡ t) × (c.length ≡ n) × TellsOf c e
 RefusesColumn t n c e = ⊥
 
 module _ (scope : Fields) (n : ℕ) (cs : List ArrowColumn) where
@@ -39,7 +39,7 @@ module _ (scope : Fields) (n : ℕ) (cs : List ArrowColumn) where
     pub serve : FirstServe (length cs)
 
   -- the first column that does not serve its field
-  pub record IsWrong (e : BatchError) : Type 0 where
+  pub record IsWrong (e : ColumnError) : Type 0 where
     pub each : length cs ≡ field_count scope
     pub column : ArrowColumn
     pub there : slice_get cs e.column ≡ Some column
@@ -48,7 +48,7 @@ module _ (scope : Fields) (n : ℕ) (cs : List ArrowColumn) where
 
   -- why a batch is refused: there are fewer or more columns than fields, or one does not serve; or
   -- memory ran out
-  pub data RefusesBatch (e : BatchError) : Type 0 where
+  pub data RefusesBatch (e : ColumnError) : Type 0 where
     missing : e.fault ≡ fault.Missing → e.column ≡ length cs → length cs < field_count scope
         → RefusesBatch e
     unasked : e.fault ≡ fault.Unasked → e.column ≡ field_count scope

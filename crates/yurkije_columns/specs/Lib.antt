@@ -1,7 +1,7 @@
 pub mod Kinds
 pub mod Checking
 pub mod Joining
-pub mod Lent
+pub mod Borrowed
 pub mod Scopes
 pub mod Batches
 pub mod Statuses

@@ -11,8 +11,8 @@ use Rattle.yurkije_columns.specs.declared.batch.ColumnFault.{ColumnFault}
 use Rattle.yurkije_columns.specs.declared.batch.ColumnFault.TheVariants as column
 use Rattle.yurkije_columns.specs.declared.fields.ScopeFault.{ScopeFault}
 use Rattle.yurkije_columns.specs.declared.fields.ScopeFault.TheVariants as scope
-use Rattle.yurkije_columns.specs.declared.lent.LentError.{LentError}
-use Rattle.yurkije_columns.specs.declared.lent.LentError.TheVariants as lent
+use Rattle.yurkije_columns.specs.declared.borrowed.BorrowedError.{BorrowedError}
+use Rattle.yurkije_columns.specs.declared.borrowed.BorrowedError.TheVariants as borrowed
 
 -- memory ran out
 abbrev pub memory_words : List ℕ
@@ -27,9 +27,9 @@ scope_words k scope.NameTwice =
 scope_words k scope.OutOfMemory = memory_words
 
 -- why columns are not taken
-abbrev pub lent_words : LentError → List ℕ
-lent_words (lent.UnknownKind k) = codes "column " ++ decimal k ++ codes ": no kind has that number"
-lent_words lent.OutOfMemory = memory_words
+abbrev pub borrowed_words : BorrowedError → List ℕ
+borrowed_words (borrowed.UnknownKind k) = codes "column " ++ decimal k ++ codes ": no kind has that number"
+borrowed_words borrowed.OutOfMemory = memory_words
 
 -- the name of a field, or none where there is no such field
 abbrev pub name_of_field : Fields → ℕ → List ℕ

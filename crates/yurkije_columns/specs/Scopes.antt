@@ -4,10 +4,10 @@ use Rattle.std.specs.Str.{is_utf8}
 use Rattle.vortex_types.specs.LogicalTypes.{LogicalType, Fields, no_fields, with_field}
 use Rattle.vortex_types.specs.LogicalTypes.{find_field}
 use Rattle.yurkije_columns.specs.declared.kinds.Kind.{Kind}
-use Rattle.yurkije_columns.specs.declared.fields.LentField.{LentField}
+use Rattle.yurkije_columns.specs.declared.fields.BorrowedField.{BorrowedField}
 use Rattle.yurkije_columns.specs.declared.fields.ScopeFault.{ScopeFault}
 use Rattle.yurkije_columns.specs.declared.fields.ScopeFault.TheVariants as fault
-use Rattle.yurkije_columns.specs.declared.fields.ScopeError.{ScopeError}
+use Rattle.yurkije_columns.specs.declared.fields.FieldError.{FieldError}
 use Rattle.yurkije_columns.specs.Kinds.{kind_numbered, kind_type}
 
 -- a scope, or what is wrong
@@ -27,22 +27,22 @@ if_known fs name n (Some k) =
     else refuses fault.NotUtf8
 
 -- one field more
-abbrev pub with_lent : Fields → LentField → Outcome ScopeFault
-with_lent fs f = if_known fs f.name.now f.nullable (kind_numbered f.kind)
+abbrev pub with_borrowed : Fields → BorrowedField → Outcome ScopeFault
+with_borrowed fs f = if_known fs f.name.now f.nullable (kind_numbered f.kind)
 
 -- at that place
-abbrev pub numbered : ℕ → Outcome ScopeFault → Outcome ScopeError
+abbrev pub numbered : ℕ → Outcome ScopeFault → Outcome FieldError
 numbered k (answers fs) = answers fs
 numbered k (refuses f) = refuses (record { field = k; fault = f })
 
-abbrev pub and_lent : ℕ → Outcome ScopeError → LentField → Outcome ScopeError
-and_lent k (answers fs) f = numbered k (with_lent fs f)
-and_lent k (refuses e) f = refuses e
+abbrev pub and_borrowed : ℕ → Outcome FieldError → BorrowedField → Outcome FieldError
+and_borrowed k (answers fs) f = numbered k (with_borrowed fs f)
+and_borrowed k (refuses e) f = refuses e
 
 -- all of them behind others, of which there are k
-abbrev pub lent_behind : ℕ → Outcome ScopeError → List LentField → Outcome ScopeError
-lent_behind k o [] = o
-lent_behind k o (f ∷ rest) = lent_behind (k + 1) (and_lent k o f) rest
+abbrev pub borrowed_behind : ℕ → Outcome FieldError → List BorrowedField → Outcome FieldError
+borrowed_behind k o [] = o
+borrowed_behind k o (f ∷ rest) = borrowed_behind (k + 1) (and_borrowed k o f) rest
 
-abbrev pub scope_lent : List LentField → Outcome ScopeError
-scope_lent fields = lent_behind 0 (answers no_fields) fields
+abbrev pub scope_borrowed : List BorrowedField → Outcome FieldError
+scope_borrowed fields = borrowed_behind 0 (answers no_fields) fields

@@ -3,7 +3,7 @@ ghost use Rattle.std.specs.Prelude.{◌≡◌, ℕ, length, map, MatchResult};
 ghost use Rattle.vortex_types.specs.LogicalTypes.{integer_type, field_count};
 ghost use Rattle.vortex_types.specs.TypeOf.{type_of, struct_fields, allows_null};
 ghost use Rattle.vortex_arrow.specs.Columns.{arrow_column};
-ghost use Rattle.yurkije_columns.specs.Batches.{type_lent, Serves, RefusesColumn, AllServe};
+ghost use Rattle.yurkije_columns.specs.Batches.{type_borrowed, Serves, RefusesColumn, AllServe};
 ghost use Rattle.yurkije_columns.specs.Batches.{RefusesBatch};
 
 use crate::kinds::nullability;
@@ -29,14 +29,14 @@ pub enum ColumnFault {
 
 /// Why a batch is refused: the first column that is wrong.
 #[derive(Clone, Copy, Debug, Drop, PartialEq, Eq)]
-pub struct BatchError {
+pub struct ColumnError {
     pub column: usize,
     pub fault: ColumnFault,
 }
 
 /// The type of a column's values.
 fn dtype_of(column: &ArrowColumn<'_>) -> DType
-    ensures { type_of result ≡ type_lent column.now }
+    ensures { type_of result ≡ type_borrowed column.now }
 {
     let nullability = nullability(column.nullable);
     match column.values {
@@ -65,7 +65,7 @@ pub(crate) fn check_shape(
     rows: usize,
 ) -> Result<(), ColumnFault>
     ensures { MatchResult result
-        (λ _. (type_lent column.now ≡ type_of dtype.now) × (column.now.length ≡ rows))
+        (λ _. (type_borrowed column.now ≡ type_of dtype.now) × (column.now.length ≡ rows))
         (RefusesColumn (type_of dtype.now) rows column.now) }
 {
     if dtype_of(column) != *dtype {
@@ -101,19 +101,19 @@ pub(crate) fn read_field(
 pub(crate) fn check_count(
     scope: &StructFields,
     columns: &[ArrowColumn<'_>],
-) -> Result<(), BatchError>
+) -> Result<(), ColumnError>
     ensures { MatchResult result
         (λ _. length columns.now ≡ field_count (struct_fields scope.now))
         (λ e. (rows : ℕ) → RefusesBatch (struct_fields scope.now) rows columns.now e) }
 {
     if columns.len() < scope.len() {
-        return Err(BatchError {
+        return Err(ColumnError {
             column: columns.len(),
             fault: ColumnFault::Missing,
         });
     }
     if scope.len() < columns.len() {
-        return Err(BatchError {
+        return Err(ColumnError {
             column: scope.len(),
             fault: ColumnFault::Unasked,
         });
@@ -129,7 +129,7 @@ pub fn read_batch(
     scope: &StructFields,
     columns: &[ArrowColumn<'_>],
     rows: usize,
-) -> Result<Vec<Column>, BatchError>
+) -> Result<Vec<Column>, ColumnError>
     ensures { MatchResult result
         (λ read. AllServe (struct_fields scope.now) rows columns.now
         × (read.items ≡ map arrow_column columns.now))
@@ -137,7 +137,7 @@ pub fn read_batch(
 {
     check_count(scope, columns)?;
     let Ok(mut read) = Vec::with_capacity(alloc, columns.len()) else {
-        return Err(BatchError {
+        return Err(ColumnError {
             column: 0,
             fault: ColumnFault::Unread(ArrowError::OutOfMemory),
         });
@@ -145,7 +145,7 @@ pub fn read_batch(
     for (k, column) in columns.iter().enumerate() {
         match read_field(alloc, scope.dtype(k), column, rows) {
             Ok(field) => read.push_reserved(field),
-            Err(fault) => return Err(BatchError { column: k, fault }),
+            Err(fault) => return Err(ColumnError { column: k, fault }),
         }
     }
     Ok(read)

@@ -6,7 +6,7 @@ ghost use Rattle.vortex_arrow.specs.Refusals.{AreLongEnough, MayBeNulls, Refuses
 ghost use Rattle.yurkije_columns.specs.Batches.{Serves, RefusesColumn, AllServe, RefusesBatch};
 ghost use Rattle.yurkije_columns.specs.Checking.{IsFlat};
 
-use crate::batch::{BatchError, ColumnFault, check_count, check_shape, read_field};
+use crate::batch::{ColumnError, ColumnFault, check_count, check_shape, read_field};
 use std::alloc::Global;
 use vortex_arrow::{ArrowColumn, ArrowError, ArrowValues, to_column};
 use vortex_columns::{DType, StructFields};
@@ -112,7 +112,7 @@ pub fn check_batch(
     scope: &StructFields,
     columns: &[ArrowColumn<'_>],
     rows: usize,
-) -> Result<(), BatchError>
+) -> Result<(), ColumnError>
     ensures { MatchResult result (λ _. AllServe (struct_fields scope.now) rows columns.now)
         (RefusesBatch (struct_fields scope.now) rows columns.now) }
 {
@@ -120,7 +120,7 @@ pub fn check_batch(
     for (k, column) in columns.iter().enumerate() {
         match check_field(alloc, scope.dtype(k), column, rows) {
             Ok(()) => {}
-            Err(fault) => return Err(BatchError { column: k, fault }),
+            Err(fault) => return Err(ColumnError { column: k, fault }),
         }
     }
     Ok(())

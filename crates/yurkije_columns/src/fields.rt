@@ -4,7 +4,7 @@ ghost use Rattle.vortex_types.specs.TypeOf.{struct_fields};
 ghost use Rattle.vortex_types.specs.LogicalTypes.{find_field};
 ghost use Rattle.yurkije_columns.specs.declared.fields.ScopeFault.TheVariants.{OutOfMemory};
 ghost use Rattle.yurkije_columns.specs.Kinds.{kind_type};
-ghost use Rattle.yurkije_columns.specs.Scopes.{answers, refuses, if_new, with_lent, scope_lent};
+ghost use Rattle.yurkije_columns.specs.Scopes.{answers, refuses, if_new, with_borrowed, scope_borrowed};
 
 use crate::kinds::{Kind, kind_numbered};
 use std::alloc::{AllocError, AllocFailed, Global};
@@ -14,7 +14,7 @@ use vortex_columns::{StructFields, VortexError};
 /// A field of a scope, as C has it: a name in UTF-8, the number of a kind, and whether it has null.
 #[repr(C)]
 #[derive(Clone, Copy)]
-pub struct LentField<'a> {
+pub struct BorrowedField<'a> {
     pub name: &'a [u8],
     pub kind: u32,
     pub nullable: bool,
@@ -60,7 +60,7 @@ impl From<VortexError> for ScopeFault {
 
 /// Why fields are no scope: the first that is wrong.
 #[derive(Clone, Copy, Debug, Drop, PartialEq, Eq)]
-pub struct ScopeError {
+pub struct FieldError {
     pub field: usize,
     pub fault: ScopeFault,
 }
@@ -90,33 +90,33 @@ fn push_field(
 fn add_field(
     alloc: Global,
     scope: &mut StructFields,
-    lent: &LentField<'_>,
+    borrowed: &BorrowedField<'_>,
 ) -> Result<(), ScopeFault>
     ensures { MatchResult result
-        (λ _. with_lent (struct_fields scope.old) lent.now ≡ answers (struct_fields scope.new))
+        (λ _. with_borrowed (struct_fields scope.old) borrowed.now ≡ answers (struct_fields scope.new))
         (λ fault. fault ≢ OutOfMemory
-        → with_lent (struct_fields scope.old) lent.now ≡ refuses fault) }
+        → with_borrowed (struct_fields scope.old) borrowed.now ≡ refuses fault) }
 {
-    let Some(kind) = kind_numbered(lent.kind) else {
+    let Some(kind) = kind_numbered(borrowed.kind) else {
         return Err(ScopeFault::UnknownKind);
     };
-    match str::from_utf8(lent.name) {
-        Ok(name) => push_field(alloc, scope, name, kind, lent.nullable),
+    match str::from_utf8(borrowed.name) {
+        Ok(name) => push_field(alloc, scope, name, kind, borrowed.nullable),
         Err(_) => Err(ScopeFault::NotUtf8),
     }
 }
 
 /// The scope of fields that are lent. Refuses the first that is wrong: of its kind, its name and
 /// whether a field before it has that, the first that is wrong is told.
-pub fn read_fields(alloc: Global, fields: &[LentField<'_>]) -> Result<StructFields, ScopeError>
+pub fn read_fields(alloc: Global, fields: &[BorrowedField<'_>]) -> Result<StructFields, FieldError>
     ensures { MatchResult result
-        (λ scope. scope_lent fields.now ≡ answers (struct_fields scope))
-        (λ e. e.fault ≢ OutOfMemory → scope_lent fields.now ≡ refuses e) }
+        (λ scope. scope_borrowed fields.now ≡ answers (struct_fields scope))
+        (λ e. e.fault ≢ OutOfMemory → scope_borrowed fields.now ≡ refuses e) }
 {
     let mut scope = StructFields::new(alloc);
-    for (field, lent) in fields.iter().enumerate() {
-        if let Err(fault) = add_field(alloc, &mut scope, lent) {
-            return Err(ScopeError { field, fault });
+    for (field, borrowed) in fields.iter().enumerate() {
+        if let Err(fault) = add_field(alloc, &mut scope, borrowed) {
+            return Err(FieldError { field, fault });
         }
     }
     Ok(scope)

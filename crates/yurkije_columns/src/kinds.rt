@@ -113,7 +113,7 @@ fn integer_number(ptype: PType) -> u32
 }
 
 /// What is told of a type.
-pub fn type_told(dtype: &DType) -> Type
+pub fn reported_type(dtype: &DType) -> Type
     ensures kind { result.kind ≡ type_number (type_of dtype.now) }
     ensures nullable { result.nullable ≡ is_nullable (type_of dtype.now) }
 {

@@ -3,22 +3,22 @@
 #![tactic(auto)]
 
 pub mod batch;
+pub mod borrowed;
 pub mod checking;
 pub mod fields;
 pub mod joined;
 pub mod kinds;
-pub mod lent;
 pub mod rooms;
 pub mod statuses;
 pub mod texts;
 mod words;
 
-pub use batch::{BatchError, ColumnFault, read_batch};
+pub use batch::{ColumnError, ColumnFault, read_batch};
+pub use borrowed::{BorrowedColumn, BorrowedError, arrow_columns, placed};
 pub use checking::{check_batch, is_flat};
-pub use fields::{LentField, ScopeError, ScopeFault, read_fields};
+pub use fields::{BorrowedField, FieldError, ScopeFault, read_fields};
 pub use joined::Joined;
-pub use kinds::{Kind, Type, kind_numbered, type_told};
-pub use lent::{LentColumn, LentError, arrow_columns, placed};
+pub use kinds::{Kind, Type, kind_numbered, reported_type};
 pub use rooms::{Room, RoomError, Size, copy_answer, size_of};
 pub use texts::{put_message, put_text};
-pub use words::{batch_words, lent_words, scope_words};
+pub use words::{batch_words, borrowed_words, scope_words};

@@ -2,17 +2,17 @@
 ghost use Rattle.std.specs.Prelude.{◌≡◌, string_bytes};
 ghost use Rattle.vortex_errors.specs.Answers.{AnswersUnlessMemory};
 ghost use Rattle.vortex_types.specs.TypeOf.{struct_fields};
-ghost use Rattle.yurkije_columns.specs.Messages.{scope_words, lent_words, fault_words};
+ghost use Rattle.yurkije_columns.specs.Messages.{scope_words, borrowed_words, fault_words};
 ghost use Rattle.yurkije_columns.specs.Messages.{name_of_field};
 
-use crate::batch::{BatchError, ColumnFault};
-use crate::fields::{ScopeError, ScopeFault};
-use crate::lent::LentError;
+use crate::batch::{ColumnError, ColumnFault};
+use crate::borrowed::BorrowedError;
+use crate::fields::{FieldError, ScopeFault};
 use std::alloc::Global;
 use vortex_columns::{StructFields, VortexResult};
 
 /// The words for a field that is wrong. E9 where memory is refused.
-pub fn scope_words(alloc: Global, error: ScopeError) -> VortexResult<String>
+pub fn scope_words(alloc: Global, error: FieldError) -> VortexResult<String>
     ensures { AnswersUnlessMemory result
         (λ words. string_bytes words ≡ scope_words error.field error.fault) }
 {
@@ -28,14 +28,14 @@ pub fn scope_words(alloc: Global, error: ScopeError) -> VortexResult<String>
 }
 
 /// The words for columns that are not taken. E9 where memory is refused.
-pub fn lent_words(alloc: Global, error: LentError) -> VortexResult<String>
-    ensures { AnswersUnlessMemory result (λ words. string_bytes words ≡ lent_words error) }
+pub fn borrowed_words(alloc: Global, error: BorrowedError) -> VortexResult<String>
+    ensures { AnswersUnlessMemory result (λ words. string_bytes words ≡ borrowed_words error) }
 {
     match error {
-        LentError::UnknownKind { column } => {
+        BorrowedError::UnknownKind { column } => {
             Ok(format!(in alloc; "column {column}: no kind has that number")?)
         }
-        LentError::OutOfMemory => Ok(String::from_str(alloc, "out of memory")?),
+        BorrowedError::OutOfMemory => Ok(String::from_str(alloc, "out of memory")?),
     }
 }
 
@@ -55,7 +55,7 @@ fn field_named(scope: &StructFields, field: usize) -> &str
 pub fn batch_words(
     alloc: Global,
     scope: &StructFields,
-    error: BatchError,
+    error: ColumnError,
     rows: usize,
 ) -> VortexResult<String>
     ensures { let name = name_of_field (struct_fields scope.now) error.column in

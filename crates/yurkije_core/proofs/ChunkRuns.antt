@@ -22,8 +22,8 @@ use Rattle.vortex_program.specs.Executing.{AllGive, AllGiveWithin, AllFit, Fault
 use Rattle.vortex_program.specs.Executing.{RefusesColumnsFirst}
 use Rattle.vortex_program.specs.Running.{AnswersTree, AnswersTrees, FaultsThere, FaultsFirstThere}
 use Rattle.vortex_program.specs.Running.{RefusesTrees}
-use Rattle.vortex_program.specs.declared.running.RunError.{RunError}
-use Rattle.vortex_program.specs.declared.running.RunError.TheVariants as run
+use Rattle.vortex_program.specs.declared.running.BatchRunError.{BatchRunError}
+use Rattle.vortex_program.specs.declared.running.BatchRunError.TheVariants as run
 use Rattle.vortex_program.proofs.Answered.{all_head, all_tail, all_cons}
 use Rattle.yurkije_core.specs.Chunks.{RunsFrom, AnswersFrom, IsAnswered, AreAnswered, AreRun}
 use Rattle.yurkije_core.specs.Chunks.{TakesRows, ArePut}

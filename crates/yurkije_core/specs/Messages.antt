@@ -7,13 +7,13 @@ use Rattle.vortex_errors.specs.Errors.{error_text}
 use Rattle.vortex_types.specs.LogicalTypes.{Fields}
 use Rattle.vortex_expressions.specs.Messages.{read_error_text}
 use Rattle.vortex_program.specs.declared.answer.Answer as bound
-use Rattle.vortex_program.specs.declared.running.RunError as fault
-use Rattle.vortex_program.specs.declared.running.RunError.TheVariants as fault_of
+use Rattle.vortex_program.specs.declared.running.BatchRunError as fault
+use Rattle.vortex_program.specs.declared.running.BatchRunError.TheVariants as fault_of
 use Rattle.yurkije_columns.specs.Messages.{IsMessage, memory_words, fault_words, name_of_field}
 use Rattle.yurkije_core.specs.declared.reading.ProgramError.{ProgramError}
 use Rattle.yurkije_core.specs.declared.reading.ProgramError.TheVariants as program
-use Rattle.yurkije_core.specs.declared.running.RunError.{RunError}
-use Rattle.yurkije_core.specs.declared.running.RunError.TheVariants as run
+use Rattle.yurkije_core.specs.declared.running.BatchRunError.{BatchRunError}
+use Rattle.yurkije_core.specs.declared.running.BatchRunError.TheVariants as run
 use Rattle.yurkije_core.specs.declared.report.Report.{Report}
 
 -- why bytes are no program
@@ -36,14 +36,14 @@ faulty_words row k name e =
     ++ (codes " (" ++ (name ++ (codes "): " ++ error_text e))))))
 
 -- why answers of those names return nothing
-abbrev pub IsFaultWords : List (List ℕ) → fault.RunError → List ℕ → Type 0
+abbrev pub IsFaultWords : List (List ℕ) → fault.BatchRunError → List ℕ → Type 0
 IsFaultWords names (fault_of.Fault row k e) words =
     words ≡ faulty_words row k (name_in (slice_get names k)) e
 IsFaultWords names (fault_of.Refused e) words = words ≡ error_text e
 IsFaultWords names fault_of.OutOfMemory words = words ≡ memory_words
 
 -- why they return nothing for a batch of n rows over fields
-abbrev pub IsRunWords : Fields → List (List ℕ) → ℕ → RunError → List ℕ → Type 0
+abbrev pub IsRunWords : Fields → List (List ℕ) → ℕ → BatchRunError → List ℕ → Type 0
 IsRunWords scope names n (run.Batch e) words =
     words ≡ fault_words e.column (name_of_field scope e.column) n e.fault
 IsRunWords scope names n (run.Program e) words = IsFaultWords names e words

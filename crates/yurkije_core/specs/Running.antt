@@ -7,8 +7,8 @@ use Rattle.vortex_arrow.specs.declared.column.ArrowColumn.{ArrowColumn}
 use Rattle.vortex_arrow.specs.Columns.{arrow_column}
 use Rattle.vortex_program.specs.Running.{AnswersTrees, RefusesTrees}
 use Rattle.yurkije_columns.specs.Batches.{AllServe, RefusesBatch}
-use Rattle.yurkije_core.specs.declared.running.RunError.{RunError}
-use Rattle.yurkije_core.specs.declared.running.RunError.TheVariants as run
+use Rattle.yurkije_core.specs.declared.running.BatchRunError.{BatchRunError}
+use Rattle.yurkije_core.specs.declared.running.BatchRunError.TheVariants as run
 
 module _ (scope : Fields) (n : ℕ) (columns : List ArrowColumn) (ts : List Tree) where
   -- each column is valid for its field, and each tree has a column over those that the buffers say
@@ -18,7 +18,7 @@ module _ (scope : Fields) (n : ℕ) (columns : List ArrowColumn) (ts : List Tree
 
 -- why a batch has no answers: a column is wrong, or the trees return nothing over those that the
 -- buffers say, as they were written and as they run
-abbrev pub RefusesRun : Fields → ℕ → List ArrowColumn → List Tree → List Tree → RunError → Type 0
+abbrev pub RefusesRun : Fields → ℕ → List ArrowColumn → List Tree → List Tree → BatchRunError → Type 0
 RefusesRun scope n columns written optimized (run.Batch e) = RefusesBatch scope n columns e
 RefusesRun scope n columns written optimized (run.Program e) =
     AllServe scope n columns

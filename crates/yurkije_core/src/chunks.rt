@@ -19,7 +19,7 @@ ghost use Rattle.yurkije_core.specs.Chunks.{TakesRows, ArePut};
 use std::alloc::Global;
 use vortex_arrow::{ArrowColumn, to_column};
 use vortex_columns::{Column, VortexError, VortexResult};
-use vortex_program::{Answer, Program, RunError};
+use vortex_program::{Answer, BatchRunError, Program};
 use yurkije_columns::Joined;
 
 /// How many rows are run at once: a multiple of 64, and so few that what a chunk takes is less than
@@ -72,13 +72,13 @@ fn read_chunk(
 }
 
 /// A fault in a row of those from the first on, by its row of the batch.
-fn fault_at(first: usize, row: usize, answer: usize, error: VortexError) -> RunError
-    ensures { (result ≡ RunError.OutOfMemory)
-        ⊎ (result ≡ RunError.Fault (first + row) answer error) }
+fn fault_at(first: usize, row: usize, answer: usize, error: VortexError) -> BatchRunError
+    ensures { (result ≡ BatchRunError.OutOfMemory)
+        ⊎ (result ≡ BatchRunError.Fault (first + row) answer error) }
 {
     match first.checked_add(row) {
-        Some(row) => RunError::Fault { row, answer, error },
-        None => RunError::OutOfMemory,
+        Some(row) => BatchRunError::Fault { row, answer, error },
+        None => BatchRunError::OutOfMemory,
     }
 }
 
@@ -90,7 +90,7 @@ fn run_chunk(
     rows: usize,
     first: usize,
     count: usize,
-) -> Result<Vec<Column>, RunError>
+) -> Result<Vec<Column>, BatchRunError>
     requires chunk { All (HasChunk first count) columns.now }
     requires within { first + count ≤ rows }
     requires even { other_length rows (map arrow_column columns.now) ≡ None }
@@ -110,13 +110,15 @@ fn run_chunk(
         (trees_of program.now.written.items) (trees_of program.now.optimized.items)) }
 {
     let Some(chunk) = read_chunk(alloc, columns, first, count) else {
-        return Err(RunError::OutOfMemory);
+        return Err(BatchRunError::OutOfMemory);
     };
     match program.run_rows(alloc, &chunk, count) {
         Ok(answers) => Ok(answers),
-        Err(RunError::Fault { row, answer, error }) => Err(fault_at(first, row, answer, error)),
-        Err(RunError::Refused(error)) => Err(RunError::Refused(error)),
-        Err(RunError::OutOfMemory) => Err(RunError::OutOfMemory),
+        Err(BatchRunError::Fault { row, answer, error }) => Err(fault_at(
+            first, row, answer, error,
+        )),
+        Err(BatchRunError::Refused(error)) => Err(BatchRunError::Refused(error)),
+        Err(BatchRunError::OutOfMemory) => Err(BatchRunError::OutOfMemory),
     }
 }
 
@@ -141,7 +143,7 @@ fn add_chunk(
     first: usize,
     count: usize,
     joined: &mut Vec<Joined>,
-) -> Result<(), RunError>
+) -> Result<(), BatchRunError>
     requires chunk { All (HasChunk first count) columns.now }
     requires within { first + count ≤ rows }
     requires even { other_length rows (map arrow_column columns.now) ≡ None }
@@ -167,7 +169,7 @@ fn add_chunk(
     };
     match push_all(joined, &answers) {
         Ok(()) => Ok(()),
-        Err(_) => Err(RunError::OutOfMemory),
+        Err(_) => Err(BatchRunError::OutOfMemory),
     }
 }
 
@@ -220,7 +222,7 @@ fn add_chunks(
     columns: &[ArrowColumn<'_>],
     rows: usize,
     joined: &mut Vec<Joined>,
-) -> Result<(), RunError>
+) -> Result<(), BatchRunError>
     requires chunk { All (HasChunk 0 rows) columns.now }
     requires place { All (λ c. c.offset + rows < 2 ^ 64) columns.now }
     requires some { 0 < rows }
@@ -258,7 +260,7 @@ pub(crate) fn run_chunks(
     columns: &[ArrowColumn<'_>],
     rows: usize,
     begun: Vec<Joined>,
-) -> Result<Vec<Column>, RunError>
+) -> Result<Vec<Column>, BatchRunError>
     requires chunk { All (HasChunk 0 rows) columns.now }
     requires place { All (λ c. c.offset + rows < 2 ^ 64) columns.now }
     requires some { 0 < rows }
@@ -279,6 +281,6 @@ pub(crate) fn run_chunks(
     }
     match columns_of(alloc, joined) {
         Ok(answers) => Ok(answers),
-        Err(_) => Err(RunError::OutOfMemory),
+        Err(_) => Err(BatchRunError::OutOfMemory),
     }
 }

@@ -10,7 +10,7 @@ pub mod statuses;
 mod words;
 
 pub use reading::{ProgramError, read_program};
-pub use report::{NONE, Report, Told};
-pub use running::{RunError, run_program};
+pub use report::{ErrorNumbers, NONE, Report};
+pub use running::{BatchRunError, run_program};
 pub use vortex_program::Program;
 pub use words::{program_words, run_words};

@@ -12,7 +12,7 @@ ghost use Rattle.yurkije_core.specs.Programs.{IsOutOfMemory, RefusesFor, IsNoTex
 use std::alloc::Global;
 use std::str;
 use vortex_columns::StructFields;
-use vortex_expressions::ReadError;
+use vortex_expressions::TextError;
 use vortex_program::Program;
 
 /// Why bytes are no program.
@@ -21,7 +21,7 @@ pub enum ProgramError {
     /// They are not UTF-8.
     NotUtf8,
     /// The text is no list of answers over the scope, or memory ran out.
-    Text(ReadError),
+    Text(TextError),
 }
 
 /// Reads the answers of a text over the fields of a scope: `price * stock as worth, price > 100`.

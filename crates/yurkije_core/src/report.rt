@@ -2,18 +2,20 @@
 ghost use Rattle.std.specs.Prelude.{◌≡◌, [], MatchResult, string_bytes};
 ghost use Rattle.yurkije_core.specs.Reports.{nowhere, of_column, of_row, scope_told};
 ghost use Rattle.yurkije_core.specs.Reports.{text_told, program_told, arrow_told};
-ghost use Rattle.yurkije_core.specs.Reports.{batch_told, lent_told, fault_told, run_told, Tells};
+ghost use Rattle.yurkije_core.specs.Reports.{batch_told, borrowed_told, fault_told, run_told, Tells};
 ghost use Rattle.yurkije_columns.specs.Messages.{memory_words};
 ghost use Rattle.yurkije_core.specs.Messages.{HasMessage};
 
 use crate::reading::ProgramError;
-use crate::running::RunError;
+use crate::running::BatchRunError;
 use crate::statuses::{program_status, run_status};
 use vortex_arrow::ArrowError;
 use vortex_columns::VortexResult;
-use vortex_expressions::ReadError;
+use vortex_expressions::TextError;
 use yurkije_columns::statuses::{column_status, scope_status};
-use yurkije_columns::{BatchError, ColumnFault, LentError, ScopeError, ScopeFault, put_message};
+use yurkije_columns::{
+    BorrowedError, ColumnError, ColumnFault, FieldError, ScopeFault, put_message,
+};
 
 /// Where there is no answer, column, row or byte to tell.
 pub const NONE: usize = usize::MAX;
@@ -36,7 +38,7 @@ pub struct Report<'a> {
 
 /// The numbers of a refusal.
 #[derive(Clone, Copy, Debug, Drop, PartialEq, Eq)]
-pub struct Told {
+pub struct ErrorNumbers {
     pub status: u32,
     pub answer: usize,
     pub column: usize,
@@ -46,12 +48,12 @@ pub struct Told {
     pub character: usize,
 }
 
-impl Told {
+impl ErrorNumbers {
     /// A status at no place.
-    pub fn of(status: u32) -> Told
+    pub fn of(status: u32) -> ErrorNumbers
         ensures { result ≡ nowhere status }
     {
-        Told {
+        ErrorNumbers {
             status,
             answer: NONE,
             column: NONE,
@@ -63,130 +65,130 @@ impl Told {
     }
 
     /// A status of a column.
-    fn of_column(column: usize, status: u32) -> Told
+    fn of_column(column: usize, status: u32) -> ErrorNumbers
         ensures { result ≡ of_column column status }
     {
-        Told {
+        ErrorNumbers {
             column,
-            ..Told::of(status)
+            ..ErrorNumbers::of(status)
         }
     }
 
     /// A status of a row of a column.
-    fn of_row(column: usize, row: usize, status: u32) -> Told
+    fn of_row(column: usize, row: usize, status: u32) -> ErrorNumbers
         ensures { result ≡ of_row column row status }
     {
-        Told {
+        ErrorNumbers {
             column,
             row,
-            ..Told::of(status)
+            ..ErrorNumbers::of(status)
         }
     }
 
     /// What is told of fields that are no scope.
-    pub fn of_scope(error: ScopeError) -> Told
+    pub fn of_scope(error: FieldError) -> ErrorNumbers
         ensures { result ≡ scope_told error }
     {
         let status = scope_status(error.fault);
         match error.fault {
-            ScopeFault::OutOfMemory => Told::of(status),
-            _ => Told::of_column(error.field, status),
+            ScopeFault::OutOfMemory => ErrorNumbers::of(status),
+            _ => ErrorNumbers::of_column(error.field, status),
         }
     }
 
     /// What is told of a text that is refused.
-    fn of_text(error: &ReadError, status: u32) -> Told
+    fn of_text(error: &TextError, status: u32) -> ErrorNumbers
         ensures { result ≡ text_told error.now status }
     {
         if error.is_out_of_memory() {
-            return Told::of(status);
+            return ErrorNumbers::of(status);
         }
-        Told {
+        ErrorNumbers {
             byte: error.byte,
             line: error.line,
             character: error.column,
-            ..Told::of(status)
+            ..ErrorNumbers::of(status)
         }
     }
 
     /// What is told of a text that is no program.
-    pub fn of_program(error: &ProgramError) -> Told
+    pub fn of_program(error: &ProgramError) -> ErrorNumbers
         ensures { result ≡ program_told error.now }
     {
         let status = program_status(error);
         match error {
-            ProgramError::Text(error) => Told::of_text(error, status),
-            ProgramError::NotUtf8 => Told::of(status),
+            ProgramError::Text(error) => ErrorNumbers::of_text(error, status),
+            ProgramError::NotUtf8 => ErrorNumbers::of(status),
         }
     }
 
     /// What is told of a column whose buffers are refused.
-    fn of_arrow(column: usize, error: ArrowError, status: u32) -> Told
+    fn of_arrow(column: usize, error: ArrowError, status: u32) -> ErrorNumbers
         ensures { result ≡ arrow_told column error status }
     {
         match error {
-            ArrowError::UnexpectedNull { row } => Told::of_row(column, row, status),
-            ArrowError::InvalidValue { row, fault: _ } => Told::of_row(column, row, status),
-            ArrowError::NotUtf8 { row } => Told::of_row(column, row, status),
-            ArrowError::OutOfMemory => Told::of(status),
-            _ => Told::of_column(column, status),
+            ArrowError::UnexpectedNull { row } => ErrorNumbers::of_row(column, row, status),
+            ArrowError::InvalidValue { row, fault: _ } => ErrorNumbers::of_row(column, row, status),
+            ArrowError::NotUtf8 { row } => ErrorNumbers::of_row(column, row, status),
+            ArrowError::OutOfMemory => ErrorNumbers::of(status),
+            _ => ErrorNumbers::of_column(column, status),
         }
     }
 
     /// What is told of a batch of which a column is wrong.
-    fn of_batch(error: BatchError) -> Told
+    fn of_batch(error: ColumnError) -> ErrorNumbers
         ensures { result ≡ batch_told error }
     {
         let status = column_status(error.fault);
         match error.fault {
-            ColumnFault::Unread(fault) => Told::of_arrow(error.column, fault, status),
-            _ => Told::of_column(error.column, status),
+            ColumnFault::Unread(fault) => ErrorNumbers::of_arrow(error.column, fault, status),
+            _ => ErrorNumbers::of_column(error.column, status),
         }
     }
 
     /// What is told of columns that are not taken.
-    pub fn of_lent(error: LentError) -> Told
-        ensures { result ≡ lent_told error }
+    pub fn of_borrowed(error: BorrowedError) -> ErrorNumbers
+        ensures { result ≡ borrowed_told error }
     {
         match error {
-            LentError::UnknownKind { column } => Told::of_column(column, 102),
-            LentError::OutOfMemory => Told::of(9),
+            BorrowedError::UnknownKind { column } => ErrorNumbers::of_column(column, 102),
+            BorrowedError::OutOfMemory => ErrorNumbers::of(9),
         }
     }
 
     /// What is told of a program that returns nothing: the row and the answer that faults in it.
-    fn of_fault(error: &vortex_program::RunError, status: u32) -> Told
+    fn of_fault(error: &vortex_program::BatchRunError, status: u32) -> ErrorNumbers
         ensures { result ≡ fault_told error.now status }
     {
         match error {
-            vortex_program::RunError::Fault {
+            vortex_program::BatchRunError::Fault {
                 row,
                 answer,
                 error: _,
-            } => Told {
+            } => ErrorNumbers {
                 row: *row,
                 answer: *answer,
-                ..Told::of(status)
+                ..ErrorNumbers::of(status)
             },
-            vortex_program::RunError::Refused(_) => Told::of(status),
-            vortex_program::RunError::OutOfMemory => Told::of(status),
+            vortex_program::BatchRunError::Refused(_) => ErrorNumbers::of(status),
+            vortex_program::BatchRunError::OutOfMemory => ErrorNumbers::of(status),
         }
     }
 
     /// What is told of a run that answers nothing.
-    pub fn of_run(error: &RunError) -> Told
+    pub fn of_run(error: &BatchRunError) -> ErrorNumbers
         ensures { result ≡ run_told error.now }
     {
         match error {
-            RunError::Batch(error) => Told::of_batch(*error),
-            RunError::Program(fault) => Told::of_fault(fault, run_status(error)),
+            BatchRunError::Batch(error) => ErrorNumbers::of_batch(*error),
+            BatchRunError::Program(fault) => ErrorNumbers::of_fault(fault, run_status(error)),
         }
     }
 }
 
 impl Report<'_> {
     /// Tells a refusal in those words, and answers its status.
-    pub fn tell(&mut self, told: Told, words: &str) -> u32
+    pub fn tell(&mut self, told: ErrorNumbers, words: &str) -> u32
         ensures status { result ≡ told.status }
         ensures told { Tells self.new told }
         ensures message { HasMessage words.now self.old self.new }
@@ -203,7 +205,7 @@ impl Report<'_> {
     }
 
     /// The same in words for which memory may have been refused: then that is told.
-    pub fn tell_in(&mut self, told: Told, words: VortexResult<String>) -> u32
+    pub fn report_text(&mut self, told: ErrorNumbers, words: VortexResult<String>) -> u32
         ensures status { result ≡ told.status }
         ensures told { Tells self.new told }
         ensures message { MatchResult words
@@ -222,6 +224,6 @@ impl Report<'_> {
         ensures told { Tells self.new (nowhere 0) }
         ensures message { HasMessage [] self.old self.new }
     {
-        self.tell(Told::of(0), "")
+        self.tell(ErrorNumbers::of(0), "")
     }
 }

@@ -10,15 +10,15 @@ use std::alloc::Global;
 use vortex_arrow::ArrowColumn;
 use vortex_columns::Column;
 use vortex_program::Program;
-use yurkije_columns::{BatchError, check_batch, is_flat, read_batch};
+use yurkije_columns::{ColumnError, check_batch, is_flat, read_batch};
 
 /// Why a program returns no columns for a batch.
 #[derive(Debug, Drop)]
-pub enum RunError {
+pub enum BatchRunError {
     /// A column is wrong, or memory ran out as it was read.
-    Batch(BatchError),
+    Batch(ColumnError),
     /// A row faults, or memory ran out as the program ran.
-    Program(vortex_program::RunError),
+    Program(vortex_program::BatchRunError),
 }
 
 /// Whether all columns are of truth values or of integers.
@@ -39,7 +39,7 @@ fn run_whole(
     program: &Program,
     columns: &[ArrowColumn<'_>],
     rows: usize,
-) -> Result<Vec<Column>, RunError>
+) -> Result<Vec<Column>, BatchRunError>
     ensures { AreRewrites program.now.written.items program.now.optimized.items
         → MatchResult result
         (λ answers. AnswersBatch (struct_fields program.now.scope) rows columns.now
@@ -49,11 +49,11 @@ fn run_whole(
 {
     let columns = match read_batch(alloc, &program.scope, columns, rows) {
         Ok(columns) => columns,
-        Err(error) => return Err(RunError::Batch(error)),
+        Err(error) => return Err(BatchRunError::Batch(error)),
     };
     match program.run(alloc, &columns, rows) {
         Ok(answers) => Ok(answers),
-        Err(error) => Err(RunError::Program(error)),
+        Err(error) => Err(BatchRunError::Program(error)),
     }
 }
 
@@ -64,7 +64,7 @@ fn run_flat(
     program: &Program,
     columns: &[ArrowColumn<'_>],
     rows: usize,
-) -> Result<Vec<Column>, RunError>
+) -> Result<Vec<Column>, BatchRunError>
     requires flat { All IsFlat columns.now }
     requires some { 0 < rows }
     ensures { AreRewrites program.now.written.items program.now.optimized.items
@@ -76,16 +76,16 @@ fn run_flat(
 {
     match check_batch(alloc, &program.scope, columns, rows) {
         Ok(()) => {}
-        Err(error) => return Err(RunError::Batch(error)),
+        Err(error) => return Err(BatchRunError::Batch(error)),
     }
     let begun = match begun(alloc, &program.optimized, rows) {
         Ok(Some(begun)) => begun,
         Ok(None) => return run_whole(alloc, program, columns, rows),
-        Err(_) => return Err(RunError::Program(vortex_program::RunError::OutOfMemory)),
+        Err(_) => return Err(BatchRunError::Program(vortex_program::BatchRunError::OutOfMemory)),
     };
     match run_chunks(alloc, program, columns, rows, begun) {
         Ok(answers) => Ok(answers),
-        Err(error) => Err(RunError::Program(error)),
+        Err(error) => Err(BatchRunError::Program(error)),
     }
 }
 
@@ -101,7 +101,7 @@ pub fn run_program(
     program: &Program,
     columns: &[ArrowColumn<'_>],
     rows: usize,
-) -> Result<Vec<Column>, RunError>
+) -> Result<Vec<Column>, BatchRunError>
     ensures { AreRewrites program.now.written.items program.now.optimized.items
         → MatchResult result
         (λ answers. AnswersBatch (struct_fields program.now.scope) rows columns.now

@@ -5,7 +5,7 @@ ghost use Rattle.yurkije_core.specs.Statuses.{refusal_status, reason_status};
 ghost use Rattle.yurkije_core.specs.Statuses.{program_status, fault_status, run_status};
 
 use crate::reading::ProgramError;
-use crate::running::RunError;
+use crate::running::BatchRunError;
 use vortex_columns::VortexError;
 use vortex_expressions::{Reason, Refusal};
 use yurkije_columns::statuses::column_status;
@@ -55,26 +55,26 @@ pub fn program_status(error: &ProgramError) -> u32
 }
 
 /// The number of a run of a program that returns nothing.
-fn fault_status(error: &vortex_program::RunError) -> u32
+fn fault_status(error: &vortex_program::BatchRunError) -> u32
     ensures { result ≡ fault_status error.now }
 {
     match error {
-        vortex_program::RunError::Fault {
+        vortex_program::BatchRunError::Fault {
             row: _,
             answer: _,
             error,
         } => error_status(error),
-        vortex_program::RunError::Refused(error) => error_status(error),
-        vortex_program::RunError::OutOfMemory => 9,
+        vortex_program::BatchRunError::Refused(error) => error_status(error),
+        vortex_program::BatchRunError::OutOfMemory => 9,
     }
 }
 
 /// The number of a run over a batch that returns nothing.
-pub fn run_status(error: &RunError) -> u32
+pub fn run_status(error: &BatchRunError) -> u32
     ensures { result ≡ run_status error.now }
 {
     match error {
-        RunError::Batch(error) => column_status(error.fault),
-        RunError::Program(error) => fault_status(error),
+        BatchRunError::Batch(error) => column_status(error.fault),
+        BatchRunError::Program(error) => fault_status(error),
     }
 }

@@ -6,7 +6,7 @@ ghost use Rattle.yurkije_core.specs.Messages.{IsProgramWords, names_of, name_in}
 ghost use Rattle.yurkije_core.specs.Messages.{faulty_words, IsFaultWords, IsRunWords};
 
 use crate::reading::ProgramError;
-use crate::running::RunError;
+use crate::running::BatchRunError;
 use std::alloc::Global;
 use vortex_columns::{VortexError, VortexResult};
 use vortex_program::Program;
@@ -51,17 +51,17 @@ fn faulty_words(
 fn fault_words(
     alloc: Global,
     program: &Program,
-    error: &vortex_program::RunError,
+    error: &vortex_program::BatchRunError,
 ) -> VortexResult<String>
     ensures { AnswersUnlessMemory result (λ words.
         IsFaultWords (names_of program.now.written.items) error.now (string_bytes words)) }
 {
     match error {
-        vortex_program::RunError::Fault { row, answer, error } => {
+        vortex_program::BatchRunError::Fault { row, answer, error } => {
             faulty_words(alloc, *row, *answer, answer_named(program, *answer), error)
         }
-        vortex_program::RunError::Refused(error) => Ok(format!(in alloc; "{error}")?),
-        vortex_program::RunError::OutOfMemory => Ok(String::from_str(alloc, "out of memory")?),
+        vortex_program::BatchRunError::Refused(error) => Ok(format!(in alloc; "{error}")?),
+        vortex_program::BatchRunError::OutOfMemory => Ok(String::from_str(alloc, "out of memory")?),
     }
 }
 
@@ -70,14 +70,14 @@ fn fault_words(
 pub fn run_words(
     alloc: Global,
     program: &Program,
-    error: &RunError,
+    error: &BatchRunError,
     rows: usize,
 ) -> VortexResult<String>
     ensures { AnswersUnlessMemory result (λ words. IsRunWords (struct_fields program.now.scope)
         (names_of program.now.written.items) rows error.now (string_bytes words)) }
 {
     match error {
-        RunError::Batch(error) => batch_words(alloc, &program.scope, *error, rows),
-        RunError::Program(error) => fault_words(alloc, program, error),
+        BatchRunError::Batch(error) => batch_words(alloc, &program.scope, *error, rows),
+        BatchRunError::Program(error) => fault_words(alloc, program, error),
     }
 }

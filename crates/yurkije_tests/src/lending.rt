@@ -1,10 +1,10 @@
 //! What tests lend.
 
-use yurkije_columns::{LentColumn, LentField};
+use yurkije_columns::{BorrowedColumn, BorrowedField};
 
 /// No column yet: of that kind and so many rows, all of which are there.
-pub fn lent<'a>(kind: u32, rows: usize) -> LentColumn<'a> {
-    LentColumn {
+pub fn borrowed<'a>(kind: u32, rows: usize) -> BorrowedColumn<'a> {
+    BorrowedColumn {
         kind,
         nullable: false,
         rows,
@@ -28,28 +28,28 @@ pub fn lent<'a>(kind: u32, rows: usize) -> LentColumn<'a> {
 }
 
 /// "[1, null, 2, 4, 8]" of `i32?`.
-pub fn numbers<'a>() -> LentColumn<'a> {
-    LentColumn {
+pub fn numbers<'a>() -> BorrowedColumn<'a> {
+    BorrowedColumn {
         nullable: true,
         validity: &[0b00011101],
         i32s: &[1, 0, 2, 4, 8],
-        ..lent(4, 5)
+        ..borrowed(4, 5)
     }
 }
 
 /// "['joe', null, null, 'mark', '']" of `utf8?`.
-pub fn names<'a>() -> LentColumn<'a> {
-    LentColumn {
+pub fn names<'a>() -> BorrowedColumn<'a> {
+    BorrowedColumn {
         nullable: true,
         validity: &[0b00011001],
         offsets32: &[0, 3, 3, 3, 7, 7],
         data: b"joemark",
-        ..lent(10, 5)
+        ..borrowed(10, 5)
     }
 }
 
-fn field(name: &'static [u8], kind: u32) -> LentField<'static> {
-    LentField {
+fn field(name: &'static [u8], kind: u32) -> BorrowedField<'static> {
+    BorrowedField {
         name,
         kind,
         nullable: true,
@@ -57,6 +57,6 @@ fn field(name: &'static [u8], kind: u32) -> LentField<'static> {
 }
 
 /// `number i32?, name utf8?`.
-pub fn fields() -> [LentField<'static>; 2] {
+pub fn fields() -> [BorrowedField<'static>; 2] {
     [field(b"number", 4), field(b"name", 12)]
 }

@@ -3,8 +3,8 @@
 use crate::lending::fields;
 use fixtures::same;
 use std::alloc::Global;
-use yurkije_columns::{ScopeError, ScopeFault, read_fields, scope_words};
-use yurkije_core::{Program, ProgramError, Told, program_words, read_program};
+use yurkije_columns::{FieldError, ScopeFault, read_fields, scope_words};
+use yurkije_core::{ErrorNumbers, Program, ProgramError, program_words, read_program};
 
 /// The program of a text over the fields. Fields that are refused fail each test: none wants a text
 /// that is not UTF-8.
@@ -34,7 +34,7 @@ fn reads(rt: HostRuntime, text: &[u8], name: &str, optimized: &str) -> bool {
 
 /// Whether a refusal has that status, byte, line and character, and those words.
 fn is_refusal(rt: HostRuntime, error: ProgramError, place: [usize; 4], words: &str) -> bool {
-    let told = Told::of_program(&error);
+    let told = ErrorNumbers::of_program(&error);
     let there = [told.status as usize, told.byte, told.line, told.character];
     match program_words(rt.alloc(), &error) {
         Ok(said) => same(rt, there, place) && same(rt, said.as_str(), words),
@@ -58,7 +58,7 @@ fn texts_are_read_and_refused_with_their_place(rt: HostRuntime) {
 }
 
 /// Whether two fields of one name are refused so, in these words.
-fn refuses_twice(rt: HostRuntime, wanted: ScopeError, words: &str) -> bool {
+fn refuses_twice(rt: HostRuntime, wanted: FieldError, words: &str) -> bool {
     let [number, name] = fields();
     let Err(error) = read_fields(rt.alloc(), &[number, name, number]) else {
         return false;
@@ -71,7 +71,7 @@ fn refuses_twice(rt: HostRuntime, wanted: ScopeError, words: &str) -> bool {
 
 #[test]
 fn fields_are_refused_with_their_number(rt: HostRuntime) {
-    let twice = ScopeError {
+    let twice = FieldError {
         field: 2,
         fault: ScopeFault::NameTwice,
     };

@@ -5,21 +5,21 @@ use crate::reading::program_of;
 use fixtures::same;
 use std::alloc::Global;
 use vortex_columns::Column;
-use yurkije_columns::{LentColumn, LentError, arrow_columns, lent_words};
-use yurkije_core::{RunError, Told, run_program, run_words};
+use yurkije_columns::{BorrowedColumn, BorrowedError, arrow_columns, borrowed_words};
+use yurkije_core::{BatchRunError, ErrorNumbers, run_program, run_words};
 
 /// The answers of a text over columns of five rows.
 pub fn answers_of(
     alloc: Global,
     text: &[u8],
-    columns: &[LentColumn<'_>],
-) -> Result<Vec<Column>, RunError> {
+    columns: &[BorrowedColumn<'_>],
+) -> Result<Vec<Column>, BatchRunError> {
     let Ok(program) = program_of(alloc, text) else {
-        return Err(RunError::Program(vortex_program::RunError::OutOfMemory));
+        return Err(BatchRunError::Program(vortex_program::BatchRunError::OutOfMemory));
     };
     match arrow_columns(alloc, columns) {
         Ok(columns) => run_program(alloc, &program, &columns, 5),
-        Err(_) => Err(RunError::Program(vortex_program::RunError::OutOfMemory)),
+        Err(_) => Err(BatchRunError::Program(vortex_program::BatchRunError::OutOfMemory)),
     }
 }
 
@@ -55,7 +55,7 @@ fn columns_are_answered(rt: HostRuntime) {
 fn refuses(
     rt: HostRuntime,
     text: &[u8],
-    columns: &[LentColumn<'_>],
+    columns: &[BorrowedColumn<'_>],
     wanted: (u32, usize, usize),
     words: &str,
 ) -> bool {
@@ -66,7 +66,7 @@ fn refuses(
     let Err(error) = run_program(alloc, &program, &columns, 5) else {
         return false;
     };
-    let told = Told::of_run(&error);
+    let told = ErrorNumbers::of_run(&error);
     match run_words(alloc, &program, &error, 5) {
         Ok(said) => {
             same(rt, (told.status, told.column, told.row), wanted) && same(rt, said.as_str(), words)
@@ -77,7 +77,7 @@ fn refuses(
 
 #[test]
 fn columns_and_faults_are_refused_with_their_rows(rt: HostRuntime) {
-    let falls = LentColumn {
+    let falls = BorrowedColumn {
         offsets32: &[0, 3, 2, 3, 7, 7],
         ..names()
     };
@@ -90,7 +90,7 @@ fn columns_and_faults_are_refused_with_their_rows(rt: HostRuntime) {
 
 #[test]
 fn columns_of_no_kind_are_refused(rt: HostRuntime) {
-    let error = LentError::UnknownKind { column: 3 };
+    let error = BorrowedError::UnknownKind { column: 3 };
     let words = "column 3: no kind has that number";
-    assert!(rt; matches!(lent_words(rt.alloc(), error), Ok(said) if said.as_str() == words));
+    assert!(rt; matches!(borrowed_words(rt.alloc(), error), Ok(said) if said.as_str() == words));
 }

@@ -11,7 +11,7 @@ use super::Stream;
 use crate::answering::row_number;
 use crate::errors::StreamError;
 use crate::header::Layout;
-use rowfn_csv::{Batch, Found, ReadError, Records};
+use rowfn_csv::{Batch, FoundRecord, RecordError, Records};
 use std::alloc::AllocError;
 use std::io::Read;
 
@@ -55,7 +55,7 @@ impl Filled {
 /// What a read that failed ends.
 #[cold]
 #[inline(never)]
-fn broken_by(error: ReadError) -> Filled {
+fn broken_by(error: RecordError) -> Filled {
     Filled::Broken(StreamError::from(error))
 }
 
@@ -204,16 +204,16 @@ impl<'a, R: Read + Drop> Stream<'a, R> {
         let begin = self.records.keep_from_here();
         'rows: for _ in 0..self.settings.batch.max(1) {
             match self.records.read() {
-                Found::Record => {}
-                Found::End => return Filled::Ended,
-                Found::Failed => return broken_by(self.records.take_error()),
+                FoundRecord::Record => {}
+                FoundRecord::End => return Filled::Ended,
+                FoundRecord::Failed => return broken_by(self.records.take_error()),
             }
             self.settle_width();
             if !self.is_whole() {
                 return Filled::Broken(self.misshapen());
             }
             if self.add_row().is_err() {
-                return broken_by(ReadError::OutOfMemory);
+                return broken_by(RecordError::OutOfMemory);
             }
             if self.is_full(begin) {
                 return Filled::Full;

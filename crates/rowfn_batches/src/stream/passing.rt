@@ -5,7 +5,7 @@ ghost use Rattle.rowfn_batches.specs.Passing.{IsAnswered, PassesUpTo, PassesOn, 
 ghost use Rattle.rowfn_batches.specs.Filtering.{Takes, IsLeft, rows_before};
 
 use super::{Stream, Summary};
-use crate::answering::{Answered, Task};
+use crate::answering::{Answered, BatchTask};
 use crate::errors::StreamError;
 use crate::filter::{Taken, slice_of, take_all, take_those};
 use std::io::{Read, Write};
@@ -33,13 +33,13 @@ impl<'a, R: Read + Drop> Stream<'a, R> {
     }
 
     /// What is asked of rows of the batch: of these, or of all.
-    fn task<'r>(&'r self, rows: Option<&'r [usize]>) -> Task<'r>
+    fn task<'r>(&'r self, rows: Option<&'r [usize]>) -> BatchTask<'r>
         ensures asked { (result.asked ≡ self.now.asked)
             × (result.places.now ≡ self.now.layout.places.items) }
         ensures numbers { (result.rows_before ≡ rows_before self.now)
             × (result.rows ≡ rows.entry) }
     {
-        Task {
+        BatchTask {
             alloc: self.alloc,
             asked: self.asked,
             places: &self.layout.places,
@@ -70,7 +70,7 @@ impl<'a, R: Read + Drop> Stream<'a, R> {
     }
 
     /// Tells how many rows were passed on, where that is asked.
-    pub(super) fn tell_rows(&self) {
+    pub(super) fn report_rows(&self) {
         if let Some(count) = self.settings.rows_passed {
             count.set(self.summary.rows_read);
         }
@@ -104,7 +104,7 @@ impl<'a, R: Read + Drop> Stream<'a, R> {
             rows_read: rows_read.saturating_add(self.batch.len() as u64),
             rows_written: rows_written.saturating_add(count),
         };
-        self.tell_rows();
+        self.report_rows();
         Ok(error)
     }
 

@@ -3,16 +3,16 @@ ghost use Rattle.std.specs.Prelude.{◌≡◌, ◌≤◌, ◌+◌, OnOk, IfSome,
 ghost use Rattle.rowfn_batches.specs.Fields.{field_in};
 ghost use Rattle.rowfn_batches.specs.Passing.{IsRefilled};
 ghost use Rattle.rowfn_batches.specs.ReadingBack.{ReadsBack};
-ghost use Rattle.rowfn_batches.specs.Skipping.{IsPlace, PassesTold, fields_asked, asked_width};
+ghost use Rattle.rowfn_batches.specs.Skipping.{IsPlace, PassesTold, fields_asked, condition_width};
 ghost use Rattle.rowfn_batches.specs.Skipping.{AreLoaded, PassesPart, PassesAll, PassesRest};
 ghost use Rattle.rowfn_batches.specs.Skipping.{PassesBatch, PassesMisshapen, PassesBehind};
 ghost use Rattle.rowfn_batches.specs.Skipping.{PassesNextTold, FlowsOn};
 
 use super::{Stream, Summary};
-use crate::asked::Asked;
 use crate::errors::StreamError;
 use crate::parts::{fields_from, next_count, next_row, refill};
 use crate::refusals::Refusals;
+use crate::request::Request;
 use crate::settings::Settings;
 use rowfn_csv::{Batch, Span};
 use std::alloc::{AllocError, Global};
@@ -35,7 +35,7 @@ fn place_of(error: &StreamError, rows_before: u64) -> Option<usize>
 impl<'a, R: Read + Drop> Stream<'a, R> {
     /// Passes the batch on: up to the first row that is refused, which is told. Answers where that
     /// row stands in the batch.
-    fn pass_told<W: Write, E: Write>(
+    fn pass_reporting<W: Write, E: Write>(
         &mut self,
         writer: &mut W,
         refusals: &mut Refusals<E>,
@@ -53,7 +53,7 @@ impl<'a, R: Read + Drop> Stream<'a, R> {
         };
         refusals.tell(&error)?;
         self.summary.rows_read = rows_read.saturating_add(place as u64).saturating_add(1);
-        self.tell_rows();
+        self.report_rows();
         Ok(Some(place))
     }
 
@@ -92,8 +92,8 @@ impl<'a, R: Read + Drop> Stream<'a, R> {
     }
 
     /// How many fields of a row the condition reads.
-    fn asked_width(&self) -> usize
-        ensures { result ≡ asked_width self.now.condition }
+    fn condition_width(&self) -> usize
+        ensures { result ≡ condition_width self.now.condition }
     {
         match &self.condition {
             Some(condition) => condition.layout.places.len(),
@@ -120,9 +120,9 @@ impl<'a, R: Read + Drop> Stream<'a, R> {
         let (first, count) = part;
         let width = self.layout.places.len();
         let fields = fields_from(fields, width, first, count);
-        let asked = fields_from(asked, self.asked_width(), first, count);
+        let asked = fields_from(asked, self.condition_width(), first, count);
         self.load(fields, asked, &spans[first..first + count])?;
-        self.pass_told(writer, refusals)
+        self.pass_reporting(writer, refusals)
     }
 
     /// Passes on rows from one of them on, part by part: a row that is refused is told, and one row
@@ -166,10 +166,10 @@ impl<'a, R: Read + Drop> Stream<'a, R> {
     {
         let (rows, asked) = self.take_rows();
         let fields = rows.fields(self.alloc)?;
-        let asked_fields = asked.fields(self.alloc)?;
+        let fields_option = asked.fields(self.alloc)?;
         self.pass_parts(
             &fields,
-            &asked_fields,
+            &fields_option,
             rows.spans(),
             first,
             writer,
@@ -186,7 +186,7 @@ impl<'a, R: Read + Drop> Stream<'a, R> {
         ensures { PassesBatch self.old self.new (W.contents writer.old)
             (W.contents writer.new) refusals.old.count refusals.new.count result }
     {
-        match self.pass_told(writer, refusals)? {
+        match self.pass_reporting(writer, refusals)? {
             Some(place) => self.pass_rest(place.saturating_add(1), writer, refusals),
             None => Ok(()),
         }
@@ -207,12 +207,12 @@ impl<'a, R: Read + Drop> Stream<'a, R> {
         };
         refusals.tell(&error)?;
         self.summary.rows_read = self.summary.rows_read.saturating_add(1);
-        self.tell_rows();
+        self.report_rows();
         Ok(())
     }
 
     /// The same, where anything stands there.
-    fn pass_behind<E: Write>(
+    fn pass_after<E: Write>(
         &mut self,
         error: Option<StreamError>,
         refusals: &mut Refusals<E>,
@@ -228,7 +228,7 @@ impl<'a, R: Read + Drop> Stream<'a, R> {
 
     /// Reads the next batch and passes it on, but for the rows that are refused, which are told;
     /// answers whether the input goes on behind it.
-    fn pass_next_told<W: Write, E: Write>(
+    fn pass_next_reporting<W: Write, E: Write>(
         &mut self,
         writer: &mut W,
         refusals: &mut Refusals<E>,
@@ -239,7 +239,7 @@ impl<'a, R: Read + Drop> Stream<'a, R> {
         let filled = self.fill();
         self.pass_batch(writer, refusals)?;
         let goes_on = !filled.is_end();
-        self.pass_behind(filled.into_error(), refusals)?;
+        self.pass_after(filled.into_error(), refusals)?;
         refusals.flush()?;
         Ok(goes_on)
     }
@@ -249,8 +249,8 @@ impl<'a, R: Read + Drop> Stream<'a, R> {
 pub(super) fn run_past_refused<'a, R: Read + Drop, W: Write, E: Write>(
     alloc: Global,
     settings: &Settings<'a>,
-    asked: &Asked<'a>,
-    condition: Option<&Asked<'a>>,
+    asked: &Request<'a>,
+    condition: Option<&Request<'a>>,
     reader: R,
     writer: &mut W,
     refusals: &mut Refusals<E>,
@@ -265,7 +265,7 @@ pub(super) fn run_past_refused<'a, R: Read + Drop, W: Write, E: Write>(
     let mut stream = Stream::start(alloc, settings, asked, condition, reader)?;
     stream.write(writer)?;
     'batches: for _turn in 0..u64::MAX {
-        let goes_on = stream.pass_next_told(writer, refusals)?;
+        let goes_on = stream.pass_next_reporting(writer, refusals)?;
         if !goes_on {
             return Ok(stream.summary);
         }

@@ -17,14 +17,14 @@ ghost use Rattle.rowfn_batches.specs.Starts.{RefusesCondition, own_names, Pushes
 ghost use Rattle.rowfn_batches.specs.Starts.{RefusesNamesBeside, IsHeaded, DoesNotStart};
 
 use super::{Stream, Summary};
-use crate::asked::Asked;
 use crate::errors::StreamError;
 use crate::filter::Condition;
 use crate::header::{Layout, declared_layout, find_from, named_layout, with_spelling};
 use crate::output::Output;
 use crate::reading_back::check_reading_back;
+use crate::request::Request;
 use crate::settings::Settings;
-use rowfn_csv::{Batch, ByteRecord, Found, Records, without_line_end};
+use rowfn_csv::{Batch, ByteRecord, FoundRecord, Records, without_line_end};
 use std::alloc::{AllocError, Global};
 use std::io::Read;
 use vortex_program::Answer;
@@ -34,8 +34,8 @@ impl<'a, R: Read + Drop> Stream<'a, R> {
     pub(super) fn start(
         alloc: Global,
         settings: &Settings<'a>,
-        asked: &Asked<'a>,
-        condition: Option<&Asked<'a>>,
+        asked: &Request<'a>,
+        condition: Option<&Request<'a>>,
         reader: R,
     ) -> Result<Stream<'a, R>, StreamError>
         ensures starts { MatchResult result
@@ -84,9 +84,9 @@ fn read_header<R: Read>(
         return Ok(false);
     }
     match records.read_record() {
-        Found::Record => {}
-        Found::End => return Ok(false),
-        Found::Failed => return Err(StreamError::from(records.take_error())),
+        FoundRecord::Record => {}
+        FoundRecord::End => return Ok(false),
+        FoundRecord::Failed => return Err(StreamError::from(records.take_error())),
     }
     if records.is_outgrown() {
         return Err(StreamError::HeaderTooLong(settings.max_field));
@@ -102,7 +102,7 @@ fn read_header<R: Read>(
 fn columns_of(
     alloc: Global,
     settings: &Settings<'_>,
-    asked: &Asked<'_>,
+    asked: &Request<'_>,
     header: &ByteRecord,
 ) -> Result<Layout, StreamError>
     ensures { MatchResult result
@@ -122,7 +122,7 @@ fn columns_of(
 fn layout_of(
     alloc: Global,
     settings: &Settings<'_>,
-    asked: &Asked<'_>,
+    asked: &Request<'_>,
     header: &ByteRecord,
 ) -> Result<Layout, StreamError>
     ensures layout { MatchResult result
@@ -143,7 +143,7 @@ fn layout_of(
 fn condition_of<'a>(
     alloc: Global,
     settings: &Settings<'a>,
-    condition: Option<&Asked<'a>>,
+    condition: Option<&Request<'a>>,
     header: &ByteRecord,
 ) -> Result<Option<Condition<'a>>, StreamError>
     ensures { MatchResult result

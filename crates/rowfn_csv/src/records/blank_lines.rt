@@ -2,7 +2,7 @@
 ghost use Rattle.std.specs.Prelude.{◌≡◌};
 ghost use Rattle.rowfn_csv.specs.Reads.{ReadsOne, KeepsFormat, behind_comments};
 
-use super::{Found, ReadError, Records, Span};
+use super::{FoundRecord, RecordError, Records, Span};
 use crate::raw::after_comments;
 use csv::ByteRecord;
 use std::alloc::Global;
@@ -37,19 +37,19 @@ impl Ahead {
 
 impl<R: Read> Records<'_, R> {
     /// Holds what was read behind lines without a byte, which stand behind a record.
-    fn hold(&mut self, given: Span, found: Found, place: u64)
+    fn hold(&mut self, given: Span, found: FoundRecord, place: u64)
         ensures kept { KeepsFormat self.old self.new }
         ensures error { self.new.error ≡ self.old.error }
     {
         mem::swap(&mut self.last, &mut self.ahead.record);
         self.ahead.span = match found {
-            Found::Record => self.span,
-            Found::End | Found::Failed => Span {
+            FoundRecord::Record => self.span,
+            FoundRecord::End | FoundRecord::Failed => Span {
                 start: place,
                 end: place,
             },
         };
-        self.ahead.is_record = found == Found::Record;
+        self.ahead.is_record = found == FoundRecord::Record;
         self.ahead.is_outgrown = self.is_outgrown;
         self.ahead.is_held = true;
         self.span = given;
@@ -57,7 +57,7 @@ impl<R: Read> Records<'_, R> {
     }
 
     /// Gives what is held behind lines without a byte.
-    fn give_held(&mut self) -> Found
+    fn give_held(&mut self) -> FoundRecord
         ensures { ReadsOne self.old self.new result }
     {
         mem::swap(&mut self.last, &mut self.ahead.record);
@@ -65,9 +65,9 @@ impl<R: Read> Records<'_, R> {
         self.is_outgrown = self.ahead.is_outgrown;
         self.ahead.is_held = false;
         if self.ahead.is_record {
-            Found::Record
+            FoundRecord::Record
         } else {
-            Found::End
+            FoundRecord::End
         }
     }
 
@@ -76,7 +76,7 @@ impl<R: Read> Records<'_, R> {
         ensures { result ≡ behind_comments self.now place }
     {
         let tee = self.reader.get_ref();
-        let place = tee.behind_mark(place);
+        let place = tee.after_mark(place);
         let bytes = tee.from(place);
         let rest = after_comments(bytes, self.format.comment);
         place.saturating_add(bytes.len().saturating_sub(rest.len()) as u64)
@@ -84,16 +84,16 @@ impl<R: Read> Records<'_, R> {
 
     /// Gives the next line without a byte, or else the record behind such lines.
     #[inline(always)]
-    pub(super) fn read_with_blank_lines(&mut self) -> Found
+    pub(super) fn read_with_blank_lines(&mut self) -> FoundRecord
         ensures { ReadsOne self.old self.new result }
     {
         if !self.ahead.is_held {
             let given = self.span;
             let found = self.read_record();
             let place = match found {
-                Found::Record => self.span.start,
-                Found::End => self.reader.position().byte,
-                Found::Failed => return Found::Failed,
+                FoundRecord::Record => self.span.start,
+                FoundRecord::End => self.reader.position().byte,
+                FoundRecord::Failed => return FoundRecord::Failed,
             };
             if place <= self.blank_from(given.end) {
                 return found;
@@ -108,7 +108,7 @@ impl<R: Read> Records<'_, R> {
     }
 
     /// Gives the line without a byte that lies there, as a record of one empty field.
-    fn give_blank(&mut self, place: u64) -> Found
+    fn give_blank(&mut self, place: u64) -> FoundRecord
         ensures { ReadsOne self.old self.new result }
     {
         let tee = self.reader.get_ref();
@@ -120,9 +120,9 @@ impl<R: Read> Records<'_, R> {
         };
         self.last.clear();
         if self.last.push_field(&[]).is_err() {
-            self.error = Some(ReadError::OutOfMemory);
-            return Found::Failed;
+            self.error = Some(RecordError::OutOfMemory);
+            return FoundRecord::Failed;
         }
-        Found::Record
+        FoundRecord::Record
     }
 }

@@ -55,8 +55,8 @@ impl Column {
     ghost use Rattle.vortex_columns.specs.Words.{struct_column, list_column, map_column};
     ghost use Rattle.vortex_columns.specs.Words.{fixed_size_list_column, MakeTexts, text_rows};
     ghost use Rattle.vortex_columns.specs.Words.{byte_string_rows, byte_strings_of, MakeTextRows};
-    ghost use Rattle.vortex_columns.specs.Words.{MakeTextViews, MakeByteStringViews, MakeLentTexts};
-    ghost use Rattle.vortex_columns.specs.Words.{lent_texts};
+    ghost use Rattle.vortex_columns.specs.Words.{MakeTextViews, MakeByteStringViews, MakeBorrowedTexts};
+    ghost use Rattle.vortex_columns.specs.Words.{borrowed_texts};
     ghost use Rattle.vortex_columns.specs.Words.{values_among};
     ghost use Rattle.vortex_columns.specs.Words.{MakeByteStrings, MakeStructs, MakeLists};
     ghost use Rattle.vortex_columns.specs.Words.{MakeFixedSizeLists, MakeMaps};
@@ -147,8 +147,8 @@ impl Column {
     /// A column of borrowed texts, which are copied once. E12 as for `try_utf8`.
     pub fn try_texts(alloc: Global, values: &[&str], validity: Validity) -> VortexResult<Column>
         ensures { AnswersWhere result
-            (MakeLentTexts values.now (validity_of validity))
-            (λ c. c ≡ text_rows (lent_texts values.now) (validity_of validity))
+            (MakeBorrowedTexts values.now (validity_of validity))
+            (λ c. c ≡ text_rows (borrowed_texts values.now) (validity_of validity))
             InvalidColumn }
     {
         if !validity.fits(values.len()) {

@@ -14,7 +14,7 @@ use vortex_types::{DType, NativePType, VortexResult};
 use vortex_views::ResolvedViews;
 
 impl Column {
-    ghost use Rattle.vortex_columns.specs.Words.{AreTyped, TellsNulls, TellsTruly, FitsRows};
+    ghost use Rattle.vortex_columns.specs.Words.{AreTyped, TellsNulls, TypeInvariant, FitsRows};
     ghost use Rattle.vortex_columns.specs.Words.{validity_of};
     ghost use Rattle.vortex_columns.specs.Words.{cell_value, IsCell, scalar_in, compare_values};
     ghost use Rattle.vortex_columns.specs.Words.{constant_column, array};
@@ -57,8 +57,8 @@ impl Column {
 
     /// Does nothing. Its contract is what is known of every column: the form of its validity is
     /// right for each row, and the scalar of a constant column has its type, even with no rows.
-    pub fn tells_truly(&self)
-        ensures { TellsTruly self.now }
+    pub fn type_invariant(&self)
+        ensures { TypeInvariant self.now }
     {
         let _opened = &self.storage;
     }
@@ -123,7 +123,7 @@ impl Column {
 /// The parts of a column that is not constant, borrowed. Allocates nothing.
 impl Column {
     ghost use Rattle.vortex_columns.specs.Words.{HasBits, AreBits, HasInts, AreInts, HasBytes};
-    ghost use Rattle.vortex_columns.specs.Words.{AreBytes, AreBytesAt, lent_values, array};
+    ghost use Rattle.vortex_columns.specs.Words.{AreBytes, AreBytesAt, borrowed_values, array};
     ghost use Rattle.vortex_columns.specs.Words.{valid_rows};
     ghost use Rattle.vortex_columns.specs.Words.{HasField, IsField, HasKind, AreLists, AreMaps};
     ghost use Rattle.vortex_columns.specs.Words.{AreFixedSizeLists, is_list_type, is_map_type};
@@ -157,7 +157,7 @@ impl Column {
     /// views with their buffers. Values under a null are arbitrary, and need not be UTF-8.
     pub fn views(&self) -> Option<ResolvedViews<'_>>
         ensures { MatchOption result (¬ HasBytes self.now)
-            (λ views. HasBytes self.now × AreBytes self.now (lent_values views)) }
+            (λ views. HasBytes self.now × AreBytes self.now (borrowed_values views)) }
     {
         match &self.storage {
             Storage::Rows(elements, _) => elements.views(),

@@ -1,7 +1,7 @@
 //! The stored rows of a column, borrowed.
 ghost use Rattle.std.specs.Prelude.{◌≡◌, ◌≢◌, ◌+◌, ◌*◌, ◌<◌, ◌≤◌, MatchOption, length, map};
 ghost use Rattle.std.specs.Prelude.{[], true, slice_index_or};
-ghost use Rattle.vortex_columns.specs.Words.{cell_value, IsCell, lent_values, part};
+ghost use Rattle.vortex_columns.specs.Words.{cell_value, IsCell, borrowed_values, part};
 
 use super::{Column, Elements, Storage};
 use crate::cell::{Cell, Sequence};
@@ -97,7 +97,7 @@ impl Elements {
     pub(super) fn views(&self) -> Option<ResolvedViews<'_>>
         ensures { MatchOption result (¬ KeptBytes (kept_of self.now))
             (λ views. KeptBytes (kept_of self.now)
-            × (kept_bytes (kept_of self.now) ≡ lent_values views)) }
+            × (kept_bytes (kept_of self.now) ≡ borrowed_values views)) }
     {
         match self {
             Elements::Utf8(values) => Some(values.resolved()),

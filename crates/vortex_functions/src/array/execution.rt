@@ -37,7 +37,7 @@ impl<C: ScalarFnVTable> ArrayRef<C> {
     /// borrowed, which allocates nothing.
     pub fn execute<'a>(&'a self, ctx: &mut ExecutionCtx) -> VortexResult<Cow<'a, Column>>
         ensures answer { AnswersArray C.meaning self.now result }
-        ensures lent { LendsColumn self.now result }
+        ensures borrowed { LendsColumn self.now result }
     {
         match &self.node {
             Node::Leaf(leaf) => Ok(Cow::Borrowed(leaf.column())),

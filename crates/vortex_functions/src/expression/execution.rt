@@ -54,7 +54,7 @@ impl ExpressionLeaf {
         requires { Fits columns.now row_count (expression_leaf {V = C} {O = C.Options} self.now) }
         ensures answer { AnswersTree C.meaning columns.now row_count (expression_leaf self.now)
             result }
-        ensures lent { LendsLeaf columns.now (expression_leaf {V = C} {O = C.Options} self.now)
+        ensures borrowed { LendsLeaf columns.now (expression_leaf {V = C} {O = C.Options} self.now)
             result }
     {
         match self {
@@ -179,7 +179,7 @@ impl<C: ScalarFnVTable> BoundExpression<C> {
     ) -> VortexResult<Cow<'a, Column>>
         requires { Fits columns.now row_count self.now }
         ensures answer { AnswersTree C.meaning columns.now row_count self.now result }
-        ensures lent { LendsLeaf columns.now self.now result }
+        ensures borrowed { LendsLeaf columns.now self.now result }
     {
         match &self.node {
             Node::Leaf(leaf) => leaf.rows::<C>(columns, row_count, ctx),
@@ -200,7 +200,7 @@ impl<C: ScalarFnVTable> BoundExpression<C> {
         ctx: &mut ExecutionCtx,
     ) -> VortexResult<Cow<'a, Column>>
         ensures answer { AnswersExecution C.meaning columns.now row_count self.now result }
-        ensures lent { Fits columns.now row_count self.now → LendsLeaf columns.now self.now result }
+        ensures borrowed { Fits columns.now row_count self.now → LendsLeaf columns.now self.now result }
     {
         self.check_columns(columns, row_count, ctx)?;
         self.execute_fitting(columns, row_count, ctx)

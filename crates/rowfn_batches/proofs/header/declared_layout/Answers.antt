@@ -11,7 +11,7 @@ pub loop-i-preserved : goal.loop-i-preserved
 loop-i-preserved c =
     let place = declared_place c.args.said.now in
     let i = c.loop-i.i in
-    rw (c.in_ok-push.ensures.items, c.loop-i.invariant, c.unwrap_or.ensures, c.place_said.ensures)
+    rw (c.in_ok-push.ensures.items, c.loop-i.invariant, c.unwrap_or.ensures, c.given_place.ensures)
     (sym (ap (map place) (range_more i) ∙ map-append place (range_with_len 0 i) (i ∷ [])))
 
 pub returns-clause-places : goal.returns-clause-places

@@ -15,7 +15,7 @@ loop-k-preserved c =
     let fields = fields_of c.args.header.now in
     next_column fields (struct_fields c.args.declared.now) c.args.said.now c.loop-k.k
     c.loop-k.places.items c.push.new.self.items c.in_ok-place.place c.loop-k.invariant
-    (rw (c.name.ensures, c.place_said.ensures) at c.in_ok-place.ensures) c.in_ok-push.ensures.items
+    (rw (c.name.ensures, c.given_place.ensures) at c.in_ok-place.ensures) c.in_ok-push.ensures.items
 
 pub returns-in_err-place : goal.returns-in_err-place
 returns-in_err-place c =
@@ -23,7 +23,7 @@ returns-in_err-place c =
     rw (p.1, p.2)
     (at_column c.loop-k.k c.loop-k.places.items
     (omega (arith, c.loop-k-test.true, c.len-k-end.ensures)) c.loop-k.invariant
-    (rw (c.name.ensures, c.place_said.ensures) at c.in_err-place.ensures))
+    (rw (c.name.ensures, c.given_place.ensures) at c.in_err-place.ensures))
 
 pub returns : goal.returns
 returns c =

@@ -11,20 +11,20 @@ returns-in_err-twice c =
     let p = err_from_is_err_and c.from_residual.result c.from_residual.ensures.1 in
     rw p.1 (without_memory p.2)
 
-pub returns-then-stands_again : goal.returns-then-stands_again
-returns-then-stands_again c =
+pub returns-then-repeats_later : goal.returns-then-repeats_later
+returns-then-repeats_later c =
     let answers = c.args.answers.now in
     let k = c.loop-place.place in
     let answer = c.index-answers-place.result in
     let named = name_at answers k answer c.loop-place-test.true c.index-answers-place.is in
-    stands_twice k (rw c.if-stands_again.true at c.stands_again.ensures)
+    stands_twice k (rw c.if-repeats_later.true at c.repeats_later.ensures)
     (subst (λ (name : List ℕ). TellsTwice name c.in_ok-twice.field-0) (sym named)
     c.in_ok-twice.ensures)
 
 pub loop-place-preserved : goal.loop-place-preserved
 loop-place-preserved c =
     below_more (λ (p : ℕ). StandsLast (names_of c.args.answers.now) p) c.loop-place.place
-    c.loop-place.invariant (rw c.if-stands_again.false at c.stands_again.ensures)
+    c.loop-place.invariant (rw c.if-repeats_later.false at c.repeats_later.ensures)
 
 pub returns : goal.returns
 returns c =

@@ -1,13 +1,13 @@
 use Rattle.std.proofs.Common.{◌≡◌, ◌∙◌, not, refl, sym, arith}
 use Rattle.std.proofs.lemmas.List.{at_drop_all}
 use denote.Enum.Bare.{sameb}
-use Rattle.rowfn_csv.specs.contracts.raw.Place.{the_type}
-use Rattle.rowfn_csv.specs.declared.raw.Place.{Place}
-use Rattle.rowfn_csv.specs.declared.raw.Place.TheVariants as at
+use Rattle.rowfn_csv.specs.contracts.raw.RecordPlace.{the_type}
+use Rattle.rowfn_csv.specs.declared.raw.RecordPlace.{RecordPlace}
+use Rattle.rowfn_csv.specs.declared.raw.RecordPlace.TheVariants as at
 use Rattle.rowfn_csv.proofs.Scanning.{closed_says, closed_at, ends_closed}
 use Rattle.rowfn_csv.proofs.raw.is_closed.Goals as goal
 
-closed_here : (p : Place) → not (sameb the_type p at.Quoted) ≡ closed_at p
+closed_here : (p : RecordPlace) → not (sameb the_type p at.Quoted) ≡ closed_at p
 closed_here at.Start = refl
 closed_here at.Plain = refl
 closed_here at.Quoted = refl

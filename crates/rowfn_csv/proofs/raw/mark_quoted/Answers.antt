@@ -2,19 +2,19 @@ use Rattle.std.proofs.Common.{◌≡◌, ◌∙◌, ◌++◌, ◌∷◌, [], Boo
 use Rattle.std.proofs.Common.{arith, append-nil}
 use Rattle.std.proofs.lemmas.List.{at_drop_all}
 use denote.Enum.Bare.{sameb}
-use Rattle.rowfn_csv.specs.contracts.raw.Place.{the_type}
-use Rattle.rowfn_csv.specs.declared.raw.Place.{Place}
-use Rattle.rowfn_csv.specs.declared.raw.Place.TheVariants as at
+use Rattle.rowfn_csv.specs.contracts.raw.RecordPlace.{the_type}
+use Rattle.rowfn_csv.specs.declared.raw.RecordPlace.{RecordPlace}
+use Rattle.rowfn_csv.specs.declared.raw.RecordPlace.TheVariants as at
 use Rattle.rowfn_csv.proofs.Scanning.{marks, marks_say, last_mark}
 use Rattle.rowfn_csv.proofs.raw.mark_quoted.Goals as goal
 
-at_start : (p : Place) → true ≡ sameb the_type p at.Start → false ∷ [] ≡ last_mark p
+at_start : (p : RecordPlace) → true ≡ sameb the_type p at.Start → false ∷ [] ≡ last_mark p
 at_start at.Start e = refl
 at_start at.Plain e = cc e
 at_start at.Quoted e = cc e
 at_start at.Closed e = cc e
 
-elsewhere : (p : Place) → false ≡ sameb the_type p at.Start → [] ≡ last_mark p
+elsewhere : (p : RecordPlace) → false ≡ sameb the_type p at.Start → [] ≡ last_mark p
 elsewhere at.Start e = cc e
 elsewhere at.Plain e = refl
 elsewhere at.Quoted e = refl

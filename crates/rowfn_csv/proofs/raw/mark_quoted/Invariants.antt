@@ -1,5 +1,5 @@
 use Rattle.std.proofs.Common.{◌≡◌, ◌++◌, drop}
-use Rattle.rowfn_csv.specs.declared.raw.Place.TheVariants as at
+use Rattle.rowfn_csv.specs.declared.raw.RecordPlace.TheVariants as at
 use Rattle.rowfn_csv.proofs.Scanning.{marks}
 use Rattle.rowfn_csv.proofs.raw.mark_quoted.Given as goal
 

@@ -1,7 +1,7 @@
 use Rattle.std.proofs.Common.{◌≡◌, ◌+◌, ◌∙◌, ℕ, true, map, ap, subst}
 use Rattle.std.specs.Prelude.{IsUtf8}
 use Rattle.vortex_columns.specs.ValidityView.{validity_of, is_valid_row}
-use Rattle.vortex_columns.specs.Made.{lent_texts}
+use Rattle.vortex_columns.specs.Made.{borrowed_texts}
 use Rattle.vortex_arrow.specs.Values.{offset_at, bytes_between, LieWithin}
 use Rattle.vortex_arrow.proofs.Found.{FindsTexts, found_told}
 use Rattle.vortex_arrow.proofs.reading.read_spanned_texts.Goals as goal
@@ -21,4 +21,4 @@ returns-in-Some g c =
     (λ i. is_valid_row v i ≡ true → IsUtf8 (item (from + i))) _ c.column_of_texts.result
     c.deref.result.now item v from c.requires.fits
     (λ i lt. ((found.0 i lt).0, λ valid. (found.0 i lt).1))
-    (ap lent_texts c.deref.ensures.value ∙ found.1) c.column_of_texts.ensures
+    (ap borrowed_texts c.deref.ensures.value ∙ found.1) c.column_of_texts.ensures

@@ -1,11 +1,11 @@
 use Rattle.std.proofs.Common.{◌∙◌}
-use Rattle.vortex_cells.proofs.FieldRows.{text_said, none_said}
+use Rattle.vortex_cells.proofs.FieldRows.{token_text, none_said}
 use Rattle.vortex_cells.proofs.fields.read_text.Goals as goal
 
 pub returns-in-Some : goal.returns-in-Some
 returns-in-Some g c = λ n.
     c.read.ensures n
-    ∙ text_said (g.K.CellTypes.kind n) c.args.bytes.now c.in-Some.text.now c.in-Some.ensures.0
+    ∙ token_text (g.K.CellTypes.kind n) c.args.bytes.now c.in-Some.text.now c.in-Some.ensures.0
     c.in-Some.ensures.1
 
 pub returns-in-None : goal.returns-in-None

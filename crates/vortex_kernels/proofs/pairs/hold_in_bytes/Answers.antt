@@ -1,5 +1,5 @@
-use Rattle.vortex_views.specs.LentValue.{constant_value}
-use Rattle.vortex_views.specs.LentValues.{lent_values}
+use Rattle.vortex_views.specs.BorrowedValue.{constant_value}
+use Rattle.vortex_views.specs.BorrowedValues.{borrowed_values}
 use Rattle.vortex_kernels.specs.PairOrders.{byte_orders, byte_orders_with}
 use Rattle.vortex_kernels.proofs.Comparing.{answers_compare, bytes_order, bytes_order_with}
 use Rattle.vortex_kernels.proofs.pairs.hold_in_bytes.Goals as goal
@@ -8,8 +8,8 @@ pub returns-in-Some-Some-default : goal.returns-in-Some-Some-default
 returns-in-Some-Some-default g c =
     let l = c.args.lhs.now in
     let r = c.args.rhs.now in
-    let xs = lent_values c.in-Some-Some-default.left in
-    let ys = lent_values c.in-Some-Some-default.right in
+    let xs = borrowed_values c.in-Some-Some-default.left in
+    let ys = borrowed_values c.in-Some-Some-default.right in
     answers_compare g.P.Comparison.operator (byte_orders xs ys) l.rows r.rows c.hold_in_pairs.result
     (bytes_order l r c.requires.lengths c.requires.kind xs ys c.in-Some-Some-default.ensures
     c.in-Some-Some-default.ensures')
@@ -19,7 +19,7 @@ pub returns-in-Some-None-Some : goal.returns-in-Some-None-Some
 returns-in-Some-None-Some g c =
     let l = c.args.lhs.now in
     let r = c.args.rhs.now in
-    let xs = lent_values c.in-Some-None-Some.left in
+    let xs = borrowed_values c.in-Some-None-Some.left in
     let bs = constant_value c.in-Some-None-Some.right in
     answers_compare g.P.Comparison.operator (byte_orders_with xs bs) l.rows r.rows
     c.hold_in_pairs-in-Some-None-Some.result

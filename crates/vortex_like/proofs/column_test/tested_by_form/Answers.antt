@@ -12,7 +12,7 @@ pub returns : goal.returns
 returns c =
     let test = c.args.test.now in
     let texts = texts_of c.args.texts in
-    AnswersUnlessMemory-weaker c.said_by_form.result _ _
+    AnswersUnlessMemory-weaker c.form_results.result _ _
     (λ (bits : List Bool).
     told_alike (form_said test)
     (λ (bytes : List ℕ). is_match (test_folds test) (test_tokens test) (chars bytes))
@@ -20,4 +20,4 @@ returns c =
     (λ i lt valid.
     form_answer test (text_at texts i) ((c.requires.texts.each i lt).utf8 valid)
     (λ form. c.requires.ascii form i lt valid)))
-    c.said_by_form.ensures
+    c.form_results.ensures

@@ -7,7 +7,7 @@ use Rattle.vortex_like.specs.EachPattern.{AreBothValid, IsCompiled}
 use Rattle.vortex_like.specs.Patterns.{PatternView}
 use Rattle.vortex_like.specs.Rows.{AreTold, IsLikeBit, AreLikeBits}
 use Rattle.vortex_like.specs.TextRows.{texts_of, text_at}
-use Rattle.vortex_views.specs.LentValue.{row_value}
+use Rattle.vortex_views.specs.BorrowedValue.{row_value}
 use Rattle.vortex_like.proofs.RowLemmas.{told_more}
 use Rattle.vortex_like.proofs.EachRow.{row_like}
 use Rattle.vortex_like.proofs.KeptPatterns.{kept_is}

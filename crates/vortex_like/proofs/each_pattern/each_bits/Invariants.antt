@@ -4,7 +4,7 @@ use Rattle.std.specs.Option.{IfSome}
 use Rattle.std.specs.Vec.{vec_capacity}
 use Rattle.vortex_columns.specs.ColumnView.{row}
 use Rattle.vortex_like.specs.EachPattern.{IsCompiled, IsKeptAt}
-use Rattle.vortex_views.specs.LentValue.{row_value}
+use Rattle.vortex_views.specs.BorrowedValue.{row_value}
 use Rattle.vortex_like.specs.Rows.{AreTold, IsLikeBit}
 use Rattle.vortex_like.proofs.each_pattern.each_bits.Given as goal
 

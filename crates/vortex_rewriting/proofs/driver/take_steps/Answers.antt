@@ -4,7 +4,7 @@ use Rattle.vortex_types.specs.TypeOf.{type_of}
 use Rattle.vortex_interface.specs.Eval.{tree_type}
 use Rattle.vortex_interface.specs.Driver.{step}
 use Rattle.vortex_rewriting.specs.Frames.{plug, frames_in, HaveRows}
-use Rattle.vortex_rewriting.specs.Found.{IsFound, FoundHasRows}
+use Rattle.vortex_rewriting.specs.FoundRewrite.{IsFound, FoundHasRows}
 use Rattle.vortex_rewriting.proofs.Optimizing.{run_typed, rule_sound}
 use Rattle.vortex_rewriting.proofs.StepsBelow.{run_on, step_plug}
 use Rattle.vortex_rewriting.proofs.driver.take_steps.Goals as goal

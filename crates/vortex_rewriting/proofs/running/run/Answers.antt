@@ -32,4 +32,4 @@ returns g c =
     c.args.columns.now c.args.row_count c.args.tree.now o.tree (type_of c.dtype-typed.result.now)
     c.execute.result c.dtype-typed.ensures.dtype c.dtype-typed.ensures.typed
     c.in_ok-check_columns.ensures.answer c.in_ok-check_columns.ensures.typed ended
-    c.execute.ensures.answer c.execute.ensures.lent
+    c.execute.ensures.answer c.execute.ensures.borrowed

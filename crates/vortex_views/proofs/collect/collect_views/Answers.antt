@@ -11,11 +11,11 @@ returns-in_err-push g c =
     let f = g.T.ByteString.bytes in
     let p = err_from_is_err_and c.from_residual.result c.from_residual.ensures.1 in
     rw (p.1, p.2)
-    (refused_sooner (HasRoomFor c.loop-value.builder c.lend_bytes.result.now)
+    (refused_sooner (HasRoomFor c.loop-value.builder c.borrow_bytes.result.now)
     (HaveRoom (map f c.args.values.now)) c.in_err-push.field-0.0
     (next_has_room f c.args.values.now c.loop-value.value-index c.value-item.result
-    c.loop-value-test.true c.loop-value.builder c.lend_bytes.result.now c.loop-value.invariant.0
-    (c.lend_bytes.ensures ∙ ap f c.value-item.is))
+    c.loop-value-test.true c.loop-value.builder c.borrow_bytes.result.now c.loop-value.invariant.0
+    (c.borrow_bytes.ensures ∙ ap f c.value-item.is))
     c.in_err-push.ensures.answer)
 
 pub loop-value-preserved : goal.loop-value-preserved
@@ -25,6 +25,6 @@ loop-value-preserved g c =
     let k = c.loop-value.value-index in
     let kept =
     next_kept f xs k c.value-item.result c.loop-value-test.true c.loop-value.builder
-    c.lend_bytes.result.now c.loop-value.invariant.0 (c.lend_bytes.ensures ∙ ap f c.value-item.is)
+    c.borrow_bytes.result.now c.loop-value.invariant.0 (c.borrow_bytes.ensures ∙ ap f c.value-item.is)
     c.loop-value.invariant.1 c.in_ok-push.ensures.answer.0 in
     (c.in_ok-push.ensures.answer.1 ∙ kept.0, kept.1)

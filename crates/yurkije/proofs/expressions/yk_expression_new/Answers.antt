@@ -1,11 +1,11 @@
 use Rattle.std.proofs.Common.{◌≡◌, ℕ, List, subst, ap, sym, ◌∙◌}
-use Rattle.yurkije_columns.specs.declared.fields.LentField.{LentField}
-use Rattle.yurkije_columns.specs.Scopes.{scope_lent}
+use Rattle.yurkije_columns.specs.declared.fields.BorrowedField.{BorrowedField}
+use Rattle.yurkije_columns.specs.Scopes.{scope_borrowed}
 use Rattle.yurkije_columns.specs.Messages.{scope_words}
 use Rattle.yurkije_core.specs.Reports.{scope_told}
 use Rattle.yurkije.specs.Reading.{HoldsRead, no_scope}
 use Rattle.yurkije.proofs.ReadHeld.{read_holds}
-use Rattle.yurkije.proofs.Told.{refuses_in}
+use Rattle.yurkije.proofs.ErrorNumbers.{refuses_in}
 use Rattle.yurkije.proofs.expressions.yk_expression_new.Goals as goal
 
 pub returns-in-Ok : goal.returns-in-Ok
@@ -17,7 +17,7 @@ returns-in-Ok c =
     let fields = c.placed.result.now in
     let text = c.placed-in-Ok.result.now in
     let read = c.read_program-read.ensures in
-    subst (λ (fs : List LentField). HoldsRead fs c.args.text.now held result old report)
+    subst (λ (fs : List BorrowedField). HoldsRead fs c.args.text.now held result old report)
     c.placed.ensures
     (subst (λ (t : List ℕ). HoldsRead fields t held result old report) c.placed-in-Ok.ensures
     (read_holds held result old report fields text c.in-Ok.scope c.read_program-read.result
@@ -27,8 +27,8 @@ returns-in-Ok c =
 pub returns-in-Err : goal.returns-in-Err
 returns-in-Err c =
     let wrong = c.in-Err.wrong in
-    no_scope wrong (λ other. ap scope_lent (sym c.placed.ensures) ∙ c.in-Err.ensures other)
+    no_scope wrong (λ other. ap scope_borrowed (sym c.placed.ensures) ∙ c.in-Err.ensures other)
     (refuses_in (λ w. w ≡ scope_words wrong.field wrong.fault) c.scope_words-words.result
-    (scope_told wrong) c.of_scope.result c.clear.new.self.held c.tell_in.result c.args.error.now
-    c.tell_in.new.self c.of_scope.ensures c.clear.ensures c.tell_in.ensures.status
-    c.tell_in.ensures.told c.scope_words-words.ensures c.tell_in.ensures.message)
+    (scope_told wrong) c.of_scope.result c.clear.new.self.held c.report_text.result c.args.error.now
+    c.report_text.new.self c.of_scope.ensures c.clear.ensures c.report_text.ensures.status
+    c.report_text.ensures.told c.scope_words-words.ensures c.report_text.ensures.message)

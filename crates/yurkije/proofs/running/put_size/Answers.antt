@@ -5,8 +5,8 @@ use Rattle.yurkije.proofs.running.put_size.Goals as goal
 
 pub returns-in-Ok : goal.returns-in-Ok
 returns-in-Ok c =
-    asks_found c.args.held.now.answers c.args.answer c.size_told.result _
-    (λ d. Sizes d c.args.size.now c.size_told.new.size c.size_told.result) c.in-Ok.column.now c.in-Ok.ensures c.size_told.ensures
+    asks_found c.args.held.now.answers c.args.answer c.reported_size.result _
+    (λ d. Sizes d c.args.size.now c.reported_size.new.size c.reported_size.result) c.in-Ok.column.now c.in-Ok.ensures c.reported_size.ensures
 
 pub returns-in-Err : goal.returns-in-Err
 returns-in-Err c =

@@ -5,7 +5,7 @@ use Rattle.yurkije.proofs.running.put_true_rows.Goals as goal
 
 pub returns-in-Ok : goal.returns-in-Ok
 returns-in-Ok g c =
-    let told = c.true_rows_told in
+    let told = c.reported_true_rows in
     asks_found c.args.held.now.answers c.args.answer told.result _
     (λ d. SelectsBy g.I.IndexType.number d g.I.IndexType.most c.args.numbers.now told.new.numbers
     told.new.count told.result)

@@ -1,23 +1,23 @@
 use Rattle.std.proofs.Common.{◌≡◌, List, subst, sym}
 use Rattle.vortex_arrow.specs.declared.column.ArrowColumn.{ArrowColumn}
-use Rattle.yurkije_columns.specs.Lent.{AllSay}
-use Rattle.yurkije_columns.specs.Messages.{lent_words}
-use Rattle.yurkije_core.specs.Reports.{lent_told, run_told}
+use Rattle.yurkije_columns.specs.Borrowed.{AllSay}
+use Rattle.yurkije_columns.specs.Messages.{borrowed_words}
+use Rattle.yurkije_core.specs.Reports.{borrowed_told, run_told}
 use Rattle.yurkije_core.specs.Messages.{IsRunWords}
 use Rattle.yurkije.specs.Views.{program_view}
 use Rattle.yurkije.specs.Answering.{no_kind, refused}
 use Rattle.yurkije.proofs.RunHeld.{run_holds}
-use Rattle.yurkije.proofs.Told.{refuses_in}
+use Rattle.yurkije.proofs.ErrorNumbers.{refuses_in}
 use Rattle.yurkije.proofs.running.run.Goals as goal
 
 pub returns-in-Err : goal.returns-in-Err
 returns-in-Err c =
     let wrong = c.in-Err.wrong in
     no_kind wrong c.in-Err.ensures
-    (refuses_in (λ w. w ≡ lent_words wrong) c.lent_words-words.result (lent_told wrong)
-    c.of_lent.result c.args.answers.now.held c.tell_in.result c.args.error.now c.tell_in.new.self
-    c.of_lent.ensures c.requires c.tell_in.ensures.status c.tell_in.ensures.told
-    c.lent_words-words.ensures c.tell_in.ensures.message)
+    (refuses_in (λ w. w ≡ borrowed_words wrong) c.borrowed_words-words.result (borrowed_told wrong)
+    c.of_borrowed.result c.args.answers.now.held c.report_text.result c.args.error.now c.report_text.new.self
+    c.of_borrowed.ensures c.requires c.report_text.ensures.status c.report_text.ensures.told
+    c.borrowed_words-words.ensures c.report_text.ensures.message)
 
 pub returns-in-Ok-run_program : goal.returns-in-Ok-run_program
 returns-in-Ok-run_program c =
@@ -33,7 +33,7 @@ returns c =
     let say =
     subst (λ (xs : List ArrowColumn). AllSay c.args.columns.now xs) (sym c.deref.ensures.value)
     c.in-Ok.ensures in
-    let told = c.tell_in-in-Err-run_program in
+    let told = c.report_text-in-Err-run_program in
     let wrong = c.in-Err-run_program.wrong in
     let p = program_view c.args.program.now in
     refused c.deref.result.now wrong say c.in-Err-run_program.ensures

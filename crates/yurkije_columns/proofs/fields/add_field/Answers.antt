@@ -12,21 +12,21 @@ use Rattle.yurkije_columns.proofs.fields.add_field.Goals as goal
 
 pub returns-in-Ok : goal.returns-in-Ok
 returns-in-Ok c =
-    let lent = c.args.lent.now in
-    let readable = is_utf8-from_IsUtf8 lent.name.now c.in-Ok.ensures.cases.1 in
+    let borrowed = c.args.borrowed.now in
+    let readable = is_utf8-from_IsUtf8 borrowed.name.now c.in-Ok.ensures.cases.1 in
     subst
     (λ (o : Outcome ScopeFault). MatchResult c.push_field.result
     (λ _. o ≡ answers (struct_fields c.push_field.new.scope))
     (λ fault. fault ≢ OutOfMemory → o ≡ refuses fault))
     (sym
-    (text_is _ lent c.in-Some.kind (sym c.kind_numbered.ensures ∙ c.in-Some.is)
+    (text_is _ borrowed c.in-Some.kind (sym c.kind_numbered.ensures ∙ c.in-Some.is)
     c.in-Ok.name.now c.in-Ok.ensures.cases.0 readable))
     c.push_field.ensures
 
 pub returns-in-Err : goal.returns-in-Err
 returns-in-Err c other =
-    let lent = c.args.lent.now in
-    let unreadable : is_utf8 lent.name.now ≡ false =
-    false_from_ne_true (is_utf8 lent.name.now)
-    (λ e. c.in-Err.ensures.cases.0 (IsUtf8-from_is_utf8 lent.name.now e)) in
-    no_text _ lent c.in-Some.kind (sym c.kind_numbered.ensures ∙ c.in-Some.is) unreadable
+    let borrowed = c.args.borrowed.now in
+    let unreadable : is_utf8 borrowed.name.now ≡ false =
+    false_from_ne_true (is_utf8 borrowed.name.now)
+    (λ e. c.in-Err.ensures.cases.0 (IsUtf8-from_is_utf8 borrowed.name.now e)) in
+    no_text _ borrowed c.in-Some.kind (sym c.kind_numbered.ensures ∙ c.in-Some.is) unreadable

@@ -10,8 +10,8 @@ returns-in_err-place g c =
 
 pub returns-in-Some : goal.returns-in-Some
 returns-in-Some g c =
-    but_for c.pass_told.new.self c.in-Some.place (g.W.Write.contents c.pass_told.new.writer)
-    c.pass_told.new.refusals.count (rw c.in-Some.is at c.in_ok-place.ensures)
+    but_for c.pass_reporting.new.self c.in-Some.place (g.W.Write.contents c.pass_reporting.new.writer)
+    c.pass_reporting.new.refusals.count (rw c.in-Some.is at c.in_ok-place.ensures)
     (rw (← c.saturating_add.ensures) c.pass_rest.ensures)
 
 pub returns-in-None : goal.returns-in-None

@@ -14,9 +14,9 @@ returns g c =
     loaded c.load.new.self c.in_ok-load.ensures.refilled
     (has_part c.args.fields.now c.args.asked.now c.fields_from-fields.result.now
     c.fields_from-asked.result.now c.args.spans.now _ c.args.part.0 c.args.part.1 c.len-width.result
-    c.asked_width.result c.args.self.now c.load.new.self c.in_ok-load.ensures.refilled
-    (c.len-width.ensures ∙ c.args.self.now.layout.places.ok.0) c.asked_width.ensures
+    c.condition_width.result c.args.self.now c.load.new.self c.in_ok-load.ensures.refilled
+    (c.len-width.ensures ∙ c.args.self.now.layout.places.ok.0) c.condition_width.ensures
     c.fields_from-fields.ensures c.fields_from-asked.ensures
     (ap (λ (n : ℕ). take n (drop c.args.part.0 c.args.spans.now)) (omega arith))
     c.in_ok-load.ensures.loaded)
-    c.pass_told.ensures
+    c.pass_reporting.ensures

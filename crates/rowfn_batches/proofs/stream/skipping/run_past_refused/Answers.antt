@@ -24,7 +24,7 @@ pub batches-preserved : goal.batches-preserved
 batches-preserved g c =
     let on : c.in_ok-goes_on.goes_on ≡ true = search rules in
     rw add-one
-    (one_more c.batches._turn c.batches.stream c.pass_next_told.new.self _ _ _ _
+    (one_more c.batches._turn c.batches.stream c.pass_next_reporting.new.self _ _ _ _
     c.batches.invariant (rw on at c.in_ok-goes_on.ensures))
 
 pub returns-in_err-goes_on-clause-flows : goal.returns-in_err-goes_on-clause-flows
@@ -33,7 +33,7 @@ returns-in_err-goes_on-clause-flows g c =
     c.from_residual-in_err-goes_on.ensures.1 in
     let head = c.in_ok-stream.ensures in
     let wrote = c.in_ok-write.ensures in
-    at_error c.batches._turn c.write.new.self c.batches.stream c.pass_next_told.new.self
+    at_error c.batches._turn c.write.new.self c.batches.stream c.pass_next_reporting.new.self
     (g.W.Write.contents c.write.new.writer)
     (g.W.Write.contents c.batches.writer) c.batches.refusals.count
     c.in_err-goes_on.field-0.0
@@ -49,7 +49,7 @@ returns-then-not-goes_on-clause-flows g c =
     let head = c.in_ok-stream.ensures in
     let wrote = c.in_ok-write.ensures in
     let off : c.in_ok-goes_on.goes_on ≡ false = search rules in
-    at_end c.batches._turn c.write.new.self c.batches.stream c.pass_next_told.new.self
+    at_end c.batches._turn c.write.new.self c.batches.stream c.pass_next_reporting.new.self
     (g.W.Write.contents c.write.new.writer) (g.W.Write.contents c.batches.writer)
     c.batches.refusals.count
     (has_begun c.args.reader c.args.settings.now c.args.asked.now

@@ -3,7 +3,7 @@ use Rattle.std.proofs.Common.{slice_index, ap, sym, get_or}
 use Rattle.std.specs.List.{list_any}
 use Rattle.std.proofs.lemmas.List.Folds.{list_any_at}
 use Rattle.memchr.specs.Find.{is_byte}
-use Rattle.rowfn_csv.specs.declared.raw.Place.TheVariants as at
+use Rattle.rowfn_csv.specs.declared.raw.RecordPlace.TheVariants as at
 use Rattle.rowfn_csv.specs.Records.{without_line_end}
 use Rattle.rowfn_csv.proofs.Scanning.{marks_say, none_marked}
 use Rattle.rowfn_csv.proofs.raw.Quotes.mark.Goals as goal

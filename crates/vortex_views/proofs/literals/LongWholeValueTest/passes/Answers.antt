@@ -2,7 +2,7 @@ use Rattle.std.proofs.Common.{◌≡◌, ◌∙◌, sym, arith}
 use Rattle.std.proofs.lemmas.Bool.Decides.{same_from_decides}
 use Rattle.std.proofs.lemmas.Slice.Eq.{bytes_eq-Decides}
 use Rattle.std.specs.Str.{bytes_eq}
-use Rattle.vortex_views.specs.LentValue.{row_value}
+use Rattle.vortex_views.specs.BorrowedValue.{row_value}
 use Rattle.vortex_views.specs.ViewBytes.{view_bytes}
 use Rattle.vortex_views.proofs.Telling.{other_heads, heads_begin}
 use Rattle.vortex_views.proofs.literals.LongWholeValueTest.passes.Goals as goal
@@ -34,9 +34,9 @@ pub returns : goal.returns
 returns c =
     let literal = c.args.self.now.literal.now in
     let value = row_value c.args.row.now in
-    let lent = c.value_bytes-value.ensures in
+    let borrowed = c.value_bytes-value.ensures in
     same_from_decides c.equal_after.result (bytes_eq literal value) (
-      λ yes. sym (c.equal_after.ensures.0 yes) ∙ lent,
-      λ (same : literal ≡ value). c.equal_after.ensures.1 (lent ∙ sym same),
+      λ yes. sym (c.equal_after.ensures.0 yes) ∙ borrowed,
+      λ (same : literal ≡ value). c.equal_after.ensures.1 (borrowed ∙ sym same),
     )
     (bytes_eq-Decides literal value)

@@ -1,7 +1,7 @@
 use Rattle.std.proofs.Common.{◌-◌, ◌∙◌, ap, subst, length, drop, arith}
 use Rattle.std.proofs.lemmas.List.{take_all, length-drop}
 use Rattle.std.specs.Str.{bytes_eq}
-use Rattle.vortex_views.specs.LentValue.{row_value}
+use Rattle.vortex_views.specs.BorrowedValue.{row_value}
 use Rattle.vortex_views.specs.ViewBytes.{view_bytes}
 use Rattle.vortex_views.proofs.Digits.{AreBytes}
 use Rattle.vortex_views.proofs.Telling.{too_short_end, inlined_end}
@@ -29,10 +29,10 @@ returns c =
     let literal = c.args.self.now.literal.now in
     let value = row_value c.args.row.now in
     let own = c.value_bytes-2.result.now in
-    let lent = c.value_bytes-2.ensures in
+    let borrowed = c.value_bytes-2.ensures in
     let at = c.value_len-len.result - length literal in
     c.eq.ensures
     ∙ ap (λ z. bytes_eq literal z)
     (take_all (length own - at) (drop at own) (omega (arith, length-drop at own))
-    ∙ ap (λ z. drop at z) lent
+    ∙ ap (λ z. drop at z) borrowed
     ∙ ap (λ n. drop (n - length literal) value) c.value_len-len.ensures)

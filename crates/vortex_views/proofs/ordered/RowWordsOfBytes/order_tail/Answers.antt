@@ -27,8 +27,8 @@ long_tail-requires c =
     let long : 12 < n =
     is_long c.is_inlined.result n c.is_inlined.ensures.1 c.if-is_inlined.false (cases_lt 12 n) in
     let same = (view_of _ _ c.args.self.now.fit).len in
-    let lent = ap length c.value_of.ensures in
-    omega (arith, long, same, lent)
+    let borrowed = ap length c.value_of.ensures in
+    omega (arith, long, same, borrowed)
 
 pub returns-else-is_inlined : goal.returns-else-is_inlined
 returns-else-is_inlined c = c.long_tail.ensures ∙ ap order_tail_word c.value_of.ensures

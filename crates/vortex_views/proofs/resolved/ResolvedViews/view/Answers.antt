@@ -14,7 +14,7 @@ returns c =
     let within : c.args.i < length views =
     omega (arith, length-map views (λ w. value_in bufs (view_bytes w))) in
     record {
-      lent = ap view_bytes c.view_at.ensures
+      borrowed = ap view_bytes c.view_at.ensures
           ∙ sym (get_or-map view_bytes views c.args.i v [] within);
       fits = at;
       value = subst (λ x. IsViewOf x (view_bytes v))

@@ -18,7 +18,7 @@ returns-in-Leaf-clause-answer g c =
     subst (λ t. AnswersTree g.C.ScalarFnVTable.meaning c.args.columns.now c.args.row_count t
     c.rows.result) (sym is) c.rows.ensures.answer
 
-pub returns-in-Leaf-clause-lent : goal.returns-in-Leaf-clause-lent
-returns-in-Leaf-clause-lent g c =
+pub returns-in-Leaf-clause-borrowed : goal.returns-in-Leaf-clause-borrowed
+returns-in-Leaf-clause-borrowed g c =
     let is = sym c.self.view_is ∙ ap expression_node c.in-Leaf.is in
-    subst (λ t. LendsLeaf c.args.columns.now t c.rows.result) (sym is) c.rows.ensures.lent
+    subst (λ t. LendsLeaf c.args.columns.now t c.rows.result) (sym is) c.rows.ensures.borrowed

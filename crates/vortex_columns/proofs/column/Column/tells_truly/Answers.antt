@@ -1,5 +1,0 @@
-use Rattle.vortex_columns.proofs.StoredRows.{opened_told}
-use Rattle.vortex_columns.proofs.column.Column.tells_truly.Goals as goal
-
-pub returns : goal.returns
-returns c = opened_told c.self.inside _ c.self.view_is c.self.invariant

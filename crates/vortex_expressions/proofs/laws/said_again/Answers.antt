@@ -1,7 +1,0 @@
-use Rattle.vortex_expressions.proofs.ReadBack.{text_back}
-use Rattle.vortex_expressions.proofs.ReadOver.{tree_over}
-use Rattle.vortex_expressions.proofs.laws.said_again.Goals as goal
-
-pub returns : goal.returns
-returns c = λ scope text other tree e g. text_back scope tree other
-    (tree_over scope e.syntax tree e.bound) g
