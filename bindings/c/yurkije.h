@@ -3,9 +3,9 @@
  *
  * An expression is a text over named fields, `price * stock as worth, name like 'a%'`. It is read
  * once, and then run over as many batches of columns as there are. Columns are read where they lie,
- * in the layout of Apache Arrow: each run copies each of them once, part by part where all are
- * truth values or integers, and keeps nothing of the caller's. Answers are columns, which are copied
- * into buffers of the caller in the same layout.
+ * in the layout of Apache Arrow: each run copies each that an answer reads once, part by part where
+ * all are truth values or integers, and keeps nothing of the caller's. Answers are columns, which are
+ * copied into buffers of the caller in the same layout.
  *
  *     struct yk_expression expression;
  *     struct yk_answers answers;
@@ -51,8 +51,9 @@
  * 3. What a call reads is neither written by another thread nor freed while the call runs. What a
  *    call writes to (handles, `yk_error`, rooms, counts) overlaps nothing else that it is handed.
  *    Behind the call the library keeps no pointer to anything of the caller's.
- * 4. A handle is used by one thread at a time, and stays on the thread that filled it. Threads make
- *    handles of their own; handles of one thread share nothing with those of another.
+ * 4. Calls that take a `const` handle only read it: any number of threads may make them at once over
+ *    one handle. A call that fills or frees a handle is made by the thread that filled it first, and
+ *    while no other call over it runs; a lock, a start or a join orders it with those of other threads.
  * 5. No call is made from a signal handler, nor in the forked child of a process with threads.
  *    `malloc`, `realloc` and `free` are the C library's, or do what its do.
  *
@@ -66,8 +67,8 @@
  * - Where memory is refused, a call answers YK_OUT_OF_MEMORY and leaks nothing. It never aborts.
  * - Calls read nothing outside of the slices that they are handed, whatever stands in them.
  *
- * A batch whose columns and answers are all truth values or integers runs in parts of 2,048 rows, and
- * may have any number of rows. With texts or byte strings batches of some 8,192 rows run fastest: for
+ * A batch of which the columns that are read and the answers are all truth values or integers runs in
+ * parts of 2,048 rows, and may have any number of rows. With texts or byte strings batches of some 8,192 rows run fastest: for
  * larger ones the C library may give memory back to the system and fetch it again at each call.
  */
 #ifndef YURKIJE_H
@@ -217,9 +218,10 @@ struct yk_type {
     bool nullable;
 };
 
-/* A column, which is borrowed for a run and copied once. Row `i` is item `offset + i`: bit of the
+/* A column, which is borrowed for a run and, where an answer reads it, copied once. Row `i` is item `offset + i`: bit of the
  * validity and of truth values, integer, view, and text from its offset to the next. `kind` says
- * which of the slices are read; the others stay zeroed. No row is null where `validity` is empty.
+ * which of the slices are read; the others stay zeroed. A column that no answer reads may be zeroed as
+ * a whole. No row is null where `validity` is empty.
  * What lies under a null may be anything, but for offsets: there too they are not negative, do not
  * fall, and do not pass the end of `data`. Of rows that are wrong the first is told. Texts that are
  * too long are told where no row is wrong, byte strings that are too long in their row's turn. */
@@ -292,34 +294,40 @@ uint32_t yk_expression_new(const char *text, size_t length,
 void yk_expression_free(struct yk_expression *expression);
 
 /* How many fields the scope has. */
-uint32_t yk_field_count(struct yk_expression *expression, size_t *count);
+uint32_t yk_field_count(const struct yk_expression *expression, size_t *count);
 
 /* The name of field `field`, as yk_version answers its text, and its type. */
-uint32_t yk_field_name(struct yk_expression *expression, size_t field,
+uint32_t yk_field_name(const struct yk_expression *expression, size_t field,
                        char *room, size_t room_length, size_t *length);
-uint32_t yk_field_type(struct yk_expression *expression, size_t field, struct yk_type *type);
+uint32_t yk_field_type(const struct yk_expression *expression, size_t field, struct yk_type *type);
+
+/* The numbers of the fields that an answer reads, ascending, and how many they are. `numbers` has room
+ * for `room` of them, at most as many as there are fields. YK_ROOM_TOO_SMALL where that is less room;
+ * then none is written, and `count` is told even so. */
+uint32_t yk_fields_read(const struct yk_expression *expression, size_t *numbers, size_t room, size_t *count);
 
 /* How many answers the expression has: at least one. */
-uint32_t yk_answer_count(struct yk_expression *expression, size_t *count);
+uint32_t yk_answer_count(const struct yk_expression *expression, size_t *count);
 
 /* The name of answer `answer`, as yk_version answers its text: the one behind its `as`, or that of
  * the field which it is, or its text. And its type. */
-uint32_t yk_answer_name(struct yk_expression *expression, size_t answer,
+uint32_t yk_answer_name(const struct yk_expression *expression, size_t answer,
                         char *room, size_t room_length, size_t *length);
-uint32_t yk_answer_type(struct yk_expression *expression, size_t answer, struct yk_type *type);
+uint32_t yk_answer_type(const struct yk_expression *expression, size_t answer, struct yk_type *type);
 
 /* The text of answer `answer`, as it was read, or as it is run: optimized. As yk_version answers its
  * text. */
-uint32_t yk_answer_text(struct yk_expression *expression, size_t answer, bool optimized,
+uint32_t yk_answer_text(const struct yk_expression *expression, size_t answer, bool optimized,
                         char *room, size_t room_length, size_t *length);
 
-/* Runs the expression over a batch: as many columns as there are fields, each of the field's kind,
- * nullable as the field is, and of `rows` rows. Refused with the column and the row that are wrong,
- * or with the first row in which an answer faults as it is run, and the first answer that does there;
- * as it was written it faults there, too. What is run is optimized, which may drop a fault: then there
- * are answers, of any value in that row, and in all others those of the expression as it was written.
- * So batches answer as the whole does. */
-uint32_t yk_run(struct yk_expression *expression,
+/* Runs the expression over a batch: as many columns as there are fields, each that an answer reads of
+ * the field's kind, nullable as the field is, and of `rows` rows. The columns of other fields are
+ * neither read nor checked: yk_fields_read has the numbers of those that are. Refused with the column
+ * and the row that are wrong, or with the first row in which an answer faults as it is run, and the
+ * first answer that does there; as it was written it faults there, too. What is run is optimized, which
+ * may drop a fault: then there are answers, of any value in that row, and in all others those of the
+ * expression as it was written. So batches answer as the whole does. */
+uint32_t yk_run(const struct yk_expression *expression,
                 const struct yk_column *columns, size_t count, size_t rows,
                 struct yk_answers *answers, struct yk_error *error);
 
@@ -328,21 +336,26 @@ void yk_answers_free(struct yk_answers *answers);
 
 /* How long the buffers have to be for answer `answer`. YK_TOO_LONG where its texts have more bytes
  * than a size_t counts; YK_OTHER_KIND where it is a list or a struct, of which none is copied. */
-uint32_t yk_answer_size(struct yk_answers *answers, size_t answer, struct yk_size *size);
+uint32_t yk_answer_size(const struct yk_answers *answers, size_t answer, struct yk_size *size);
 
 /* Copies answer `answer` into the caller's buffers, each from its first item on: the bits of rows
  * that are not null, and the values. What lies behind stays as it was, and all where the copy is
  * refused. Texts stand one behind another: the first offset is 0, and a null has no bytes. */
-uint32_t yk_answer_copy(struct yk_answers *answers, size_t answer, struct yk_room *room);
+uint32_t yk_answer_copy(const struct yk_answers *answers, size_t answer, struct yk_room *room);
 
 /* The numbers of the rows in which answer `answer`, a truth value, is true, ascending from 0 on, and
  * how many they are. YK_VALUES_TOO_SHORT where there is less room, and `count` is told even so. */
-uint32_t yk_select(struct yk_answers *answers, size_t answer,
+uint32_t yk_select(const struct yk_answers *answers, size_t answer,
                    uint64_t *numbers, size_t room, size_t *count);
 
 /* The same with numbers of 32 bits. YK_TOO_LONG where rows have numbers that these do not hold. */
-uint32_t yk_select_u32(struct yk_answers *answers, size_t answer,
+uint32_t yk_select_u32(const struct yk_answers *answers, size_t answer,
                        uint32_t *numbers, size_t room, size_t *count);
+
+/* Whether answer `answer`, a truth value, is true in each row: a byte a row, 1 where it is true, and 0
+ * where it is false or null. What lies behind stays as it was. YK_VALUES_TOO_SHORT where there is room
+ * for fewer bytes than rows, and then none is written. */
+uint32_t yk_mask(const struct yk_answers *answers, size_t answer, uint8_t *mask, size_t room);
 
 #ifdef __cplusplus
 }

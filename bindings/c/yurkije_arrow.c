@@ -293,52 +293,59 @@ uint32_t yk_check_batch(const struct ArrowSchema *schema, const struct ArrowArra
 
 static bool is_word(char c) { return (c >= 'a' && c <= 'z') || (c >= 'A' && c <= 'Z') || (c >= '0' && c <= '9') || c == '_'; }
 
-/* The end of the token at a position: a text or a name in quotes, a comment, a word, or one
- * byte. */
-static size_t token_end(struct yk_text text, size_t at) {
-    char first = text.at[at++];
-    if (first == '\'' || first == '"') {
-        while (at < text.length && text.at[at] != first)
-            at++;
-        return at + (at < text.length);
-    }
-    if (first == '-' && at < text.length && text.at[at] == '-') {
-        while (at < text.length && text.at[at] != '\n')
-            at++;
-    } else if (is_word(first)) {
-        while (at < text.length && is_word(text.at[at]))
-            at++;
-    }
-    return at;
-}
-
-/* Whether the token at a position is that name, bare or in double quotes. */
+/* Whether that name stands at a byte of a text, bare or in double quotes. */
 static bool is_name_at(struct yk_text text, size_t at, const char *name) {
-    size_t end = token_end(text, at), quotes = text.at[at] == '"';
-    size_t length = strlen(name);
-    return end - at == length + 2 * quotes && memcmp(text.at + at + quotes, name, length) == 0;
+    size_t length = strlen(name), quotes = text.at[at] == '"', end = at + quotes + length;
+    if (end + quotes > text.length || memcmp(text.at + at + quotes, name, length) != 0)
+        return false;
+    return quotes ? text.at[end] == '"' : end == text.length || !is_word(text.at[end]);
 }
 
-/* Whether a text may read the column of that name. Always true for a name with a quote. */
-static bool is_named(struct yk_text text, const char *name) {
-    if (strchr(name, '"'))
-        return true;
-    for (size_t at = 0; at < text.length; at = token_end(text, at))
-        if (is_name_at(text, at, name))
+/* The fields of all columns with a supported format. */
+static size_t collect_fields(const struct ArrowSchema *schema, struct yk_field *fields) {
+    struct yk_error unheard = {0};
+    size_t count = 0;
+    for (int64_t i = 0; i < schema->n_children; i++)
+        if (!yk_arrow_field(schema->children[i], &fields[count], &unheard))
+            count++;
+    return count;
+}
+
+/* Reads a text over fields, without those that make no scope: a name that is not UTF-8, or the second of a name. */
+static uint32_t read_over_all(struct yk_text text, struct yk_field *fields, size_t *count, struct yk_expression *expression,
+    struct yk_error *error) {
+    uint32_t status = yk_expression_new(text.at, text.length, fields, *count, expression, error);
+    while ((status == YK_NAME_TWICE || status == YK_NOT_A_TEXT) && error->column < *count) {
+        *count -= 1;
+        memmove(fields + error->column, fields + error->column + 1, (*count - error->column) * sizeof *fields);
+        status = yk_expression_new(text.at, text.length, fields, *count, expression, error);
+    }
+    return status;
+}
+
+/* Whether one of those fields has the name of another. */
+static bool is_among(const struct yk_field *field, const struct yk_field *fields, const size_t *numbers, size_t count) {
+    for (size_t i = 0; i < count; i++) {
+        struct yk_text name = fields[numbers[i]].name;
+        if (name.length == field->name.length && memcmp(name.at, field->name.at, name.length) == 0)
             return true;
+    }
     return false;
 }
 
-/* The fields of the columns with a supported format: all, or those that the text names. */
-static size_t collect_fields(const struct ArrowSchema *schema, struct yk_text text, bool all, struct yk_field *fields) {
+/* Reads a text again over the fields that its answers read, which `numbers` has room for. Two columns of such a name are an
+ * error. */
+static uint32_t read_over_read(const struct ArrowSchema *schema, struct yk_text text, const struct yk_field *fields, size_t count,
+    struct yk_field *kept, size_t *numbers, struct yk_expression *expression, struct yk_error *error) {
     struct yk_error unheard = {0};
-    size_t count = 0;
-    for (int64_t i = 0; i < schema->n_children; i++) {
-        const struct ArrowSchema *child = schema->children[i];
-        if ((all || is_named(text, name_of(child))) && !yk_arrow_field(child, &fields[count], &unheard))
-            count++;
-    }
-    return count;
+    size_t read = 0, keep = 0;
+    uint32_t status = yk_fields_read(expression, numbers, count, &read);
+    if (status)
+        return yk_refuse_memory(error);
+    for (int64_t i = 0; i < schema->n_children; i++)
+        if (!yk_arrow_field(schema->children[i], &kept[keep], &unheard) && is_among(&kept[keep], fields, numbers, read))
+            keep++;
+    return yk_expression_new(text.at, text.length, kept, keep, expression, error);
 }
 
 /* Reports the column at the reported byte, if it exists and has an unsupported format. */
@@ -351,10 +358,11 @@ static uint32_t refuse_untaken(const struct ArrowSchema *schema, struct yk_text 
         error->byte = told.byte, error->line = told.line, error->character = told.character;
         return error->status;
     }
+    *error = told;
     return YK_OK;
 }
 
-/* An expression over few columns is read again over all, so that the message knows their names. */
+/* An expression over all columns, and then over those that it reads. */
 uint32_t yk_arrow_expression_new(
     const char *text, size_t length, const struct ArrowSchema *schema, struct yk_expression *expression, struct yk_error *error) {
     struct yk_text words = {text, length};
@@ -362,19 +370,21 @@ uint32_t yk_arrow_expression_new(
     yk_expression_free(expression);
     if (strcmp(schema->format, "+s") != 0)
         return yk_refuse(error, YK_MALFORMED_ARRAY, YK_NONE, "a malformed schema: it is no struct");
-    struct yk_field *fields = malloc(((size_t)schema->n_children + 1) * sizeof *fields);
-    if (!fields)
-        return yk_refuse_memory(error);
-    size_t count = collect_fields(schema, words, false, fields);
-    uint32_t status = yk_expression_new(text, length, fields, count, expression, error);
-    if (status && status != YK_OUT_OF_MEMORY) {
-        count = collect_fields(schema, words, true, fields);
-        status = yk_expression_new(text, length, fields, count, expression, error);
-        uint32_t untaken = YK_OK;
-        if (status == YK_SCOPE_MISMATCH && error->byte < length)
-            untaken = refuse_untaken(schema, words, error);
-        status = untaken ? untaken : status;
+    size_t most = (size_t)schema->n_children + 1;
+    struct yk_field *fields = malloc(2 * most * sizeof *fields);
+    size_t *numbers = malloc(most * sizeof *numbers), count = 0;
+    uint32_t status = fields && numbers ? YK_OK : yk_refuse_memory(error);
+    if (!status) {
+        count = collect_fields(schema, fields);
+        status = read_over_all(words, fields, &count, expression, error);
+        if (!status)
+            status = read_over_read(schema, words, fields, count, fields + most, numbers, expression, error);
+        else if (status == YK_SCOPE_MISMATCH && error->byte < length) {
+            uint32_t untaken = refuse_untaken(schema, words, error);
+            status = untaken ? untaken : status;
+        }
     }
     free(fields);
+    free(numbers);
     return status;
 }

@@ -109,16 +109,16 @@ uint32_t yk_arrow_expression_new(
 
 /* The schema of the expression's answers: a struct with a child for each answer, texts and byte
  * strings by offsets of 32 bits. */
-uint32_t yk_arrow_schema(struct yk_expression *expression, struct ArrowSchema *out, struct yk_error *error);
+uint32_t yk_arrow_schema(const struct yk_expression *expression, struct ArrowSchema *out, struct yk_error *error);
 
 /* Runs the expression over a batch: its fields are the columns of their names. Rows are reported
  * by their number in the batch, columns by that of the field. */
-uint32_t yk_arrow_run(struct yk_expression *expression, const struct ArrowSchema *schema, const struct ArrowArray *batch,
+uint32_t yk_arrow_run(const struct yk_expression *expression, const struct ArrowSchema *schema, const struct ArrowArray *batch,
     struct ArrowArray *out, struct yk_error *error);
 
 /* Runs the expression over columns of any length, YK_ARROW_BATCH rows at a time. Fails as yk_run
  * over all rows does: with the same column, row and answer. */
-uint32_t yk_arrow_answer(struct yk_expression *expression, const struct yk_column *columns, size_t count, size_t rows,
+uint32_t yk_arrow_answer(const struct yk_expression *expression, const struct yk_column *columns, size_t count, size_t rows,
     struct ArrowArray *out, struct yk_error *error);
 
 /* Another struct array over the same buffers as one that these calls filled, released separately:
@@ -128,13 +128,13 @@ uint32_t yk_arrow_share(const struct ArrowArray *array, struct ArrowArray *out);
 /* The numbers of the rows in which answer `answer`, a truth value, is true, of columns of any
  * length: as yk_select returns them. `numbers` has room for one number a row, which is always
  * enough. Fails as yk_arrow_answer does. */
-uint32_t yk_arrow_select(struct yk_expression *expression, size_t answer, const struct yk_column *columns, size_t count, size_t rows,
+uint32_t yk_arrow_select(const struct yk_expression *expression, size_t answer, const struct yk_column *columns, size_t count, size_t rows,
     uint64_t *numbers, size_t *selected, struct yk_error *error);
 
 /* Whether answer `answer`, a truth value, is true in each row of columns of any length: a byte a
  * row, 1 where it is true and 0 where it is false or null. `mask` has room for a byte a row;
  * after an error its bytes are arbitrary. Fails as yk_arrow_answer does. */
-uint32_t yk_arrow_mask(struct yk_expression *expression, size_t answer, const struct yk_column *columns, size_t count, size_t rows,
+uint32_t yk_arrow_mask(const struct yk_expression *expression, size_t answer, const struct yk_column *columns, size_t count, size_t rows,
     uint8_t *mask, struct yk_error *error);
 
 /* The stream of a text's answers over the batches of a stream, which is moved even if the call

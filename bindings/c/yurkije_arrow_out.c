@@ -20,7 +20,7 @@ static void release_schema(struct ArrowSchema *schema) {
 
 /* The name of an answer, which ends with a NUL and belongs to the caller; NULL if an allocation
  * fails. */
-static char *name_of_answer(struct yk_expression *expression, size_t answer) {
+static char *name_of_answer(const struct yk_expression *expression, size_t answer) {
     char none[1];
     size_t length = 0;
     yk_answer_name(expression, answer, none, 0, &length);
@@ -34,7 +34,7 @@ static char *name_of_answer(struct yk_expression *expression, size_t answer) {
     return name;
 }
 
-static uint32_t fill_child(struct yk_expression *expression, size_t answer, struct ArrowSchema *child, struct yk_error *error) {
+static uint32_t fill_child(const struct yk_expression *expression, size_t answer, struct ArrowSchema *child, struct yk_error *error) {
     struct yk_type type = {0};
     uint32_t status = yk_answer_type(expression, answer, &type);
     if (status)
@@ -58,7 +58,7 @@ static void *zeroed(size_t count, size_t size) {
     return at;
 }
 
-uint32_t yk_arrow_schema(struct yk_expression *expression, struct ArrowSchema *out, struct yk_error *error) {
+uint32_t yk_arrow_schema(const struct yk_expression *expression, struct ArrowSchema *out, struct yk_error *error) {
     size_t count = 0;
     yk_reset(error);
     *out = (struct ArrowSchema){.format = "+s", .name = "", .release = release_schema};
@@ -217,103 +217,6 @@ static void finish(struct ArrowArray *array) {
     held->buffers[2] = held->data;
 }
 
-/* The batch of a column that begins at that row. */
-static struct yk_column slice(const struct yk_column *column, size_t start, size_t rows) {
-    struct yk_column part = *column;
-    part.offset += start;
-    part.rows = rows;
-    return part;
-}
-
-/* The columns from that row on, with that many rows. */
-static const struct yk_column *cut(const struct yk_column *columns, struct yk_column *parts, size_t count, size_t start, size_t rows) {
-    for (size_t i = 0; i < count; i++)
-        parts[i] = slice(&columns[i], start, rows);
-    return parts;
-}
-
-/* Whether the tree of an answer that is run differs from the one that was read, or may: memory
- * to know ran out. */
-static bool is_rewritten(struct yk_expression *expression) {
-    size_t count = 0, length = 0, other = 0;
-    bool same = yk_answer_count(expression, &count) == YK_OK;
-    for (size_t i = 0; same && i < count; i++) {
-        yk_answer_text(expression, i, false, NULL, 0, &length);
-        yk_answer_text(expression, i, true, NULL, 0, &other);
-        char *read = malloc(length + 1), *run = malloc(other + 1);
-        same = read && run && length == other && !yk_answer_text(expression, i, false, read, length, &length) &&
-               !yk_answer_text(expression, i, true, run, other, &other) && memcmp(read, run, length) == 0;
-        free(read);
-        free(run);
-    }
-    return !same;
-}
-
-/* Runs a batch of columns whose rows begin there. Errors are those of a run of all rows: a
- * column that is wrong before a row that faults, the first of either. So a row is reported if no
- * rule can have dropped a fault before it and the rest of the columns is read; else all rows are
- * run, row by row. */
-static uint32_t run_batch(struct yk_expression *expression, const struct yk_column *columns, struct yk_column *parts, size_t count,
-    size_t rows, size_t start, size_t part, struct yk_answers *answers, struct yk_error *error) {
-    struct yk_error ignored = {0};
-    uint32_t status = yk_run(expression, cut(columns, parts, count, start, part), count, part, answers, error);
-    if (!status || status == YK_OUT_OF_MEMORY)
-        return status;
-    if (status == YK_ARITHMETIC && !is_rewritten(expression)) {
-        size_t behind = start + part;
-        uint32_t rest = yk_run(expression, cut(columns, parts, count, behind, rows - behind), count, rows - behind, answers, &ignored);
-        yk_add_to_row(error, start);
-        if (!rest || rest == YK_ARITHMETIC)
-            return status;
-    }
-    uint32_t whole = yk_run(expression, columns, count, rows, answers, error);
-    return whole ? whole : yk_refuse(error, status, YK_NONE, "a batch of the rows is refused");
-}
-
-/* Whether each column has the rows of the batch, so that it can be cut. */
-static bool can_cut(const struct yk_column *columns, size_t count, size_t rows) {
-    for (size_t i = 0; i < count; i++)
-        if (columns[i].rows != rows)
-            return false;
-    return true;
-}
-
-/* Heap space for a batch's copies, below a block that stays: memory freed after each batch is
- * then never at the heap's end, where the C library would return it to the system, only to fetch
- * it again for the next. NULL, after a failed allocation, is no error. */
-static void *make_hole(size_t columns) {
-    void *blocks[12];
-    size_t made = 0, wanted = columns + 2 < 12 ? columns + 2 : 12;
-    while (made < wanted && (blocks[made] = malloc(YK_ARROW_BATCH * sizeof(int64_t) + 64)))
-        made++;
-    void *stays = malloc(64);
-    while (made > 0)
-        free(blocks[--made]);
-    return stays;
-}
-
-uint32_t yk_run_batches(struct yk_expression *expression, const struct yk_column *columns, size_t count, size_t rows, yk_each_batch *each,
-    void *to, struct yk_error *error) {
-    struct yk_answers answers = {0};
-    bool is_cut = rows > YK_ARROW_BATCH && can_cut(columns, count, rows);
-    struct yk_column *parts = malloc(count * sizeof *parts + 1);
-    void *hole = is_cut ? make_hole(count) : NULL;
-    uint32_t status = parts ? YK_OK : yk_refuse_memory(error);
-    size_t start = 0;
-    for (bool more = !status; more; more = !status && start < rows) {
-        size_t part = is_cut && rows - start > YK_ARROW_BATCH ? YK_ARROW_BATCH : rows - start;
-        status = is_cut ? run_batch(expression, columns, parts, count, rows, start, part, &answers, error)
-                        : yk_run(expression, columns, count, rows, &answers, error);
-        if (!status && (status = each(to, &answers, start, part)))
-            yk_refuse(error, status, YK_NONE, "%s", status == YK_OUT_OF_MEMORY ? "out of memory" : "an answer is not copied");
-        start += part;
-    }
-    yk_answers_free(&answers);
-    free(hole);
-    free(parts);
-    return status;
-}
-
 /* The kinds of the answers, and the struct array that they go into. */
 struct collected {
     struct ArrowArray *array;
@@ -330,7 +233,7 @@ static uint32_t append_all(void *to, struct yk_answers *answers, size_t start, s
 }
 
 /* Makes the children of a struct array of that many rows, with no values yet. */
-static uint32_t make_children(struct yk_expression *expression, size_t count, size_t rows, struct collected *collected) {
+static uint32_t make_children(const struct yk_expression *expression, size_t count, size_t rows, struct collected *collected) {
     struct ArrowArray *out = collected->array;
     for (size_t i = 0; i < count; i++) {
         struct yk_type type = {0};
@@ -346,7 +249,7 @@ static uint32_t make_children(struct yk_expression *expression, size_t count, si
     return YK_OK;
 }
 
-uint32_t yk_arrow_answer(struct yk_expression *expression, const struct yk_column *columns, size_t count, size_t rows,
+uint32_t yk_arrow_answer(const struct yk_expression *expression, const struct yk_column *columns, size_t count, size_t rows,
     struct ArrowArray *out, struct yk_error *error) {
     size_t answers = 0;
     yk_reset(error);

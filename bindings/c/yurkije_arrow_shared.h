@@ -38,7 +38,7 @@ typedef uint32_t yk_each_batch(void *to, struct yk_answers *answers, size_t star
 
 /* Runs columns a batch at a time; if they are few or cannot be cut, in one call, which reports
  * the latter. */
-uint32_t yk_run_batches(struct yk_expression *expression, const struct yk_column *columns, size_t count, size_t rows, yk_each_batch *each,
+uint32_t yk_run_batches(const struct yk_expression *expression, const struct yk_column *columns, size_t count, size_t rows, yk_each_batch *each,
     void *to, struct yk_error *error);
 
 struct ArrowArray yk_child_of(const struct ArrowArray *batch, int64_t child);

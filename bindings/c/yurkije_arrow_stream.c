@@ -33,7 +33,7 @@ static void free_places(struct places *places) {
 
 /* Finds the child of one field. */
 static uint32_t find_place(
-    struct yk_expression *expression, const struct ArrowSchema *schema, size_t field, int64_t *child, struct yk_error *error) {
+    const struct yk_expression *expression, const struct ArrowSchema *schema, size_t field, int64_t *child, struct yk_error *error) {
     size_t length = 0;
     char none[1];
     yk_field_name(expression, field, none, 0, &length);
@@ -50,7 +50,7 @@ static uint32_t find_place(
 }
 
 static uint32_t find_places(
-    struct yk_expression *expression, const struct ArrowSchema *schema, struct places *places, struct yk_error *error) {
+    const struct yk_expression *expression, const struct ArrowSchema *schema, struct places *places, struct yk_error *error) {
     yk_reset(error);
     *places = (struct places){0};
     uint32_t status = yk_field_count(expression, &places->count);
@@ -91,7 +91,7 @@ static uint32_t borrow_columns(struct places *places, const struct ArrowSchema *
 }
 
 /* Runs a checked batch. Rows are reported from that number on. */
-static uint32_t run_places(struct yk_expression *expression, struct places *places, const struct ArrowSchema *schema,
+static uint32_t run_places(const struct yk_expression *expression, struct places *places, const struct ArrowSchema *schema,
     const struct ArrowArray *batch, size_t first, struct ArrowArray *out, struct yk_error *error) {
     struct yk_bytes *buffers = malloc(count_buffers(places, schema, batch) * sizeof *buffers + 1);
     if (!buffers)
@@ -105,7 +105,7 @@ static uint32_t run_places(struct yk_expression *expression, struct places *plac
     return status;
 }
 
-uint32_t yk_arrow_run(struct yk_expression *expression, const struct ArrowSchema *schema, const struct ArrowArray *batch,
+uint32_t yk_arrow_run(const struct yk_expression *expression, const struct ArrowSchema *schema, const struct ArrowArray *batch,
     struct ArrowArray *out, struct yk_error *error) {
     struct places places;
     out->release = NULL;

@@ -279,6 +279,39 @@ static void nothing(void) {
     yk_expression_free(&expression);
 }
 
+/* Columns that no answer reads are not looked at, and fields that are read are numbered. */
+static void unread(void) {
+    struct yk_field fields[] = {field("a", YK_I64, true), field("t", YK_UTF8, true), field("v", YK_UTF8_VIEW, false)};
+    struct yk_expression expression = read_expression("a > 1 as big, a", fields, 3);
+    struct yk_column wrong = {.kind = 99, .rows = 7, .offset = SIZE_MAX, .offsets32 = {offsets32, 1}};
+    struct yk_column in[] = {column(YK_I64), wrong, {0}};
+    struct yk_answers answers = {0};
+    struct yk_error error = new_error();
+    size_t numbers[3] = {9, 9, 9}, count = 9;
+    SAME(yk_fields_read(&expression, numbers, 0, &count), YK_ROOM_TOO_SMALL);
+    CHECK(count == 1 && numbers[0] == 9);
+    SAME(yk_fields_read(&expression, numbers, 3, &count), YK_OK);
+    CHECK(count == 1 && numbers[0] == 0 && numbers[1] == 9);
+    SAME(yk_run(&expression, in, 3, 3, &answers, &error), YK_OK);
+    uint8_t mask[4] = {9, 9, 9, 9};
+    SAME(yk_mask(&answers, 0, mask, 2), YK_VALUES_TOO_SHORT);
+    SAME(mask[0], 9);
+    SAME(yk_mask(&answers, 1, mask, 4), YK_OTHER_KIND);
+    SAME(yk_mask(&answers, 0, mask, 4), YK_OK);
+    CHECK(mask[0] == 0 && mask[1] == 0 && mask[2] == 0 && mask[3] == 9);
+    SAME(yk_run(&expression, in, 2, 3, &answers, &error), YK_SCOPE_MISMATCH);
+    in[0].rows = 2;
+    SAME(yk_run(&expression, in, 3, 3, &answers, &error), YK_LENGTH_MISMATCH);
+    SAME(error.column, 0);
+    yk_expression_free(&expression);
+    expression = read_expression("v = 'nut', a", fields, 3);
+    SAME(yk_fields_read(&expression, numbers, 3, &count), YK_OK);
+    CHECK(count == 2 && numbers[0] == 0 && numbers[1] == 2);
+    yk_answers_free(&answers);
+    yk_expression_free(&expression);
+    SAME(yk_fields_read(&expression, numbers, 3, &count), YK_EMPTY_HANDLE);
+}
+
 int main(void) {
     each_kind();
     told();
@@ -286,6 +319,7 @@ int main(void) {
     refused_columns();
     wrong_use();
     nothing();
+    unread();
     if (!faults)
         puts("calls: as expected");
     return faults != 0;

@@ -241,8 +241,11 @@ class Expression:
 
     @property
     def columns(self) -> dict[str, str]:
-        """The columns that are read, with their types."""
-        return dict(self._read)
+        """The columns that an answer reads, with their types."""
+        handle, count = self._handle(), c.c_size_t()
+        numbers = (c.c_size_t * max(len(self._read), 1))()
+        lib.yk_fields_read(handle, numbers, len(self._read), c.byref(count))
+        return dict(self._read[number] for number in numbers[: count.value])
 
     def text_of_answer(self, answer: int, optimized: bool = False) -> str:
         """Returns the text of an answer, as it was read or as it is run."""

@@ -150,6 +150,7 @@ _CALLS: dict[str, list[Any]] = {
     "yk_field_count": [_HANDLE, _SIZE],
     "yk_field_name": [_HANDLE, c.c_size_t, c.c_void_p, c.c_size_t, _SIZE],
     "yk_field_type": [_HANDLE, c.c_size_t, c.POINTER(Type)],
+    "yk_fields_read": [_HANDLE, _SIZE, c.c_size_t, _SIZE],
     "yk_answer_count": [_HANDLE, _SIZE],
     "yk_answer_name": [_HANDLE, c.c_size_t, c.c_void_p, c.c_size_t, _SIZE],
     "yk_answer_type": [_HANDLE, c.c_size_t, c.POINTER(Type)],

@@ -2,9 +2,14 @@
 use crate::column::{Integer, Kind};
 use crate::error::{checked, Error, Status};
 use crate::raw::{self, Handle, Rooms, Size};
-use std::cell::UnsafeCell;
 
-/// The answers of an expression over a batch. They belong to one thread.
+/// The answers of an expression over a batch. Threads may share them; the one that ran the expression
+/// frees them.
+///
+/// ```
+/// fn shares<T: Sync>() {}
+/// shares::<yurkije::Answers>();
+/// ```
 ///
 /// ```compile_fail
 /// fn sends<T: Send>() {}
@@ -12,9 +17,13 @@ use std::cell::UnsafeCell;
 /// ```
 #[derive(Debug)]
 pub struct Answers {
-    pub(crate) raw: UnsafeCell<Handle>,
+    pub(crate) raw: Handle,
     pub(crate) kinds: Vec<Kind>,
 }
+
+// SAFETY: the calls through `&self` only read the handle, and the library lets threads make them at
+// once.
+unsafe impl Sync for Answers {}
 
 /// An answer of whole numbers.
 #[derive(Clone, Debug, PartialEq, Eq)]
@@ -80,8 +89,8 @@ impl ByteStrings {
 }
 
 impl Answers {
-    fn handle(&self) -> *mut Handle {
-        self.raw.get()
+    fn handle(&self) -> *const Handle {
+        &self.raw
     }
 
     /// How many answers there are.
@@ -101,14 +110,13 @@ impl Answers {
             None => return Err(Error::Use { status: Status::NoSuchNumber }),
         }
         let mut size = Size::default();
-        // SAFETY: the handle belongs to this value alone, and the size is a struct of Rust.
+        // SAFETY: the handle is read, and the size is a struct of Rust.
         checked(unsafe { raw::yk_answer_size(self.handle(), answer, &mut size) })?;
         Ok(size)
     }
 
     fn copy(&self, answer: usize, mut rooms: Rooms<'_>) -> Result<(), Error> {
-        // SAFETY: the handle belongs to this value alone, and the rooms borrow slices of Rust that
-        // nothing else uses.
+        // SAFETY: the handle is read, and the rooms borrow slices of Rust that nothing else uses.
         checked(unsafe { raw::yk_answer_copy(self.handle(), answer, &mut rooms) })
     }
 
@@ -156,16 +164,24 @@ impl Answers {
     pub fn select(&self, answer: usize) -> Result<Vec<u64>, Error> {
         let rows = self.size(answer, &[Kind::Bool])?.rows;
         let (mut numbers, mut count) = (vec![0; rows], 0);
-        // SAFETY: the handle belongs to this value alone, and the room is a slice of Rust.
+        // SAFETY: the handle is read, and the room is a slice of Rust.
         checked(unsafe { raw::yk_select(self.handle(), answer, numbers.as_mut_ptr(), rows, &mut count) })?;
         numbers.truncate(count);
         Ok(numbers)
+    }
+
+    /// Whether that answer, a truth value, is true in each row: false where it is null.
+    pub fn mask(&self, answer: usize) -> Result<Vec<bool>, Error> {
+        let mut mask = vec![0; self.size(answer, &[Kind::Bool])?.rows];
+        // SAFETY: the handle is read, and the room is a slice of Rust.
+        checked(unsafe { raw::yk_mask(self.handle(), answer, mask.as_mut_ptr(), mask.len()) })?;
+        Ok(mask.into_iter().map(|byte: u8| byte == 1).collect())
     }
 }
 
 impl Drop for Answers {
     fn drop(&mut self) {
         // SAFETY: the handle is as the library left it, and nothing uses it after this.
-        unsafe { raw::yk_answers_free(self.handle()) }
+        unsafe { raw::yk_answers_free(&mut self.raw) }
     }
 }

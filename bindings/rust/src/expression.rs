@@ -3,9 +3,13 @@ use crate::answers::Answers;
 use crate::column::{Column, Field, Kind, Type};
 use crate::error::{checked, told, Error};
 use crate::raw::{self, Handle};
-use std::cell::UnsafeCell;
 
-/// An expression over the fields of a scope. It belongs to one thread: each thread reads its own.
+/// An expression over the fields of a scope. Threads may share it; the one that read it frees it.
+///
+/// ```
+/// fn shares<T: Sync>() {}
+/// shares::<yurkije::Expression>();
+/// ```
 ///
 /// ```compile_fail
 /// fn sends<T: Send>() {}
@@ -13,8 +17,12 @@ use std::cell::UnsafeCell;
 /// ```
 #[derive(Debug)]
 pub struct Expression {
-    raw: UnsafeCell<Handle>,
+    raw: Handle,
 }
+
+// SAFETY: the calls through `&self` only read the handle, and the library lets threads make them at
+// once.
+unsafe impl Sync for Expression {}
 
 /// Takes a text that a call writes into a buffer, and whose length it returns.
 fn text_of(call: impl Fn(*mut u8, usize, &mut usize) -> u32) -> Result<String, Error> {
@@ -29,31 +37,41 @@ impl Expression {
     /// Reads the answers of a text over fields, `price * stock as worth, price > 100`
     /// (`docs/EXPRESSIONS.md`). Fails with the position in the text where it is wrong.
     pub fn new(text: &str, fields: &[Field<'_>]) -> Result<Expression, Error> {
-        let expression = Expression { raw: UnsafeCell::new(Handle::EMPTY) };
+        let mut expression = Expression { raw: Handle::EMPTY };
         let fields: Vec<raw::Field<'_>> = fields.iter().map(lend).collect();
         told(|told| {
             // SAFETY: the handle is empty, and text and fields are slices of Rust that live as long
             // as the call.
             unsafe {
-                raw::yk_expression_new(text.as_ptr(), text.len(), fields.as_ptr(), fields.len(), expression.handle(), told)
+                raw::yk_expression_new(text.as_ptr(), text.len(), fields.as_ptr(), fields.len(), &mut expression.raw, told)
             }
         })?;
         Ok(expression)
     }
 
-    fn handle(&self) -> *mut Handle {
-        self.raw.get()
+    fn handle(&self) -> *const Handle {
+        &self.raw
     }
 
     /// The fields: their names and types.
     pub fn fields(&self) -> Result<Vec<(String, Type)>, Error> {
         let mut count = 0;
-        // SAFETY: here and below the handle belongs to this value alone, and values of Rust are
-        // written.
+        // SAFETY: here and below the handle is read, and values of Rust are written.
         checked(unsafe { raw::yk_field_count(self.handle(), &mut count) })?;
         let name = |field| text_of(|room, size, length| unsafe { raw::yk_field_name(self.handle(), field, room, size, length) });
         let of = |field| type_of(|kind| unsafe { raw::yk_field_type(self.handle(), field, kind) });
         (0..count).map(|field| Ok((name(field)?, of(field)?))).collect()
+    }
+
+    /// The numbers of the fields that an answer reads, ascending. The columns of the others are not
+    /// looked at.
+    pub fn fields_read(&self) -> Result<Vec<usize>, Error> {
+        let mut count = 0;
+        checked(unsafe { raw::yk_field_count(self.handle(), &mut count) })?;
+        let mut numbers = vec![0; count];
+        checked(unsafe { raw::yk_fields_read(self.handle(), numbers.as_mut_ptr(), numbers.len(), &mut count) })?;
+        numbers.truncate(count);
+        Ok(numbers)
     }
 
     /// The answers: their names and types.
@@ -76,11 +94,11 @@ impl Expression {
     pub fn run(&self, columns: &[Column<'_>], rows: usize) -> Result<Answers, Error> {
         let raws: Vec<raw::Column<'_>> = columns.iter().map(|column| column.raw).collect();
         let kinds: Vec<Kind> = self.answers()?.into_iter().map(|(_, of)| of.kind).collect();
-        let answers = Answers { raw: UnsafeCell::new(Handle::EMPTY), kinds };
+        let mut answers = Answers { raw: Handle::EMPTY, kinds };
         told(|told| {
-            // SAFETY: both handles belong to these values alone, and the columns borrow slices of
-            // Rust.
-            unsafe { raw::yk_run(self.handle(), raws.as_ptr(), raws.len(), rows, answers.raw.get(), told) }
+            // SAFETY: the handle of the expression is read, that of the answers belongs to them alone,
+            // and the columns borrow slices of Rust.
+            unsafe { raw::yk_run(self.handle(), raws.as_ptr(), raws.len(), rows, &mut answers.raw, told) }
         })?;
         Ok(answers)
     }
@@ -99,7 +117,7 @@ fn type_of(call: impl Fn(&mut raw::Type) -> u32) -> Result<Type, Error> {
 impl Drop for Expression {
     fn drop(&mut self) {
         // SAFETY: the handle is as the library left it, and nothing uses it after this.
-        unsafe { raw::yk_expression_free(self.handle()) }
+        unsafe { raw::yk_expression_free(&mut self.raw) }
     }
 }
 

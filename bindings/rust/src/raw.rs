@@ -159,14 +159,15 @@ extern "C" {
         error: &mut Told<'_>,
     ) -> u32;
     pub fn yk_expression_free(expression: *mut Handle);
-    pub fn yk_field_count(expression: *mut Handle, count: &mut usize) -> u32;
-    pub fn yk_field_name(expression: *mut Handle, field: usize, room: *mut u8, room_length: usize, length: &mut usize) -> u32;
-    pub fn yk_field_type(expression: *mut Handle, field: usize, kind: &mut Type) -> u32;
-    pub fn yk_answer_count(expression: *mut Handle, count: &mut usize) -> u32;
-    pub fn yk_answer_name(expression: *mut Handle, answer: usize, room: *mut u8, room_length: usize, length: &mut usize) -> u32;
-    pub fn yk_answer_type(expression: *mut Handle, answer: usize, kind: &mut Type) -> u32;
+    pub fn yk_field_count(expression: *const Handle, count: &mut usize) -> u32;
+    pub fn yk_field_name(expression: *const Handle, field: usize, room: *mut u8, room_length: usize, length: &mut usize) -> u32;
+    pub fn yk_field_type(expression: *const Handle, field: usize, kind: &mut Type) -> u32;
+    pub fn yk_fields_read(expression: *const Handle, numbers: *mut usize, room: usize, count: &mut usize) -> u32;
+    pub fn yk_answer_count(expression: *const Handle, count: &mut usize) -> u32;
+    pub fn yk_answer_name(expression: *const Handle, answer: usize, room: *mut u8, room_length: usize, length: &mut usize) -> u32;
+    pub fn yk_answer_type(expression: *const Handle, answer: usize, kind: &mut Type) -> u32;
     pub fn yk_answer_text(
-        expression: *mut Handle,
+        expression: *const Handle,
         answer: usize,
         optimized: bool,
         room: *mut u8,
@@ -174,7 +175,7 @@ extern "C" {
         length: &mut usize,
     ) -> u32;
     pub fn yk_run(
-        expression: *mut Handle,
+        expression: *const Handle,
         columns: *const Column<'_>,
         count: usize,
         rows: usize,
@@ -182,7 +183,8 @@ extern "C" {
         error: &mut Told<'_>,
     ) -> u32;
     pub fn yk_answers_free(answers: *mut Handle);
-    pub fn yk_answer_size(answers: *mut Handle, answer: usize, size: &mut Size) -> u32;
-    pub fn yk_answer_copy(answers: *mut Handle, answer: usize, room: &mut Rooms<'_>) -> u32;
-    pub fn yk_select(answers: *mut Handle, answer: usize, numbers: *mut u64, room: usize, count: &mut usize) -> u32;
+    pub fn yk_answer_size(answers: *const Handle, answer: usize, size: &mut Size) -> u32;
+    pub fn yk_answer_copy(answers: *const Handle, answer: usize, room: &mut Rooms<'_>) -> u32;
+    pub fn yk_select(answers: *const Handle, answer: usize, numbers: *mut u64, room: usize, count: &mut usize) -> u32;
+    pub fn yk_mask(answers: *const Handle, answer: usize, mask: *mut u8, room: usize) -> u32;
 }

@@ -56,6 +56,24 @@ fn answers_have_names_types_and_rows() -> Result<(), Error> {
 }
 
 #[test]
+fn threads_share_an_expression() -> Result<(), Error> {
+    let expression = Expression::new("price > 10 as dear", &goods())?;
+    assert_eq!(expression.fields_read()?, [0]);
+    std::thread::scope(|scope| {
+        for _ in 0..4 {
+            scope.spawn(|| {
+                let prices = prices();
+                // only the first column is read
+                let columns = [Column::integers(&prices), Column::integers(&prices[..1]), Column::integers(&prices[..0])];
+                let answers = expression.run(&columns, 3).expect("the columns that are read fit");
+                assert_eq!(answers.mask(0).expect("a truth value"), [false, true, true]);
+            });
+        }
+    });
+    Ok(())
+}
+
+#[test]
 fn an_expression_runs_over_many_batches() -> Result<(), Error> {
     let expression = Expression::new("a + b", &[Field::new("a", Kind::U16), Field::nullable("b", Kind::U16)])?;
     let (a, b): (Vec<u16>, Vec<u16>) = ((0..1000).collect(), (0..1000).rev().collect());
@@ -114,7 +132,7 @@ fn a_text_that_is_refused_tells_its_place() {
 
 #[test]
 fn a_column_that_is_refused_tells_its_number_and_row() -> Result<(), Error> {
-    let expression = Expression::new("price + 1", &goods()[..2])?;
+    let expression = Expression::new("price + 1, stock", &goods()[..2])?;
     let (prices, stocks) = (prices(), [1i64, 2, 3]);
     let good = Column::integers(&prices);
     let short = expression.run(&[good, Column::integers(&stocks[..2]).nullable(None)], 3).expect_err("refused");

@@ -13,8 +13,8 @@ use Rattle.yurkije.specs.Views.{ProgramView, HeldView}
 use Rattle.yurkije.specs.Answering.{HoldsAnswers, answered, without_memory, KeepsOrWants}
 
 pub run_holds : (p : ProgramView) (borrowed : List BorrowedColumn) (rows : ℕ) (held : Option HeldView)
-    (result : ℕ) (old report : Report) (columns : List ArrowColumn) (answers : List ColumnView)
-    → AllSay borrowed columns
+    (result : ℕ) (old report : Report) (columns : List (Option ArrowColumn)) (answers : List ColumnView)
+    → AllSay p.reads borrowed columns
     → (AllMean (Rewrites meaning) p.written p.optimized
     → AnswersBatch p.scope rows columns p.written answers)
     → KeepsOrWants answers held result old report → HoldsAnswers p borrowed rows held result old report

@@ -8,7 +8,7 @@ use Rattle.vortex_columns.specs.ColumnView.{ColumnView}
 use Rattle.vortex_columns.specs.TrueRows.{true_rows}
 use Rattle.vortex_arrow.specs.declared.column.ArrowColumn.{ArrowColumn}
 use Rattle.vortex_arrow.specs.declared.error.CopyError.{CopyError}
-use Rattle.vortex_arrow.specs.Written.{SameBehind, RefusesSelection}
+use Rattle.vortex_arrow.specs.Written.{SameBehind, RefusesSelection, mask_of, RefusesMask}
 use Rattle.yurkije_columns.specs.declared.borrowed.BorrowedColumn.{BorrowedColumn}
 use Rattle.yurkije_columns.specs.declared.borrowed.BorrowedError.{BorrowedError}
 use Rattle.yurkije_columns.specs.declared.rooms.Size.{Size}
@@ -29,19 +29,21 @@ use Rattle.yurkije.specs.Asking.{Asks}
 use Rattle.yurkije.specs.Reading.{Done, Wants, Refuses}
 
 -- The handle holds what the program answers over the columns that are lent, and 0 is answered; or
--- it holds nothing, and why is told: a column is wrong, or an answer faults, or memory ran out. Of a
--- program that was read, what is run are rewrites of what was written.
-pub data HoldsAnswers (p : ProgramView) (borrowed : List BorrowedColumn) (rows : ℕ) (held : Option HeldView)
-    (result : ℕ) (old report : Report) : Type 0 where
-  answered : (columns : List ArrowColumn) (answers : List ColumnView) → AllSay borrowed columns
+-- it holds nothing, and why is told: a column that is read is wrong, or an answer faults, or memory
+-- ran out. Of a program that was read, what is run are rewrites of what was written.
+pub data HoldsAnswers (p : ProgramView) (borrowed : List BorrowedColumn) (rows : ℕ)
+    (held : Option HeldView) (result : ℕ) (old report : Report) : Type 0 where
+  answered : (columns : List (Option ArrowColumn)) (answers : List ColumnView)
+      → AllSay p.reads borrowed columns
       → (AllMean (Rewrites meaning) p.written p.optimized
       → AnswersBatch p.scope rows columns p.written answers)
       → answers_in held ≡ Some answers → Done result old report
       → HoldsAnswers p borrowed rows held result old report
-  no_kind : (e : BorrowedError) → RefusesBorrowed borrowed e
+  no_kind : (e : BorrowedError) → RefusesBorrowed p.reads borrowed e
       → Refuses (λ w. w ≡ borrowed_words e) (borrowed_told e) held result old report
       → HoldsAnswers p borrowed rows held result old report
-  refused : (columns : List ArrowColumn) (e : BatchRunError) → AllSay borrowed columns
+  refused : (columns : List (Option ArrowColumn)) (e : BatchRunError)
+      → AllSay p.reads borrowed columns
       → (AllMean (Rewrites meaning) p.written p.optimized
       → RefusesRun p.scope rows columns p.written p.optimized e)
       → Refuses (IsRunWords p.scope p.names rows e) (run_told e) held result old report
@@ -87,6 +89,13 @@ pub record SelectsBy {I : Type 0} (number : I → ℤ) (c : ColumnView) (most : 
 
 abbrev pub Selects : ColumnView → ℕ → List ℕ → List ℕ → ℕ → ℕ → Type 0
 Selects = SelectsBy pos
+
+-- a byte a row, 1 where it is true; or why they are not written, and then they are as they were
+abbrev pub Masks : ColumnView → List ℕ → List ℕ → ℕ → Type 0
+Masks c old new result =
+    ((result ≡ 0) × (take (length c.rows) new ≡ mask_of c.rows)
+    × SameBehind (length c.rows) old new)
+    ⊎ ((e : CopyError) × RefusesMask c (length old) e × (new ≡ old) × (result ≡ copy_status e))
 
 -- the answers are held, or memory ran out
 abbrev pub KeepsOrWants : List ColumnView → Option HeldView → ℕ → Report → Report → Type 0

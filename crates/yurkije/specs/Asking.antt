@@ -10,6 +10,7 @@ use Rattle.vortex_arrow.specs.Written.{SameBehind}
 use Rattle.yurkije_columns.specs.Kinds.{type_number}
 use Rattle.yurkije_columns.specs.declared.kinds.Type as told
 use Rattle.vortex_program.specs.Naming.{IsTreeText}
+use Rattle.yurkije_core.specs.Fields.{marked_places}
 use Rattle.yurkije.specs.Views.{ProgramView}
 
 -- P of what is there, or the status where nothing is: then what was handed over is the same
@@ -48,6 +49,19 @@ abbrev pub TellsFieldType : ProgramView → ℕ → told.Type → told.Type → 
 TellsFieldType p k old t result =
     (k < field_count p.scope → (result ≡ 0) × IsType (field_type k p.scope) t)
     × (field_count p.scope ≤ k → (result ≡ 101) × (t ≡ old))
+
+-- numbers are written, and how many they are is told; or there is no room for them, and none is
+abbrev pub PutsNumbers : List ℕ → List ℕ → List ℕ → ℕ → ℕ → Type 0
+PutsNumbers ns old new count result =
+    (count ≡ length ns)
+    × (((result ≡ 0) × (take (length ns) new ≡ ns) × SameBehind (length ns) old new)
+    ⊎ ((result ≡ 104) × (length old < length ns) × (new ≡ old)))
+
+-- the numbers of the fields that answers read, ascending; or memory ran out
+abbrev pub TellsFieldsRead : ProgramView → List ℕ → List ℕ → ℕ → ℕ → ℕ → Type 0
+TellsFieldsRead p old new count_old count result =
+    ((result ≡ 9) × (new ≡ old) × (count ≡ count_old))
+    ⊎ PutsNumbers (marked_places 0 p.reads) old new count result
 
 -- those of an answer
 abbrev pub TellsAnswerName : ProgramView → ℕ → List ℕ → List ℕ → ℕ → ℕ → ℕ → Type 0

@@ -1,7 +1,7 @@
 -- What a handle holds of a text, and what is told of one that is refused.
 use Rattle.std.specs.Prelude.{◌≡◌, ◌≢◌, ◌⊎◌, ℕ, List, [], Option, Some, None, Result, Ok, Err}
 use Rattle.std.specs.Prelude.{IsUtf8}
-use Rattle.vortex_types.specs.LogicalTypes.{Fields}
+use Rattle.vortex_types.specs.LogicalTypes.{Fields, field_count}
 use Rattle.vortex_types.specs.TypeOf.{struct_fields}
 use Rattle.vortex_expressions.specs.declared.refusal.Refusal.{Refusal}
 use Rattle.vortex_expressions.specs.Answers.{Answer, ExpressesAll, IsRefusedAll}
@@ -10,8 +10,10 @@ use Rattle.yurkije_columns.specs.declared.fields.FieldError.{FieldError}
 use Rattle.yurkije_columns.specs.Scopes.{answers, refuses, scope_borrowed}
 use Rattle.vortex_program.specs.declared.form.Form.TheVariants as form
 use Rattle.vortex_program.specs.declared.program.Program.{Program}
-use Rattle.vortex_program.specs.Programs.{AreOptimized}
+use Rattle.vortex_program.specs.Programs.{trees_of, AreOptimized}
+use Rattle.vortex_program.specs.Reads.{AreRead}
 use Rattle.vortex_program.specs.Texts.{AreAnswersOf}
+use Rattle.yurkije_core.specs.declared.expression.Expression.{Expression}
 use Rattle.yurkije_core.specs.declared.reading.ProgramError.{ProgramError}
 use Rattle.yurkije_core.specs.declared.report.Report.{Report}
 use Rattle.yurkije_core.specs.Programs.{IsNoText, IsOutOfMemory, IsFor}
@@ -22,9 +24,13 @@ use Rattle.yurkije_columns.specs.declared.fields.ScopeFault.TheVariants.{OutOfMe
 use Rattle.yurkije_core.specs.Reports.{Tells, nowhere, program_told, scope_told}
 use Rattle.yurkije.specs.Views.{HeldView, program_view, program_held}
 
--- the handle holds that program
-abbrev pub Holds : Option HeldView → Program → Type 0
-Holds held p = held ≡ Some (program_held (program_view p))
+-- the handle holds that program, and for each field whether an answer reads it, as it was written
+pub record Holds (held : Option HeldView) (p : Program) : Type 0 where
+  pub expression : Expression
+  pub program : expression.program ≡ p
+  pub read : AreRead (trees_of p.written.items) (field_count (struct_fields p.scope))
+      expression.reads.items
+  pub there : held ≡ Some (program_held (program_view expression))
 
 -- nothing is refused, in no words
 pub record Done (result : ℕ) (old report : Report) : Type 0 where

@@ -1,6 +1,7 @@
 -- Codes of what a handle holds, as its ghost field wants them.
-use Rattle.std.specs.Prelude.{ℕ, List, Option, refl}
-use Rattle.std.specs.Coded.{Coded, code_by, coded×, coded_ℕ, coded_list, coded_option}
+use Rattle.std.specs.Prelude.{ℕ, Bool, List, Option, refl}
+use Rattle.std.specs.Coded.{Coded, code_by, coded×, coded_ℕ, coded_bool, coded_list}
+use Rattle.std.specs.Coded.{coded_option}
 use Rattle.vortex_types.specs.Codes.{coded_fields}
 use Rattle.vortex_types.specs.LogicalTypes.{Fields}
 use Rattle.vortex_columns.specs.ColumnView.{ColumnView, coded_column}
@@ -17,24 +18,26 @@ abbrev coded_empty : Coded EmptyOptions
 coded_empty = code_by ℕ coded_ℕ (λ _. 0) (λ _. record {}) (λ _. refl)
 
 abbrev Parts : Type 0
-Parts = Fields × (List (List ℕ) × (List Tree × List Tree))
+Parts = Fields × (List (List ℕ) × (List Tree × (List Tree × List Bool)))
 
 abbrev parts_of : ProgramView → Parts
-parts_of p = (p.scope, (p.names, (p.written, p.optimized)))
+parts_of p = (p.scope, (p.names, (p.written, (p.optimized, p.reads))))
 
 abbrev of_parts : Parts → ProgramView
 of_parts p = record {
   scope = p.0;
   names = p.1.0;
   written = p.1.1.0;
-  optimized = p.1.1.1;
+  optimized = p.1.1.1.0;
+  reads = p.1.1.1.1;
 }
 
 abbrev pub coded_program : Coded ProgramView
 coded_program =
     let trees = coded_list (coded_tree coded_none coded_empty) in
     let parts =
-    coded× coded_fields (coded× (coded_list (coded_list coded_ℕ)) (coded× trees trees)) in
+    coded× coded_fields (coded× (coded_list (coded_list coded_ℕ))
+    (coded× trees (coded× trees (coded_list coded_bool)))) in
     code_by Parts parts parts_of of_parts (λ _. refl)
 
 abbrev pub coded_held : Coded HeldView

@@ -1,26 +1,29 @@
--- What is seen of what a handle holds: a program or the answers of a batch.
-use Rattle.std.specs.Prelude.{ℕ, List, map, Option, Some, None, string_bytes}
+-- What is seen of what a handle holds: an expression or the answers of a batch.
+use Rattle.std.specs.Prelude.{ℕ, Bool, List, map, Option, Some, None, string_bytes}
 use Rattle.vortex_types.specs.LogicalTypes.{Fields}
 use Rattle.vortex_types.specs.TypeOf.{struct_fields}
 use Rattle.vortex_columns.specs.ColumnView.{ColumnView}
 use Rattle.vortex_expressions.specs.Items.{Tree}
-use Rattle.vortex_program.specs.declared.program.Program.{Program}
+use Rattle.yurkije_core.specs.declared.expression.Expression.{Expression}
 use Rattle.yurkije.specs.declared.content.Content.{Content}
 use Rattle.yurkije.specs.declared.content.Content.TheVariants as content
 
--- its scope, the names of its answers, their trees as they were written and as they are run
+-- its scope, the names of its answers, their trees as they were written and as they are run, and for
+-- each field whether one of them reads it
 pub record ProgramView : Type 0 where
   pub scope : Fields
   pub names : List (List ℕ)
   pub written : List Tree
   pub optimized : List Tree
+  pub reads : List Bool
 
-abbrev pub program_view : Program → ProgramView
-program_view p = record {
-  scope = struct_fields p.scope;
-  names = map (λ a. string_bytes a.name) p.written.items;
-  written = map (λ a. a.tree) p.written.items;
-  optimized = map (λ a. a.tree) p.optimized.items;
+abbrev pub program_view : Expression → ProgramView
+program_view e = record {
+  scope = struct_fields e.program.scope;
+  names = map (λ a. string_bytes a.name) e.program.written.items;
+  written = map (λ a. a.tree) e.program.written.items;
+  optimized = map (λ a. a.tree) e.program.optimized.items;
+  reads = e.reads.items;
 }
 
 -- one of the two
@@ -35,7 +38,7 @@ abbrev pub answers_held : List ColumnView → HeldView
 answers_held cs = record { program = None; answers = Some cs }
 
 abbrev pub content_view : Content → HeldView
-content_view (content.Program p) = program_held (program_view p)
+content_view (content.Expression e) = program_held (program_view e)
 content_view (content.Answers columns) = answers_held columns.items
 
 -- those that a handle holds

@@ -1,11 +1,11 @@
 //! What stands behind a handle.
 
 use vortex_columns::Column;
-use yurkije_core::Program;
+use yurkije_core::Expression;
 
-/// A program, or the answers of one over a batch.
+/// An expression, or the answers of one over a batch.
 #[derive(Drop)]
 pub enum Content {
-    Program(Program),
+    Expression(Expression),
     Answers(Vec<Column>),
 }

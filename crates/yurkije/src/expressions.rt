@@ -1,20 +1,35 @@
 //! Expressions: read, asked, and freed.
-ghost use Rattle.std.specs.Prelude.{◌≡◌, None, length};
+ghost use Rattle.std.specs.Prelude.{◌≡◌, Some, None, length};
+ghost use Rattle.vortex_errors.specs.Answers.{AnswersUnlessMemory};
 ghost use Rattle.vortex_types.specs.LogicalTypes.{field_count};
 ghost use Rattle.yurkije.specs.Views.{program_in};
 ghost use Rattle.yurkije.specs.Asking.{Asks, SameRoom, TellsFieldName, TellsFieldType};
 ghost use Rattle.yurkije.specs.Asking.{TellsAnswerName, TellsAnswerType, TellsAnswerText};
-ghost use Rattle.yurkije.specs.Reading.{Reads, HoldsRead};
+ghost use Rattle.yurkije.specs.Asking.{TellsFieldsRead};
+ghost use Rattle.yurkije.specs.Reading.{Holds, Reads, HoldsRead};
 
 use crate::handle::Handle;
 use crate::held::Held;
+use crate::lent_handle::LentHandle;
 use crate::queries::{
     answer_count, answer_name, answer_text, answer_type, field_count, field_name, field_type,
+    fields_read,
 };
 use crate::statuses::{EMPTY_HANDLE, OUT_OF_MEMORY};
 use std::alloc::Global;
+use vortex_columns::VortexResult;
 use yurkije_columns::{BorrowedField, Type, placed, read_fields, scope_words};
-use yurkije_core::{ErrorNumbers, Program, ProgramError, Report, program_words, read_program};
+use yurkije_core::{
+    ErrorNumbers, Expression, Program, ProgramError, Report, program_words, read_program,
+};
+
+/// A box of the expression of a program. E9 where an allocation fails.
+fn boxed(alloc: Global, program: Program) -> VortexResult<Box<Held>>
+    ensures { AnswersUnlessMemory result (λ held. Holds (Some held.value) program) }
+{
+    let expression = Expression::of(alloc, program)?;
+    Ok(Box::new(alloc, Held::of_expression(expression))?)
+}
 
 /// Holds a program, or tells why there is none.
 fn hold(
@@ -33,7 +48,7 @@ fn hold(
             return error.report_text(ErrorNumbers::of_program(&wrong), words);
         }
     };
-    match Box::new(alloc, Held::of_program(program)) {
+    match boxed(alloc, program) {
         Ok(held) => {
             expression.close(held);
             error.clear()
@@ -77,24 +92,23 @@ pub extern "C" fn yk_expression_free(alloc: Global, expression: &mut Handle)
 
 /// How many fields the scope has.
 #[unsafe(no_mangle)]
-pub extern "C" fn yk_field_count(alloc: Global, expression: &mut Handle, count: &mut usize) -> u32
+pub extern "C" fn yurkije_field_count(expression: &mut LentHandle, count: &mut usize) -> u32
     ensures kept { expression.new.held ≡ expression.old.held }
     ensures count { Asks (program_in expression.old.held) 100 result (count.new ≡ count.old)
         (λ p. (result ≡ 0) × (count.new ≡ field_count p.scope)) }
 {
-    let Some(held) = expression.open(alloc) else {
+    let Some(loan) = expression.open() else {
         return EMPTY_HANDLE;
     };
-    let status = field_count(&held, count);
-    expression.close(held);
+    let status = field_count(loan.get(), count);
+    expression.close(loan);
     status
 }
 
 /// The name of a field.
 #[unsafe(no_mangle)]
-pub extern "C" fn yk_field_name(
-    alloc: Global,
-    expression: &mut Handle,
+pub extern "C" fn yurkije_field_name(
+    expression: &mut LentHandle,
     field: usize,
     room: &mut [u8],
     len: &mut usize,
@@ -104,19 +118,18 @@ pub extern "C" fn yk_field_name(
         (SameRoom room.old room.new len.old len.new)
         (λ p. TellsFieldName p field room.old room.new len.old len.new result) }
 {
-    let Some(held) = expression.open(alloc) else {
+    let Some(loan) = expression.open() else {
         return EMPTY_HANDLE;
     };
-    let status = field_name(&held, field, room, len);
-    expression.close(held);
+    let status = field_name(loan.get(), field, room, len);
+    expression.close(loan);
     status
 }
 
 /// The type of a field.
 #[unsafe(no_mangle)]
-pub extern "C" fn yk_field_type(
-    alloc: Global,
-    expression: &mut Handle,
+pub extern "C" fn yurkije_field_type(
+    expression: &mut LentHandle,
     field: usize,
     dtype: &mut Type,
 ) -> u32
@@ -124,34 +137,54 @@ pub extern "C" fn yk_field_type(
     ensures told { Asks (program_in expression.old.held) 100 result (dtype.new ≡ dtype.old)
         (λ p. TellsFieldType p field dtype.old dtype.new result) }
 {
-    let Some(held) = expression.open(alloc) else {
+    let Some(loan) = expression.open() else {
         return EMPTY_HANDLE;
     };
-    let status = field_type(&held, field, dtype);
-    expression.close(held);
+    let status = field_type(loan.get(), field, dtype);
+    expression.close(loan);
+    status
+}
+
+/// The numbers of the fields that an answer reads, ascending, and how many they are.
+#[unsafe(no_mangle)]
+pub extern "C" fn yurkije_fields_read(
+    alloc: Global,
+    expression: &mut LentHandle,
+    numbers: &mut [usize],
+    count: &mut usize,
+) -> u32
+    ensures kept { expression.new.held ≡ expression.old.held }
+    ensures told { Asks (program_in expression.old.held) 100 result
+        ((numbers.new ≡ numbers.old) × (count.new ≡ count.old))
+        (λ p. TellsFieldsRead p numbers.old numbers.new count.old count.new result) }
+{
+    let Some(loan) = expression.open() else {
+        return EMPTY_HANDLE;
+    };
+    let status = fields_read(alloc, loan.get(), numbers, count);
+    expression.close(loan);
     status
 }
 
 /// How many answers the expression has.
 #[unsafe(no_mangle)]
-pub extern "C" fn yk_answer_count(alloc: Global, expression: &mut Handle, count: &mut usize) -> u32
+pub extern "C" fn yurkije_answer_count(expression: &mut LentHandle, count: &mut usize) -> u32
     ensures kept { expression.new.held ≡ expression.old.held }
     ensures count { Asks (program_in expression.old.held) 100 result (count.new ≡ count.old)
         (λ p. (result ≡ 0) × (count.new ≡ length p.written)) }
 {
-    let Some(held) = expression.open(alloc) else {
+    let Some(loan) = expression.open() else {
         return EMPTY_HANDLE;
     };
-    let status = answer_count(&held, count);
-    expression.close(held);
+    let status = answer_count(loan.get(), count);
+    expression.close(loan);
     status
 }
 
 /// The name of an answer.
 #[unsafe(no_mangle)]
-pub extern "C" fn yk_answer_name(
-    alloc: Global,
-    expression: &mut Handle,
+pub extern "C" fn yurkije_answer_name(
+    expression: &mut LentHandle,
     answer: usize,
     room: &mut [u8],
     len: &mut usize,
@@ -161,19 +194,18 @@ pub extern "C" fn yk_answer_name(
         (SameRoom room.old room.new len.old len.new)
         (λ p. TellsAnswerName p answer room.old room.new len.old len.new result) }
 {
-    let Some(held) = expression.open(alloc) else {
+    let Some(loan) = expression.open() else {
         return EMPTY_HANDLE;
     };
-    let status = answer_name(&held, answer, room, len);
-    expression.close(held);
+    let status = answer_name(loan.get(), answer, room, len);
+    expression.close(loan);
     status
 }
 
 /// The type of an answer.
 #[unsafe(no_mangle)]
-pub extern "C" fn yk_answer_type(
-    alloc: Global,
-    expression: &mut Handle,
+pub extern "C" fn yurkije_answer_type(
+    expression: &mut LentHandle,
     answer: usize,
     dtype: &mut Type,
 ) -> u32
@@ -181,20 +213,20 @@ pub extern "C" fn yk_answer_type(
     ensures told { Asks (program_in expression.old.held) 100 result (dtype.new ≡ dtype.old)
         (λ p. TellsAnswerType p answer dtype.old dtype.new result) }
 {
-    let Some(held) = expression.open(alloc) else {
+    let Some(loan) = expression.open() else {
         return EMPTY_HANDLE;
     };
-    let status = answer_type(&held, answer, dtype);
-    expression.close(held);
+    let status = answer_type(loan.get(), answer, dtype);
+    expression.close(loan);
     status
 }
 
 /// The text of an answer, as it was written or as it is run. Where memory is refused nothing is
 /// written.
 #[unsafe(no_mangle)]
-pub extern "C" fn yk_answer_text(
+pub extern "C" fn yurkije_answer_text(
     alloc: Global,
-    expression: &mut Handle,
+    expression: &mut LentHandle,
     answer: usize,
     optimized: bool,
     room: &mut [u8],
@@ -205,10 +237,10 @@ pub extern "C" fn yk_answer_text(
         (SameRoom room.old room.new len.old len.new)
         (λ p. TellsAnswerText p answer optimized room.old room.new len.old len.new result) }
 {
-    let Some(held) = expression.open(alloc) else {
+    let Some(loan) = expression.open() else {
         return EMPTY_HANDLE;
     };
-    let status = answer_text(alloc, &held, answer, optimized, room, len);
-    expression.close(held);
+    let status = answer_text(alloc, loan.get(), answer, optimized, room, len);
+    expression.close(loan);
     status
 }

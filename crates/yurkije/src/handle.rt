@@ -8,7 +8,6 @@ use crate::held::Held;
 use crate::parts::Parts;
 use std::alloc::Global;
 use std::marker::Model;
-use std::mem;
 
 /// What C gives back as it got it. All zeros, it holds nothing.
 #[repr(C)]
@@ -70,19 +69,6 @@ impl Handle {
         ensures { self.new.held ≡ None }
     {
         *self = Handle::empty(alloc);
-    }
-
-    /// Takes out what is held, and leaves the handle empty.
-    pub fn open(&mut self, alloc: Global) -> Option<Box<Held>>
-        ensures held { MatchOption result (self.old.held ≡ None)
-            (λ held. self.old.held ≡ Some held.value) }
-        ensures left { self.new.held ≡ None }
-    {
-        let handle = mem::replace(self, Handle::empty(alloc));
-        match handle.take() {
-            Some(parts) => Some(parts.into_box()),
-            None => None,
-        }
     }
 
     /// Holds that, and frees what was held.

@@ -3,9 +3,9 @@
 use crate::content::Content;
 use std::marker::Model;
 use vortex_columns::Column;
-use yurkije_core::Program;
+use yurkije_core::Expression;
 
-/// A program, or the answers of one over a batch.
+/// An expression, or the answers of one over a batch.
 #[derive(Drop)]
 pub struct Held {
     content: Content,
@@ -26,11 +26,11 @@ impl Held {
     ghost use Rattle.std.specs.Prelude.{◌≡◌, option_map};
     ghost use Rattle.yurkije.specs.Views.{program_view, program_held, answers_held};
 
-    pub fn of_program(program: Program) -> Held
-        ensures { result ≡ program_held (program_view program) }
+    pub fn of_expression(expression: Expression) -> Held
+        ensures { result ≡ program_held (program_view expression) }
     {
         Held {
-            content: Content::Program(program),
+            content: Content::Expression(expression),
         }
     }
 
@@ -42,22 +42,22 @@ impl Held {
         }
     }
 
-    /// The program; none where answers are held.
-    pub fn program(&self) -> Option<&Program>
-        ensures { option_map (λ p. program_view p.now) result ≡ self.now.program }
+    /// The expression; none where answers are held.
+    pub fn expression(&self) -> Option<&Expression>
+        ensures { option_map (λ e. program_view e.now) result ≡ self.now.program }
     {
         match &self.content {
-            Content::Program(program) => Some(program),
+            Content::Expression(expression) => Some(expression),
             Content::Answers(_) => None,
         }
     }
 
-    /// The columns of the answers; none where a program is held.
+    /// The columns of the answers; none where an expression is held.
     pub fn columns(&self) -> Option<&[Column]>
         ensures { option_map (λ cs. cs.now) result ≡ self.now.answers }
     {
         match &self.content {
-            Content::Program(_) => None,
+            Content::Expression(_) => None,
             Content::Answers(columns) => Some(columns),
         }
     }

@@ -1,5 +1,6 @@
-//! Expressions over columns for C: the functions that `bindings/c/yurkije.h` declares. Each hands on
-//! to a call of `yurkije_core`.
+//! Expressions over columns for C: what `bindings/c/yurkije.h` declares. Each function hands on to a
+//! call of `yurkije_core`. Those that only read a handle are called `yurkije_` here, and take a copy
+//! of it, which `bindings/c/yurkije.c` makes.
 #![tactic(auto)]
 
 mod answers;
@@ -7,6 +8,8 @@ mod content;
 mod expressions;
 mod handle;
 mod held;
+mod lent_handle;
+mod loan;
 mod parts;
 mod queries;
 mod running;
@@ -14,13 +17,17 @@ mod statuses;
 mod version;
 
 pub use answers::{
-    yk_answer_copy, yk_answer_size, yk_answers_free, yk_run, yk_select, yk_select_u32,
+    yk_answers_free, yurkije_answer_copy, yurkije_answer_size, yurkije_mask, yurkije_run,
+    yurkije_select, yurkije_select_u32,
 };
 pub use content::Content;
 pub use expressions::{
-    yk_answer_count, yk_answer_name, yk_answer_text, yk_answer_type, yk_expression_free,
-    yk_expression_new, yk_field_count, yk_field_name, yk_field_type,
+    yk_expression_free, yk_expression_new, yurkije_answer_count, yurkije_answer_name,
+    yurkije_answer_text, yurkije_answer_type, yurkije_field_count, yurkije_field_name,
+    yurkije_field_type, yurkije_fields_read,
 };
 pub use handle::Handle;
 pub use held::Held;
+pub use lent_handle::LentHandle;
+pub use loan::Loan;
 pub use version::{yk_abi_version, yk_version};

@@ -4,6 +4,7 @@ ghost use Rattle.vortex_types.specs.LogicalTypes.{field_count, field_type};
 ghost use Rattle.vortex_types.specs.FieldNames.{field_name};
 ghost use Rattle.yurkije.specs.Asking.{Asks, SameRoom, IsPut, TellsFieldName, TellsFieldType};
 ghost use Rattle.yurkije.specs.Asking.{TellsAnswerName, TellsAnswerType, TellsAnswerText};
+ghost use Rattle.yurkije.specs.Asking.{PutsNumbers, TellsFieldsRead};
 
 use crate::held::Held;
 use crate::statuses::{EMPTY_HANDLE, NO_SUCH_NUMBER, OK, OUT_OF_MEMORY, ROOM_TOO_SMALL};
@@ -26,9 +27,9 @@ pub(crate) fn field_count(held: &Held, count: &mut usize) -> u32
     ensures { Asks held.now.program 100 result (count.new ≡ count.old)
         (λ p. (result ≡ 0) × (count.new ≡ field_count p.scope)) }
 {
-    match held.program() {
-        Some(program) => {
-            *count = program.scope.len();
+    match held.expression() {
+        Some(expression) => {
+            *count = expression.program.scope.len();
             OK
         }
         None => EMPTY_HANDLE,
@@ -40,10 +41,10 @@ pub(crate) fn field_name(held: &Held, field: usize, room: &mut [u8], len: &mut u
         (SameRoom room.old room.new len.old len.new)
         (λ p. TellsFieldName p field room.old room.new len.old len.new result) }
 {
-    match held.program() {
-        Some(program) => {
-            if field < program.scope.len() {
-                put(program.scope.name(field), room, len)
+    match held.expression() {
+        Some(expression) => {
+            if field < expression.program.scope.len() {
+                put(expression.program.scope.name(field), room, len)
             } else {
                 NO_SUCH_NUMBER
             }
@@ -56,10 +57,10 @@ pub(crate) fn field_type(held: &Held, field: usize, dtype: &mut Type) -> u32
     ensures { Asks held.now.program 100 result (dtype.new ≡ dtype.old)
         (λ p. TellsFieldType p field dtype.old dtype.new result) }
 {
-    match held.program() {
-        Some(program) => {
-            if field < program.scope.len() {
-                *dtype = reported_type(program.scope.dtype(field));
+    match held.expression() {
+        Some(expression) => {
+            if field < expression.program.scope.len() {
+                *dtype = reported_type(expression.program.scope.dtype(field));
                 OK
             } else {
                 NO_SUCH_NUMBER
@@ -73,9 +74,9 @@ pub(crate) fn answer_count(held: &Held, count: &mut usize) -> u32
     ensures { Asks held.now.program 100 result (count.new ≡ count.old)
         (λ p. (result ≡ 0) × (count.new ≡ length p.written)) }
 {
-    match held.program() {
-        Some(program) => {
-            *count = program.written.len();
+    match held.expression() {
+        Some(expression) => {
+            *count = expression.program.written.len();
             OK
         }
         None => EMPTY_HANDLE,
@@ -87,8 +88,8 @@ pub(crate) fn answer_name(held: &Held, answer: usize, room: &mut [u8], len: &mut
         (SameRoom room.old room.new len.old len.new)
         (λ p. TellsAnswerName p answer room.old room.new len.old len.new result) }
 {
-    match held.program() {
-        Some(program) => match program.written.get(answer) {
+    match held.expression() {
+        Some(expression) => match expression.program.written.get(answer) {
             Some(answer) => put(answer.name.as_str(), room, len),
             None => NO_SUCH_NUMBER,
         },
@@ -100,8 +101,8 @@ pub(crate) fn answer_type(held: &Held, answer: usize, dtype: &mut Type) -> u32
     ensures { Asks held.now.program 100 result (dtype.new ≡ dtype.old)
         (λ p. TellsAnswerType p answer dtype.old dtype.new result) }
 {
-    match held.program() {
-        Some(program) => match program.written.get(answer) {
+    match held.expression() {
+        Some(expression) => match expression.program.written.get(answer) {
             Some(answer) => {
                 *dtype = reported_type(answer.tree.dtype());
                 OK
@@ -123,10 +124,41 @@ pub(crate) fn answer_text(
     ensures { Asks held.now.program 100 result (SameRoom room.old room.new len.old len.new)
         (λ p. TellsAnswerText p answer optimized room.old room.new len.old len.new result) }
 {
-    match held.program() {
-        Some(program) => match program.text(alloc, answer, optimized) {
+    match held.expression() {
+        Some(expression) => match expression.program.text(alloc, answer, optimized) {
             Ok(Some(text)) => put(text.as_str(), room, len),
             Ok(None) => NO_SUCH_NUMBER,
+            Err(_) => OUT_OF_MEMORY,
+        },
+        None => EMPTY_HANDLE,
+    }
+}
+
+/// Writes numbers, and tells how many they are. None is written where there is no room for all.
+fn put_numbers(places: &[usize], numbers: &mut [usize], count: &mut usize) -> u32
+    ensures { PutsNumbers places.now numbers.old numbers.new count.new result }
+{
+    *count = places.len();
+    if numbers.len() < places.len() {
+        return ROOM_TOO_SMALL;
+    }
+    numbers[..places.len()].copy_from_slice(places);
+    OK
+}
+
+pub(crate) fn fields_read(
+    alloc: Global,
+    held: &Held,
+    numbers: &mut [usize],
+    count: &mut usize,
+) -> u32
+    ensures { Asks held.now.program 100 result
+        ((numbers.new ≡ numbers.old) × (count.new ≡ count.old))
+        (λ p. TellsFieldsRead p numbers.old numbers.new count.old count.new result) }
+{
+    match held.expression() {
+        Some(expression) => match expression.fields_read(alloc) {
+            Ok(places) => put_numbers(&places, numbers, count),
             Err(_) => OUT_OF_MEMORY,
         },
         None => EMPTY_HANDLE,

@@ -3,19 +3,19 @@ ghost use Rattle.std.specs.Prelude.{◌≡◌, None, Some, MatchResult, pos, map
 ghost use Rattle.vortex_columns.specs.ColumnView.{ColumnView};
 ghost use Rattle.yurkije.specs.Views.{program_view};
 ghost use Rattle.yurkije.specs.Answering.{Runs, HoldsAnswers, Sizes, Copies, SelectsBy, FindsColumn};
-ghost use Rattle.yurkije.specs.Answering.{KeepsOrWants, AsksAnswer, FindsNone};
+ghost use Rattle.yurkije.specs.Answering.{KeepsOrWants, AsksAnswer, FindsNone, Masks};
 
 use crate::handle::Handle;
 use crate::held::Held;
 use crate::statuses::{EMPTY_HANDLE, NO_SUCH_NUMBER, OK, OUT_OF_MEMORY, UNKNOWN_KIND};
 use std::alloc::Global;
-use vortex_arrow::{IndexType, copy_true_rows, true_count};
+use vortex_arrow::{IndexType, copy_mask, copy_true_rows, true_count};
 use vortex_columns::Column;
 use yurkije_columns::statuses::copy_status;
 use yurkije_columns::{
     BorrowedColumn, Room, RoomError, Size, arrow_columns, borrowed_words, copy_answer, size_of,
 };
-use yurkije_core::{ErrorNumbers, Program, Report, run_program, run_words};
+use yurkije_core::{ErrorNumbers, Expression, Report, run_program, run_words};
 
 /// Holds answers, or tells that memory ran out.
 fn hold(alloc: Global, columns: Vec<Column>, answers: &mut Handle, error: &mut Report<'_>) -> u32
@@ -31,36 +31,37 @@ fn hold(alloc: Global, columns: Vec<Column>, answers: &mut Handle, error: &mut R
     }
 }
 
-/// Runs a program over columns that are lent, and holds what it answers; or tells why it does not.
+/// Runs an expression over columns that are lent, and holds what it answers; or tells why it does not.
+/// Columns that no answer reads are not looked at.
 fn run(
     alloc: Global,
-    program: &Program,
+    expression: &Expression,
     columns: &[BorrowedColumn<'_>],
     rows: usize,
     answers: &mut Handle,
     error: &mut Report<'_>,
 ) -> u32
     requires { answers.old.held ≡ None }
-    ensures { HoldsAnswers (program_view program.now) columns.now rows answers.new.held result
+    ensures { HoldsAnswers (program_view expression.now) columns.now rows answers.new.held result
         error.old error.new }
 {
-    let columns = match arrow_columns(alloc, columns) {
+    let columns = match arrow_columns(alloc, columns, &expression.reads) {
         Ok(columns) => columns,
         Err(wrong) => {
             let words = borrowed_words(alloc, wrong);
             return error.report_text(ErrorNumbers::of_borrowed(wrong), words);
         }
     };
-    match run_program(alloc, program, &columns, rows) {
+    match run_program(alloc, &expression.program, &columns, rows) {
         Ok(columns) => hold(alloc, columns, answers, error),
         Err(wrong) => {
-            let words = run_words(alloc, program, &wrong, rows);
+            let words = run_words(alloc, &expression.program, &wrong, rows);
             error.report_text(ErrorNumbers::of_run(&wrong), words)
         }
     }
 }
 
-/// Runs the program that is held.
+/// Runs the expression that is held.
 pub(crate) fn run_held(
     alloc: Global,
     held: &Held,
@@ -73,8 +74,8 @@ pub(crate) fn run_held(
     ensures { Runs held.now.program columns.now rows answers.new.held result error.old
         error.new }
 {
-    match held.program() {
-        Some(program) => run(alloc, program, columns, rows, answers, error),
+    match held.expression() {
+        Some(expression) => run(alloc, expression, columns, rows, answers, error),
         None => error.tell(
             ErrorNumbers::of(EMPTY_HANDLE),
             "the handle holds no expression",
@@ -163,6 +164,26 @@ pub(crate) fn put_true_rows<I: IndexType>(
 {
     match column_of(held, answer) {
         Ok(column) => reported_true_rows(column, numbers, count),
+        Err(status) => status,
+    }
+}
+
+/// A byte a row of a column, 1 where it is true.
+fn mask_told(column: &Column, mask: &mut [u8]) -> u32
+    ensures { Masks column.now mask.old mask.new result }
+{
+    match copy_mask(column, mask) {
+        Ok(()) => OK,
+        Err(error) => copy_status(error),
+    }
+}
+
+pub(crate) fn put_mask(held: &Held, answer: usize, mask: &mut [u8]) -> u32
+    ensures { AsksAnswer held.now.answers answer result (mask.new ≡ mask.old)
+        (λ c. Masks c mask.old mask.new result) }
+{
+    match column_of(held, answer) {
+        Ok(column) => mask_told(column, mask),
         Err(status) => status,
     }
 }
