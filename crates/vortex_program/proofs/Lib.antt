@@ -3,6 +3,7 @@ pub mod Answered
 pub mod BitRuns
 pub mod Decided
 pub mod Faulty
+pub mod Fitting
 pub mod Faultless
 pub mod Keeping
 pub mod NamedTrees

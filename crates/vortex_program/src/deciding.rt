@@ -18,6 +18,7 @@ use std::borrow::Cow;
 use vortex_columns::{Column, ExecutionCtx, Scalar, VortexResult};
 use vortex_functions::{BoundExpression, NoCustom, ScalarFnRef, VecExecutionArgs};
 use vortex_operators::Operator;
+use vortex_rewriting::laws::types_invariant;
 
 /// A call of And or Or, with its operator.
 #[derive(Clone, Copy)]
@@ -169,7 +170,7 @@ fn execute_spine<'a>(
     Ok(column)
 }
 
-/// What `execute` returns of the tree, as a column of its own.
+/// What `execute` returns of the tree over columns that fit it, as a column of its own.
 ///
 /// Of a tree that joins operands by And or Or from left to right, an operand is not executed where
 /// those before it decide each row (And: each is false; Or: each is true) and it cannot fault.
@@ -179,10 +180,30 @@ pub(crate) fn execute_deciding(
     row_count: usize,
     ctx: &mut ExecutionCtx,
 ) -> VortexResult<Column>
+    requires { Fits columns.now row_count tree.now }
     ensures { Answers result (Executes fixed_meaning columns.now row_count tree.now)
         (RefusesExecution fixed_meaning columns.now row_count tree.now) }
 {
-    tree.check_columns(columns, row_count, ctx)?;
+    types_invariant(columns);
     let column = execute_spine(tree, columns, row_count, ctx)?;
     Ok(column.into_owned()?)
+}
+
+/// The same over any columns, which are checked, unless it is known that they fit.
+pub(crate) fn execute_checking(
+    tree: &BoundExpression<NoCustom>,
+    columns: &[Column],
+    row_count: usize,
+    is_known: bool,
+    ctx: &mut ExecutionCtx,
+) -> VortexResult<Column>
+    requires { IsTrue is_known → Fits columns.now row_count tree.now }
+    ensures { Answers result (Executes fixed_meaning columns.now row_count tree.now)
+        (RefusesExecution fixed_meaning columns.now row_count tree.now) }
+{
+    if is_known {
+        return execute_deciding(tree, columns, row_count, ctx);
+    }
+    tree.check_columns(columns, row_count, ctx)?;
+    execute_deciding(tree, columns, row_count, ctx)
 }

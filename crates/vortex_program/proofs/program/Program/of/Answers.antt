@@ -1,0 +1,1 @@
+use Rattle.vortex_program.proofs.program.Program.of.Goals as goal
