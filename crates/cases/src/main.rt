@@ -101,7 +101,7 @@ fn holds(rt: &(impl Print + AllocGlobal), case: Case<'_>) -> io::Result<bool> {
         return Ok(true);
     }
     let Case { name, wanted, .. } = case;
-    println!(rt; "== {name}\nwanted:\n{wanted}\ngot:\n{got}")?;
+    println!(rt; "== {name}\nexpected:\n{wanted}\ngot:\n{got}")?;
     Ok(false)
 }
 

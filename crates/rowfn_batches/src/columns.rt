@@ -206,7 +206,7 @@ fn is_even(width: usize, row_count: usize, count: usize) -> bool
 ///
 /// A field is the cell of a script as it stands, but that a text's has no quotes, and `null`
 /// spelled out is no null: a text of four letters in a text's column, and in any other a misfit.
-/// Bytes that are not UTF-8 fit no column. Which field is named, and when none is, `BatchError`
+/// Bytes that are not UTF-8 fit no column. Which field is named, and when none is, `FieldsError`
 /// says.
 pub fn read_columns(
     alloc: Global,

@@ -256,13 +256,13 @@ fn write_input<W: fmt::Write>(f: &mut fmt::Formatter<W>, error: &StreamError) ->
         }
         StreamError::ColumnTwice(name) => {
             let name = name.as_str();
-            write!(f, "header: column {name} stands twice")
+            write!(f, "header: column {name} occurs twice")
         }
         StreamError::PlaceMissing { name, place, found } => {
             let (name, place) = (name.as_str(), place.saturating_add(1));
             write!(
                 f,
-                "header: {found} fields, and column {name} is to stand at {place}"
+                "header: {found} fields, but column {name} is field {place}"
             )
         }
         StreamError::OpenHeader | StreamError::HeaderTooLong(_) => {

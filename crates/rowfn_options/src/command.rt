@@ -108,7 +108,7 @@ const ACTIONS: [Row; 7] = [
         long: Some("where"),
         takes: Takes::AnyText,
         value: "EXPRESSION",
-        help: "Take the rows in which this is true; without answers, write them as they stand",
+        help: "Take the rows in which this is true; without answers, write them as they are",
         ..TEXT
     },
     Row {

@@ -57,7 +57,7 @@ fn output_delimiter_option(
         return Ok(delimiter);
     };
     if !matches.contains_id("expression") && !matches.contains_id("file") {
-        let message = "--output-delimiter: rows without answers are written as they stand: \
+        let message = "--output-delimiter: rows without answers are written as they are: \
                        expected an EXPRESSION or --file";
         return Err(refusal(command, ErrorKind::ArgumentConflict, message)?);
     }

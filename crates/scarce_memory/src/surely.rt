@@ -208,7 +208,7 @@ pub fn ask(alloc: Global, tally: &mut Tally) {
     let leaf_alone = leaf_of::<NoCustom>(alloc, DType::Bool(NO));
     tally.note("execute of a lone leaf", lends(alloc, leaf_alone, column));
     let tree = not_of::<NoCustom>(alloc, leaf(alloc, "a"));
-    tally.note("child of a lent node", lends_child(alloc, tree));
+    tally.note("child of a borrowed node", lends_child(alloc, tree));
     ask_types(alloc, tally);
     tally.note(
         "VecExecutionArgs::get",

@@ -152,7 +152,7 @@ fn missing_columns_other_widths_and_open_quotes_end_the_stream(rt: HostRuntime) 
             "a,b,a\n1,2,3\n",
             "",
             2,
-            "header: column a stands twice",
+            "header: column a occurs twice",
         ),
         (
             Form::Plain,

@@ -77,7 +77,7 @@ fn only_columns_that_are_named_take_types(rt: HostRuntime) {
     assert!(rt; answers_so(rt, asks("a, a like 'x%' as x", "a,b\n"), "a,x\n"));
     let input = "a,b,a b,b\n1,x,\"3\",y\n2,\"y\nz\",4,y\n";
     assert!(rt; answers_so(rt, asks("a * \"a b\" as n, a", input), "n,a\n3,1\n8,2\n"));
-    let told = "header: column b stands twice";
+    let told = "header: column b occurs twice";
     assert!(rt; ends_so(rt, asks("b", input), "", 2, told));
 }
 

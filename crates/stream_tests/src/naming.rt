@@ -52,7 +52,7 @@ fn columns_stand_at_the_places_that_are_said(rt: HostRuntime) {
         ),
     ];
     assert!(rt; each_gives(rt, CASES));
-    let told = "header: 2 fields, and column price is to stand at 3";
+    let told = "header: 2 fields, but column price is field 3";
     assert!(rt; ends(rt, plain(THIRD, "name,x\na,b\n"), "", 2, told));
     let told = "row 2, column name: \"\\xff\" is no utf8";
     let broken = Case {

@@ -1,4 +1,4 @@
-//! Rows of the input that are written as they stand.
+//! Rows of the input that are written as they are.
 
 use crate::cases::{Case, Form, each_gives, ends, gives, pick};
 

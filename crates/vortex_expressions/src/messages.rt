@@ -210,6 +210,22 @@ fn taken_at(place: MismatchPlace) -> &'static str {
     }
 }
 
+/// How many columns of a scope are listed.
+const LISTED: usize = 10;
+
+/// The first columns that there are; nothing of a scope without columns.
+fn push_columns(out: &mut String, scope: &StructFields) -> VortexResult<()> {
+    let count = scope.len();
+    for place in 0..count.min(LISTED) {
+        out.push_str(if place == 0 { "; there are " } else { ", " })?;
+        out.push_str(scope.name(place))?;
+    }
+    if count > LISTED {
+        write!(out, " and {} more", count - LISTED)?;
+    }
+    Ok(())
+}
+
 /// The column that the scope does not have, and the one that may be meant.
 fn column_text(
     alloc: Global,
@@ -229,7 +245,11 @@ fn column_text(
         None if is_quoted => Ok(format!(in alloc;
             "no column {name:?}; texts are written in single quotes, as 'text'"
         )?),
-        None => Ok(format!(in alloc; "no column {name:?}")?),
+        None => {
+            let mut out = format!(in alloc; "no column {name:?}")?;
+            push_columns(&mut out, scope)?;
+            Ok(out)
+        }
     }
 }
 

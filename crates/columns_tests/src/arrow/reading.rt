@@ -23,7 +23,7 @@ fn reads(rt: HostRuntime, column: ArrowColumn<'_>, wanted: &str) -> bool {
     match made(rt.alloc(), &column) {
         Ok(column) => is_text(rt, &column, wanted),
         Err(error) => {
-            let _ = eprintln!(rt; "came {error:?}, wanted {wanted}");
+            let _ = eprintln!(rt; "got {error:?}, expected {wanted}");
             false
         }
     }
