@@ -1,8 +1,11 @@
 -- Columns that fit trees fit what these are rewritten to.
 use Rattle.std.proofs.Common.{◌≡◌, ℕ, List, [], ◌∷◌, Option, Some, None, refl, sym, subst, inl, inr}
+use Rattle.std.proofs.Common.{arith}
 use Rattle.std.proofs.Math.Logic.{∥∥₁_elim, ∥∥₁_map}
 use Rattle.std.proofs.Props.{props}
+use base.Stored.{Coded-set}
 use Rattle.vortex_types.specs.LogicalTypes.{LogicalType}
+use Rattle.vortex_types.specs.Codes.{coded_type}
 use Rattle.vortex_columns.specs.ColumnView.{ColumnView}
 use Rattle.vortex_interface.specs.Trees.{Leaf, place, held, Tree, leaf, constant, call, Trees}
 use Rattle.vortex_interface.specs.Trees.{no_trees, tree}
@@ -25,11 +28,14 @@ all_rewrites (t ∷ ts) (u ∷ us) h = (h.0.kept, all_rewrites ts us h.1)
 
 -- a column of that type, if it is a bare fact that there is one
 place_known : (a : Option ColumnView) (k : LogicalType)
-    → ∥ (c : ColumnView) × (a ≡ Some c) × (c.dtype ≡ k) ∥₁
+    → ∥ ((c : ColumnView) × (a ≡ Some c) × (c.dtype ≡ k)) ∥₁
     → (c : ColumnView) × (a ≡ Some c) × (c.dtype ≡ k)
-place_known None k h = absurd (∥∥₁_elim h (search props) (λ x. let no : ⊥ = cc in no))
+place_known None k h =
+    let no : ◌≡◌ {A = ℕ} 0 1 =
+    ∥∥₁_elim h (search props) (λ x. let none : None ≡ Some x.0 = x.1 in cc) in
+    absurd (omega (arith, no))
 place_known (Some c) k h =
-    (c, refl, ∥∥₁_elim h (search props) (λ x. let same : c.dtype ≡ k = cc in same))
+    (c, refl, ∥∥₁_elim h (search (props, Coded-set, coded_type)) (λ x. let same : c.dtype ≡ k = cc in same))
 
 module _ {V O : Type 0} (cs : List ColumnView) where
   mutual
@@ -59,9 +65,10 @@ module _ {V O : Type 0} (cs : List ColumnView) where
         → ((p : ℕ) (name : List ℕ) (k : LogicalType) → IsLeafIn (place p name k) ts
         → LeafFits cs (place p name k)) → AllLeavesFit cs ts
     all_fit_by no_trees h = tt
-    all_fit_by (tree t ts) h =
-        (fits_by t (λ p name k is. h p name k (inl is)),
-        all_fit_by ts (λ p name k is. h p name k (inr is)))
+    all_fit_by (tree t ts) h = (
+      fits_by t (λ p name k is. h p name k (inl is)),
+      all_fit_by ts (λ p name k is. h p name k (inr is)),
+    )
 
   mutual
     -- columns fit a tree if it is a bare fact that they do
@@ -79,14 +86,17 @@ module _ {V O : Type 0} (cs : List ColumnView) where
 module _ (cs : List ColumnView) (n : ℕ) where
   all_known : (us : List items.Tree) → ∥ AllFit cs n us ∥₁ → AllFit cs n us
   all_known [] h = tt
-  all_known (u ∷ us) h =
-      ((leaves_known cs u (∥∥₁_map h (λ f. f.0.0)), ∥∥₁_elim h (search props) (λ f. f.0.1)),
-      all_known us (∥∥₁_map h (λ f. f.1)))
+  all_known (u ∷ us) h = (
+    (leaves_known cs u (∥∥₁_map h (λ f. f.0.0)), ∥∥₁_elim h (search props) (λ f. f.0.1)),
+    all_known us (∥∥₁_map h (λ f. f.1)),
+  )
 
   fits_rewrite : (t u : items.Tree) → Rewrites meaning t u → Fits cs n t → Fits cs n u
-  fits_rewrite t u r fit =
-      (fits_by cs u (λ p name k is.
-      leaf_fits cs t (place p name k) fit.0 (r.asks.leaves p name k is)), fit.1)
+  fits_rewrite t u r fit = (
+    fits_by cs u (λ p name k is.
+        leaf_fits cs t (place p name k) fit.0 (r.asks.leaves p name k is)),
+    fit.1,
+  )
 
   all_rewritten : (ts us : List items.Tree) → AllMean (Rewrites meaning) ts us → AllFit cs n ts
       → AllFit cs n us

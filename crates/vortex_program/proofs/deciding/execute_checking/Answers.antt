@@ -14,4 +14,3 @@ returns-in_err-check_columns c =
     c.in_err-check_columns.field-0.0 c.from_residual.ensures.1
     (UnlessMemory-weaker (RefusesColumns cs n t) (RefusesExecution m cs n t) (λ e q. misfit q)
     c.in_err-check_columns.field-0.0 c.in_err-check_columns.ensures.answer)
-
