@@ -68,6 +68,11 @@ module _ (at : ℕ → ℕ) (count : ℕ) (cs ds : List ColumnView) where
 abbrev pub HasWhere : ℕ → ℕ → List ColumnView → List ColumnView → (ℕ → Type 0) → Type 0
 HasWhere first count = HasWhereAt (from first) count
 
+pub row_is : {V O : Type 0} (first count : ℕ) (cs ds : List ColumnView) (m : Meaning V O) (j : ℕ)
+    → j < count → (t : Tree V O) → IsBound t → HasWhere first count cs ds (λ k. Reads k t)
+    → eval m ds t j ≡ eval m cs t (first + j)
+row_is first count cs ds = row_is_at (from first) count cs ds
+
 pub leaves_fit_there : {V O : Type 0} (first count : ℕ) (cs ds : List ColumnView) (t : Tree V O)
     → HasWhere first count cs ds (λ k. Reads k t) → LeavesFit cs t → LeavesFit ds t
 leaves_fit_there first count cs ds = leaves_fit_at (from first) count cs ds
