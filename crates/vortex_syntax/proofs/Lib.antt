@@ -19,6 +19,7 @@ pub mod Stops
 pub mod Placed
 pub mod Deep
 pub mod AnswerTokens
+pub mod AnswerCommas
 pub mod AnswerNames
 pub mod AnswerSplits
 pub mod AnswerStops

@@ -9,16 +9,17 @@ use Rattle.vortex_syntax.specs.declared.token.Sign.{Sign}
 use Rattle.vortex_syntax.specs.declared.token.Sign.TheVariants as sign
 use Rattle.vortex_syntax.specs.declared.pieces.Run.{Run}
 use Rattle.vortex_syntax.specs.declared.pieces.Run.TheVariants.{Word, Digits, Line}
-use Rattle.vortex_syntax.specs.Tokens.{Token, name, nullable, quoted, number, text, sign}
+use Rattle.vortex_syntax.specs.Tokens.{Token, name, nullable, function, quoted, number, text, sign}
 use Rattle.vortex_syntax.specs.Keywords.{keyword_of}
 use Rattle.vortex_syntax.specs.Pieces.{Piece, gap, token, Cut, is_blank, begins_word, is_in, front}
-use Rattle.vortex_syntax.specs.Pieces.{behind, keyword_or_name, word_before, number_before}
+use Rattle.vortex_syntax.specs.Pieces.{behind, name_before, keyword_or_name, word_before}
+use Rattle.vortex_syntax.specs.Pieces.{number_before}
 use Rattle.vortex_syntax.specs.Pieces.{with_front, closed, quoted_by, sign_of_two, sign_of_one}
 use Rattle.vortex_syntax.specs.Pieces.{sign_before, or_else, longest_sign, minus_or_comment}
 use Rattle.vortex_syntax.specs.Pieces.{first_piece}
 use Rattle.vortex_syntax.specs.Lexing.{Lexes, none, gap_first, token_first}
-use Rattle.vortex_syntax.specs.Writing.{doubled, is_word, are_digits, IsDoubled, IsWritable}
-use Rattle.vortex_syntax.specs.Writing.{AllWritable}
+use Rattle.vortex_syntax.specs.Writing.{doubled, is_word, is_bare, are_digits, IsDoubled}
+use Rattle.vortex_syntax.specs.Writing.{IsWritable, AllWritable}
 use Rattle.vortex_syntax.proofs.Runs.{word_begun}
 
 -- runs
@@ -121,17 +122,23 @@ module _ (t : Token) (rest : List ℕ) where
       cond_both (c == 45) (Some (gap, behind Line cs)) (Some (token (sign sign.Minus), c ∷ cs)) Says
       (λ h. gap_says (behind Line cs)) (λ h. token_says (sign sign.Minus) (c ∷ cs) tt)
 
+  name_says : (w xs : List ℕ) → is_bare w ≡ true → Says (Some (name_before w xs))
+  name_says w [] h = token_says (name w) [] h
+  name_says w (b ∷ bs) h =
+      cond_both (b == 40) (token (function w), bs) (token (name w), b ∷ bs) (λ p. Says (Some p))
+      (λ k. token_says (function w) bs h) (λ k. token_says (name w) (b ∷ bs) h)
+
   keyword_says : (w xs : List ℕ) (o : Option Sign) → is_word w ≡ true → keyword_of w ≡ o
-      → Says (Some (token (keyword_or_name w o), xs))
+      → Says (Some (keyword_or_name w o xs))
   keyword_says w xs None h e =
-      token_says (name w) xs (and_from (is_word w) (is_none (keyword_of w)) h (ap is_none e))
+      name_says w xs (and_from (is_word w) (is_none (keyword_of w)) h (ap is_none e))
   keyword_says w xs (Some s) h e = token_says (sign s) xs tt
 
   word_says : (w xs : List ℕ) → is_word w ≡ true → Says (Some (word_before w xs))
   word_says w [] h = keyword_says w [] (keyword_of w) h refl
   word_says w (b ∷ bs) h =
       cond_both (b == 63) (token (nullable w), bs)
-      (token (keyword_or_name w (keyword_of w)), b ∷ bs) (λ p. Says (Some p))
+      (keyword_or_name w (keyword_of w) (b ∷ bs)) (λ p. Says (Some p))
       (λ k. token_says (nullable w) bs h) (λ k. keyword_says w (b ∷ bs) (keyword_of w) h refl)
 
   number_says : (ds xs : List ℕ) → are_digits ds ≡ true → Says (number_before ds xs)

@@ -15,11 +15,11 @@ use Rattle.vortex_syntax.specs.declared.pieces.Run.TheVariants.{Word, Digits}
 use Rattle.vortex_syntax.specs.declared.writing.Ending.{Ending}
 use Rattle.vortex_syntax.specs.declared.writing.Ending.TheVariants as at
 use Rattle.vortex_syntax.specs.declared.writing.Writer.{Writer}
-use Rattle.vortex_syntax.specs.Tokens.{Token, name, nullable, quoted, number, text, sign}
+use Rattle.vortex_syntax.specs.Tokens.{Token, name, nullable, function, quoted, number, text, sign}
 use Rattle.vortex_syntax.specs.Keywords.{keyword_of}
 use Rattle.vortex_syntax.specs.Pieces.{gap, token, is_blank, begins_word, is_in, front, behind}
-use Rattle.vortex_syntax.specs.Pieces.{keyword_or_name, word_before, number_before, with_front}
-use Rattle.vortex_syntax.specs.Pieces.{closed, quoted_by, first_piece}
+use Rattle.vortex_syntax.specs.Pieces.{name_before, keyword_or_name, word_before, number_before}
+use Rattle.vortex_syntax.specs.Pieces.{with_front, closed, quoted_by, first_piece}
 use Rattle.vortex_syntax.specs.Lexing.{Lexes, none, gap_first, token_first}
 use Rattle.vortex_syntax.specs.Syntax.{Syntax}
 use Rattle.vortex_syntax.specs.Levels.{Fits}
@@ -80,6 +80,9 @@ ends_single : (bs : List ℕ) → Stops bs → EndsQuote 39 bs
 ends_single [] s = tt
 ends_single (c ∷ cs) s = s.3
 
+abbrev NoBracket : List ℕ → Type 0
+NoBracket = EndsQuote 40
+
 -- bytes by their order
 above : (b q : ℕ) → q < b → (b == q) ≡ false
 above b q h = grind (arith, nat_tests)
@@ -135,25 +138,38 @@ word_piece (b ∷ bs) rest h e =
     ∙ ap (λ ys. Some (word_before (b ∷ bs) ys)) (behind_all Word (b ∷ bs) rest all e)
 
 word_ends : (w rest : List ℕ) → Stops rest
-    → word_before w rest ≡ (token (keyword_or_name w (keyword_of w)), rest)
+    → word_before w rest ≡ keyword_or_name w (keyword_of w) rest
 word_ends w [] s = refl
 word_ends w (c ∷ cs) s = let other : (c == 63) ≡ false = s.1 in rw other refl
 
 known_piece : (w rest : List ℕ) (o : Option Sign) → is_word w ≡ true → keyword_of w ≡ o → Stops rest
-    → first_piece (w ++ rest) ≡ Some (token (keyword_or_name w o), rest)
+    → first_piece (w ++ rest) ≡ Some (keyword_or_name w o rest)
 known_piece w rest o h k s =
     word_piece w rest h (ends_word rest s) ∙ ap (λ x. Some x) (word_ends w rest s)
-    ∙ ap (λ p. Some (token (keyword_or_name w p), rest)) k
+    ∙ ap (λ p. Some (keyword_or_name w p rest)) k
 
 none_is : (o : Option Sign) → is_none o ≡ true → o ≡ None
 none_is None h = refl
 none_is (Some s) h = absurd (false≢true h)
 
-name_piece : (w rest : List ℕ) → is_bare w ≡ true → Stops rest
+name_ends : (w rest : List ℕ) → NoBracket rest → name_before w rest ≡ (token (name w), rest)
+name_ends w [] b = refl
+name_ends w (c ∷ cs) b = let other : (c == 40) ≡ false = b in rw other refl
+
+name_piece : (w rest : List ℕ) → is_bare w ≡ true → Stops rest → NoBracket rest
     → first_piece (w ++ rest) ≡ Some (token (name w), rest)
-name_piece w rest h s =
+name_piece w rest h s b =
     let p = and_parts (is_word w) (is_none (keyword_of w)) h in
     known_piece w rest None p.0 (none_is (keyword_of w) p.1) s
+    ∙ ap (λ x. Some x) (name_ends w rest b)
+
+function_piece : (w rest : List ℕ) → is_bare w ≡ true
+    → first_piece ((w ++ codes "(") ++ rest) ≡ Some (token (function w), rest)
+function_piece w rest h =
+    let p = and_parts (is_word w) (is_none (keyword_of w)) h in
+    ap first_piece (append_assoc w (codes "(") rest)
+    ∙ word_piece w (40 ∷ rest) p.0 refl
+    ∙ ap (λ o. Some (keyword_or_name w o (40 ∷ rest))) (none_is (keyword_of w) p.1)
 
 nullable_piece : (w rest : List ℕ) → is_word w ≡ true
     → first_piece ((w ++ codes "?") ++ rest) ≡ Some (token (nullable w), rest)
@@ -234,7 +250,8 @@ quoted_piece w rest h s = double_opens ((w ++ (34 ∷ [])) ++ rest)
 abbrev Follows : Ending → List ℕ → Type 0
 Follows at.Tight bs = Unit {0}
 Follows at.Signed bs = NoMinus bs
-Follows e bs = Stops bs
+Follows at.Called bs = Stops bs
+Follows e bs = Stops bs × NoBracket bs
 
 open_piece : (rest : List ℕ) → first_piece (40 ∷ rest) ≡ Some (token (sign sign.Open), rest)
 unfolding first_piece
@@ -252,7 +269,7 @@ minus_piece [] n = refl
 minus_piece (c ∷ cs) n = let other : (c == 45) ≡ false = n in rw other refl
 
 minus_follows : (e : Ending) (rest : List ℕ) → Follows (minus_ending e) rest → NoMinus rest
-minus_follows at.Operand rest f = no_minus_of rest f
+minus_follows at.Operand rest f = no_minus_of rest f.0
 minus_follows at.Tight rest f = f
 minus_follows at.Signed rest f = f
 minus_follows at.Called rest f = f
@@ -314,15 +331,17 @@ sign_piece : (e : Ending) (s : Sign) (rest : List ℕ) → Follows (sign_ending 
 sign_piece e sign.Open rest f = open_piece rest
 sign_piece e sign.Typed rest f = typed_piece rest
 sign_piece e sign.Minus rest f = minus_piece rest (minus_follows e rest f)
-sign_piece e s rest f = plain_piece s rest f
+sign_piece e sign.Cast rest f = plain_piece sign.Cast rest f
+sign_piece e s rest f = plain_piece s rest f.0
 
 token_piece : (e : Ending) (t : Token) (rest : List ℕ) → IsWritable t
     → Follows (ending_behind e t) rest → first_piece (token_text t ++ rest) ≡ Some (token t, rest)
-token_piece e (name w) rest h f = name_piece w rest h f
+token_piece e (name w) rest h f = name_piece w rest h f.0 f.1
 token_piece e (nullable w) rest h f = nullable_piece w rest h
-token_piece e (quoted w) rest h f = quoted_piece w rest h f
-token_piece e (number ds) rest h f = number_piece ds rest h f
-token_piece e (text bs) rest h f = text_piece bs rest h f
+token_piece e (function w) rest h f = function_piece w rest h
+token_piece e (quoted w) rest h f = quoted_piece w rest h f.0
+token_piece e (number ds) rest h f = number_piece ds rest h f.0
+token_piece e (text bs) rest h f = text_piece bs rest h f.0
 token_piece e (sign s) rest h f = sign_piece e s rest f
 
 -- what is written next may follow
@@ -347,6 +366,20 @@ token_stops e (sign s) xs h k = sign_stops e s xs h
 token_stops e (number ds) xs h k = rw k (blank_stops (ds ++ xs))
 token_stops e t xs h k = rw h (blank_stops (token_text t ++ xs))
 
+sign_no_bracket : (e : Ending) (s : Sign) (xs : List ℕ) → is_tight e ≡ false
+    → joins_bracket e ≡ false → NoBracket (blank_unless (joins_sign e s) ++ (sign_text s ++ xs))
+sign_no_bracket e sign.Close xs h k = refl
+sign_no_bracket e sign.Comma xs h k = refl
+sign_no_bracket e sign.Typed xs h k = refl
+sign_no_bracket e sign.Open xs h k = rw k refl
+sign_no_bracket e s xs h k = rw h refl
+
+no_bracket : (e : Ending) (t : Token) (xs : List ℕ) → is_tight e ≡ false → joins_number e ≡ false
+    → joins_bracket e ≡ false → NoBracket (blank_unless (joins e t) ++ (token_text t ++ xs))
+no_bracket e (sign s) xs h k j = sign_no_bracket e s xs h j
+no_bracket e (number ds) xs h k j = rw k refl
+no_bracket e t xs h k j = rw h refl
+
 number_no_minus : (ds xs : List ℕ) → are_digits ds ≡ true → NoMinus (ds ++ xs)
 number_no_minus [] xs h = absurd (false≢true h)
 number_no_minus (d ∷ ds) xs h =
@@ -362,6 +395,7 @@ signed_no_minus (sign s) xs h =
 signed_no_minus (number ds) xs h = number_no_minus ds xs h
 signed_no_minus (name w) xs h = refl
 signed_no_minus (nullable w) xs h = refl
+signed_no_minus (function w) xs h = refl
 signed_no_minus (quoted w) xs h = refl
 signed_no_minus (text bs) xs h = refl
 
@@ -372,12 +406,16 @@ follows at.Signed (t ∷ ts) h = signed_no_minus t (written_behind (ending_behin
 follows at.Called [] h = tt
 follows at.Called (t ∷ ts) h =
     token_stops at.Called t (written_behind (ending_behind at.Called t) ts) refl refl
-follows at.Operand [] h = tt
-follows at.Operand (t ∷ ts) h =
-    token_stops at.Operand t (written_behind (ending_behind at.Operand t) ts) refl refl
-follows at.Loose [] h = tt
-follows at.Loose (t ∷ ts) h =
-    token_stops at.Loose t (written_behind (ending_behind at.Loose t) ts) refl refl
+follows at.Operand [] h = (tt, tt)
+follows at.Operand (t ∷ ts) h = (
+  token_stops at.Operand t (written_behind (ending_behind at.Operand t) ts) refl refl,
+  no_bracket at.Operand t (written_behind (ending_behind at.Operand t) ts) refl refl refl,
+)
+follows at.Loose [] h = (tt, tt)
+follows at.Loose (t ∷ ts) h = (
+  token_stops at.Loose t (written_behind (ending_behind at.Loose t) ts) refl refl,
+  no_bracket at.Loose t (written_behind (ending_behind at.Loose t) ts) refl refl refl,
+)
 
 -- all tokens
 blank_is : (xs : List ℕ) → first_piece (32 ∷ xs) ≡ Some (gap, xs)

@@ -8,7 +8,8 @@ use Rattle.vortex_syntax.specs.declared.pieces.Run.{Run}
 use Rattle.vortex_syntax.specs.declared.pieces.Run.TheVariants.{Word, Digits, Line}
 use Rattle.vortex_syntax.specs.declared.pieces.Piece as read
 use Rattle.vortex_syntax.specs.declared.pieces.Piece.TheVariants as variant
-use Rattle.vortex_syntax.specs.Tokens.{Token, name, nullable, quoted, number, text, sign, token_in}
+use Rattle.vortex_syntax.specs.Tokens.{Token, name, nullable, function, quoted, number, text, sign}
+use Rattle.vortex_syntax.specs.Tokens.{token_in}
 use Rattle.vortex_syntax.specs.Keywords.{keyword_of}
 
 -- white space or a comment, or a token
@@ -45,16 +46,20 @@ abbrev pub behind : Run → List ℕ → List ℕ
 behind r [] = []
 behind r (b ∷ bs) = if is_in r b then behind r bs else b ∷ bs
 
+-- an opening bracket right after a name belongs to it
+abbrev pub name_before : List ℕ → List ℕ → Piece × List ℕ
+name_before w [] = (token (name w), [])
+name_before w (b ∷ bs) = if b == 40 then (token (function w), bs) else (token (name w), b ∷ bs)
+
 -- a word is a keyword or a name
-abbrev pub keyword_or_name : List ℕ → Option Sign → Token
-keyword_or_name w None = name w
-keyword_or_name w (Some s) = sign s
+abbrev pub keyword_or_name : List ℕ → Option Sign → List ℕ → Piece × List ℕ
+keyword_or_name w None rest = name_before w rest
+keyword_or_name w (Some s) rest = (token (sign s), rest)
 
 abbrev pub word_before : List ℕ → List ℕ → Piece × List ℕ
-word_before w [] = (token (keyword_or_name w (keyword_of w)), [])
+word_before w [] = keyword_or_name w (keyword_of w) []
 word_before w (b ∷ bs) =
-    if b == 63 then (token (nullable w), bs)
-    else (token (keyword_or_name w (keyword_of w)), b ∷ bs)
+    if b == 63 then (token (nullable w), bs) else keyword_or_name w (keyword_of w) (b ∷ bs)
 
 -- no word begins right after a number
 abbrev pub number_before : List ℕ → List ℕ → Cut

@@ -3,7 +3,7 @@ ghost use Rattle.std.specs.Prelude.{◌≡◌, ◌<◌, ◌≤◌, suc, length, 
 ghost use Rattle.vortex_syntax.specs.Keywords.{same_word, keyword_of};
 ghost use Rattle.vortex_syntax.specs.Tokens.{token_in};
 ghost use Rattle.vortex_syntax.specs.Pieces.{piece_in, is_blank, begins_word, is_in, front, behind};
-ghost use Rattle.vortex_syntax.specs.Pieces.{keyword_or_name, word_before, number_before, closed};
+ghost use Rattle.vortex_syntax.specs.Pieces.{name_before, keyword_or_name, word_before, number_before, closed};
 ghost use Rattle.vortex_syntax.specs.Pieces.{quoted_by, sign_of_two, sign_of_one, longest_sign};
 ghost use Rattle.vortex_syntax.specs.Pieces.{minus_or_comment, first_piece};
 
@@ -114,12 +114,25 @@ pub(crate) fn keyword_of(word: &[u8]) -> Option<Sign>
     }
 }
 
-fn keyword_or_name(word: &[u8]) -> Token<'_>
-    ensures { token_in result ≡ keyword_or_name word.now (keyword_of word.now) }
+/// The piece of a name, with an opening bracket if one follows directly.
+fn name_before<'a>(word: &'a [u8], rest: &'a [u8]) -> (Piece<'a>, &'a [u8])
+    ensures piece { (piece_in result.0, result.1.now) ≡ name_before word.now rest.now }
+    ensures shorter { length result.1.now ≤ length rest.now }
+{
+    match rest {
+        [b'(', rest @ ..] => (Piece::Token(Token::Function(word)), rest),
+        _ => (Piece::Token(Token::Name(word)), rest),
+    }
+}
+
+fn keyword_or_name<'a>(word: &'a [u8], rest: &'a [u8]) -> (Piece<'a>, &'a [u8])
+    ensures piece { (piece_in result.0, result.1.now)
+        ≡ keyword_or_name word.now (keyword_of word.now) rest.now }
+    ensures shorter { length result.1.now ≤ length rest.now }
 {
     match keyword_of(word) {
-        Some(sign) => Token::Sign(sign),
-        None => Token::Name(word),
+        Some(sign) => (Piece::Token(Token::Sign(sign)), rest),
+        None => name_before(word, rest),
     }
 }
 
@@ -130,7 +143,7 @@ fn word_before<'a>(word: &'a [u8], rest: &'a [u8]) -> (Piece<'a>, &'a [u8])
 {
     match rest {
         [b'?', rest @ ..] => (Piece::Token(Token::Nullable(word)), rest),
-        _ => (Piece::Token(keyword_or_name(word)), rest),
+        _ => keyword_or_name(word, rest),
     }
 }
 

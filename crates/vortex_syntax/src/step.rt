@@ -51,5 +51,7 @@ pub enum Step<'a> {
     Cast(&'a [u8], bool),
     /// LIKE of the two trees before it, with the escape as written.
     Escaped(LikeKind, &'a [u8]),
+    /// The function of that name, of as many trees before it.
+    Apply(&'a [u8], usize),
     Call(Call),
 }

@@ -40,6 +40,8 @@ pub enum Token<'a> {
     Name(&'a [u8]),
     /// A word with a question mark after it, which the bytes leave out.
     Nullable(&'a [u8]),
+    /// A word that is no keyword, with an opening bracket after it, which the bytes leave out.
+    Function(&'a [u8]),
     /// The bytes in double quotes, as written.
     Quoted(&'a [u8]),
     /// Digits.
