@@ -1,4 +1,5 @@
 pub mod Runs
+pub mod Numbers
 pub mod Quotes
 pub mod Lexed
 pub mod Doubled

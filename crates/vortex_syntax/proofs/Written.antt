@@ -4,13 +4,11 @@ use Rattle.std.proofs.Common.{Option, Some, None, refl, ap, sym, ◌∙◌, appe
 use Rattle.std.specs.Prelude.{codes, is_none}
 use Rattle.std.specs.List.{list_all}
 use Rattle.std.specs.Int.{is_in_range}
-use Rattle.std.specs.Char.{is_ascii_digit}
 use Rattle.std.proofs.lemmas.List.{append-nil}
 use Rattle.std.proofs.lemmas.Bool.{and_parts, and_from, or_parts, eq-eqb, false≢true}
 use Rattle.std.proofs.lemmas.Bool.Decides.{nat_tests}
 use Rattle.vortex_syntax.specs.declared.token.Sign.{Sign}
 use Rattle.vortex_syntax.specs.declared.token.Sign.TheVariants as sign
-use Rattle.vortex_syntax.specs.declared.pieces.Run.{Run}
 use Rattle.vortex_syntax.specs.declared.pieces.Run.TheVariants.{Word, Digits}
 use Rattle.vortex_syntax.specs.declared.writing.Ending.{Ending}
 use Rattle.vortex_syntax.specs.declared.writing.Ending.TheVariants as at
@@ -19,7 +17,8 @@ use Rattle.vortex_syntax.specs.Tokens.{Token, name, nullable, function, quoted, 
 use Rattle.vortex_syntax.specs.Keywords.{keyword_of}
 use Rattle.vortex_syntax.specs.Pieces.{gap, token, is_blank, begins_word, is_in, front, behind}
 use Rattle.vortex_syntax.specs.Pieces.{name_before, keyword_or_name, word_before, number_before}
-use Rattle.vortex_syntax.specs.Pieces.{with_front, closed, quoted_by, first_piece}
+use Rattle.vortex_syntax.specs.Pieces.{begins_number, behind_number, front_number, with_front}
+use Rattle.vortex_syntax.specs.Pieces.{closed, quoted_by, first_piece}
 use Rattle.vortex_syntax.specs.Lexing.{Lexes, none, gap_first, token_first}
 use Rattle.vortex_syntax.specs.Syntax.{Syntax}
 use Rattle.vortex_syntax.specs.Levels.{Fits}
@@ -30,8 +29,10 @@ use Rattle.vortex_syntax.specs.Writing.{sign_text, doubled, in_quotes, token_tex
 use Rattle.vortex_syntax.specs.Writing.{joins_number, joins_bracket, joins_sign, joins}
 use Rattle.vortex_syntax.specs.Writing.{blank_unless, minus_ending, sign_ending, ending_behind}
 use Rattle.vortex_syntax.specs.Writing.{ending_of, written_behind, written, is_word, is_bare}
-use Rattle.vortex_syntax.specs.Writing.{are_digits, IsDoubled, IsWritable, AllWritable, Holds, Adds}
-use Rattle.vortex_syntax.proofs.Runs.{word_begun}
+use Rattle.vortex_syntax.specs.Writing.{IsNumber, IsDoubled, IsWritable, AllWritable, Holds, Adds}
+use Rattle.vortex_syntax.proofs.Runs.{EndsRun, word_begun, front_all, behind_all}
+use Rattle.vortex_syntax.proofs.Numbers.{NoPoint, NoMark, number_behind, number_front, number_begun}
+use Rattle.vortex_syntax.proofs.Numbers.{first_byte}
 use Rattle.vortex_syntax.proofs.Quotes.{closed_other, closed_twice}
 
 -- no token continues with these bytes
@@ -39,7 +40,7 @@ abbrev Stops : List ℕ → Type 0
 Stops [] = Unit {0}
 Stops (c ∷ cs) =
     (is_in Word c ≡ false) × ((c == 63) ≡ false) × ((c == 34) ≡ false) × ((c == 39) ≡ false)
-    × ((c == 61) ≡ false) × ((c == 62) ≡ false) × ((c == 45) ≡ false)
+    × ((c == 61) ≡ false) × ((c == 62) ≡ false) × ((c == 45) ≡ false) × ((c == 46) ≡ false)
 
 abbrev NoMinus : List ℕ → Type 0
 NoMinus [] = Unit {0}
@@ -49,14 +50,11 @@ no_minus_of : (bs : List ℕ) → Stops bs → NoMinus bs
 no_minus_of [] s = tt
 no_minus_of (c ∷ cs) s = s.6
 
-abbrev EndsRun : Run → List ℕ → Type 0
-EndsRun r [] = Unit {0}
-EndsRun r (c ∷ cs) = is_in r c ≡ false
-
 ends_word : (bs : List ℕ) → Stops bs → EndsRun Word bs
 ends_word [] s = tt
 ends_word (c ∷ cs) s = s.0
 
+-- letters and digits are bytes of words
 no_digit : (c : ℕ) → is_in Word c ≡ false → is_in Digits c ≡ false
 no_digit c h =
     let u = or_parts ((is_in_range 48 57 c || is_in_range 65 90 c) || is_in_range 97 122 c)
@@ -64,9 +62,25 @@ no_digit c h =
     let b = or_parts (is_in_range 48 57 c || is_in_range 65 90 c) (is_in_range 97 122 c) u.0 in
     (or_parts (is_in_range 48 57 c) (is_in_range 65 90 c) b.0).0
 
+is_letter : (b : ℕ) → ((b == 69) || (b == 101)) ≡ true → is_in Word b ≡ true
+is_letter b h = grind (arith, nat_tests)
+
+no_letter_if : (c : ℕ) (v : Bool) → ((c == 69) || (c == 101)) ≡ v → is_in Word c ≡ false
+    → ((c == 69) || (c == 101)) ≡ false
+no_letter_if c true k h = absurd (false≢true (sym h ∙ is_letter c k))
+no_letter_if c false k h = k
+
 ends_digits : (bs : List ℕ) → Stops bs → EndsRun Digits bs
 ends_digits [] s = tt
 ends_digits (c ∷ cs) s = no_digit c s.0
+
+ends_point : (bs : List ℕ) → Stops bs → NoPoint bs
+ends_point [] s = tt
+ends_point (c ∷ cs) s = s.7
+
+ends_mark : (bs : List ℕ) → Stops bs → NoMark bs
+ends_mark [] s = tt
+ends_mark (c ∷ cs) s = no_letter_if c ((c == 69) || (c == 101)) refl s.0
 
 abbrev EndsQuote : ℕ → List ℕ → Type 0
 EndsQuote q [] = Unit {0}
@@ -92,31 +106,6 @@ not_blank b h = grind (arith, nat_tests)
 
 word_from : (b : ℕ) → begins_word b ≡ true → 64 < b
 word_from b h = grind (arith, nat_tests)
-
-digit_from : (b : ℕ) → is_ascii_digit b ≡ true → 47 < b
-digit_from b h = grind (arith, nat_tests)
-
-digit_no_word : (b : ℕ) → is_ascii_digit b ≡ true → begins_word b ≡ false
-digit_no_word b h = grind (arith, nat_tests)
-
--- a run, and what follows it
-front_all : (r : Run) (xs rest : List ℕ) → list_all (is_in r) xs ≡ true → EndsRun r rest
-    → front r (xs ++ rest) ≡ xs
-front_all r [] [] h e = refl
-front_all r [] (c ∷ cs) h e = let other : is_in r c ≡ false = e in rw other refl
-front_all r (x ∷ xs) rest h e =
-    let p = and_parts (is_in r x) (list_all (is_in r) xs) h in
-    let first : is_in r x ≡ true = p.0 in
-    rw first (ap (λ ys. x ∷ ys) (front_all r xs rest p.1 e))
-
-behind_all : (r : Run) (xs rest : List ℕ) → list_all (is_in r) xs ≡ true → EndsRun r rest
-    → behind r (xs ++ rest) ≡ rest
-behind_all r [] [] h e = refl
-behind_all r [] (c ∷ cs) h e = let other : is_in r c ≡ false = e in rw other refl
-behind_all r (x ∷ xs) rest h e =
-    let p = and_parts (is_in r x) (list_all (is_in r) xs) h in
-    let first : is_in r x ≡ true = p.0 in
-    rw first (behind_all r xs rest p.1 e)
 
 -- words
 word_begins : (b : ℕ) (xs : List ℕ) → is_blank b ≡ false → (b == 45) ≡ false → begins_word b ≡ true
@@ -178,8 +167,8 @@ nullable_piece w rest h = ap first_piece (append_assoc w (codes "?") rest)
 
 -- numbers
 number_begins : (d : ℕ) (xs : List ℕ) → is_blank d ≡ false → (d == 45) ≡ false
-    → begins_word d ≡ false → is_ascii_digit d ≡ true
-    → first_piece (d ∷ xs) ≡ number_before (front Digits (d ∷ xs)) (behind Digits (d ∷ xs))
+    → begins_word d ≡ false → begins_number (d ∷ xs) ≡ true
+    → first_piece (d ∷ xs) ≡ number_before (front_number (d ∷ xs)) (behind_number (d ∷ xs))
 unfolding first_piece
 number_begins d xs n m w h = rw (n, m, w, h) refl
 
@@ -188,18 +177,18 @@ number_ends : (ds rest : List ℕ) → Stops rest
 number_ends ds [] s = refl
 number_ends ds (c ∷ cs) s = let other : is_in Word c ≡ false = s.0 in rw other refl
 
-number_piece : (ds rest : List ℕ) → are_digits ds ≡ true → Stops rest
+number_piece : (ds rest : List ℕ) → IsNumber ds → Stops rest
     → first_piece (ds ++ rest) ≡ Some (token (number ds), rest)
-number_piece [] rest h s = absurd (false≢true h)
+number_piece [] rest h s = absurd (false≢true h.0)
 number_piece (d ∷ ds) rest h s =
-    let p = and_parts (is_in Digits d) (list_all (is_in Digits) ds) h in
-    let from = digit_from d p.0 in
-    number_begins d (ds ++ rest) (not_blank d (omega (arith, from)))
-    (above d 45 (omega (arith, from))) (digit_no_word d p.0) p.0
-    ∙ ap (λ ys. number_before ys (behind Digits (d ∷ (ds ++ rest))))
-    (front_all Digits (d ∷ ds) rest h (ends_digits rest s))
-    ∙ ap (number_before (d ∷ ds)) (behind_all Digits (d ∷ ds) rest h (ends_digits rest s))
-    ∙ number_ends (d ∷ ds) rest s
+    let first = first_byte d ds h.0 in
+    let rest_is = number_behind (d ∷ ds) rest h.1 (ends_digits rest s) (ends_point rest s)
+    (ends_mark rest s) in
+    number_begins d (ds ++ rest) (not_blank d (omega (arith, first.high))) (above d 45 first.high)
+    first.no_word (number_begun (d ∷ ds) rest h.0)
+    ∙ ap (λ ys. number_before ys (behind_number (d ∷ (ds ++ rest))))
+    (number_front (d ∷ ds) rest rest_is)
+    ∙ ap (number_before (d ∷ ds)) rest_is ∙ number_ends (d ∷ ds) rest s
 
 -- texts and names in quotes
 closed_end : (q : ℕ) (rest : List ℕ) → EndsQuote q rest → closed q (q ∷ rest) ≡ Some ([], rest)
@@ -346,17 +335,17 @@ token_piece e (sign s) rest h f = sign_piece e s rest f
 
 -- what is written next may follow
 blank_stops : (xs : List ℕ) → Stops (32 ∷ xs)
-blank_stops xs = (refl, refl, refl, refl, refl, refl, refl)
+blank_stops xs = (refl, refl, refl, refl, refl, refl, refl, refl)
 
 bracket_stops : (b : Bool) (xs : List ℕ) → Stops (blank_unless b ++ (40 ∷ xs))
-bracket_stops true xs = (refl, refl, refl, refl, refl, refl, refl)
+bracket_stops true xs = (refl, refl, refl, refl, refl, refl, refl, refl)
 bracket_stops false xs = blank_stops (40 ∷ xs)
 
 sign_stops : (e : Ending) (s : Sign) (xs : List ℕ) → is_tight e ≡ false
     → Stops (blank_unless (joins_sign e s) ++ (sign_text s ++ xs))
-sign_stops e sign.Close xs h = (refl, refl, refl, refl, refl, refl, refl)
-sign_stops e sign.Comma xs h = (refl, refl, refl, refl, refl, refl, refl)
-sign_stops e sign.Typed xs h = (refl, refl, refl, refl, refl, refl, refl)
+sign_stops e sign.Close xs h = (refl, refl, refl, refl, refl, refl, refl, refl)
+sign_stops e sign.Comma xs h = (refl, refl, refl, refl, refl, refl, refl, refl)
+sign_stops e sign.Typed xs h = (refl, refl, refl, refl, refl, refl, refl, refl)
 sign_stops e sign.Open xs h = bracket_stops (joins_bracket e) xs
 sign_stops e s xs h = rw h (blank_stops (sign_text s ++ xs))
 
@@ -380,12 +369,9 @@ no_bracket e (sign s) xs h k j = sign_no_bracket e s xs h j
 no_bracket e (number ds) xs h k j = rw k refl
 no_bracket e t xs h k j = rw h refl
 
-number_no_minus : (ds xs : List ℕ) → are_digits ds ≡ true → NoMinus (ds ++ xs)
-number_no_minus [] xs h = absurd (false≢true h)
-number_no_minus (d ∷ ds) xs h =
-    let p = and_parts (is_in Digits d) (list_all (is_in Digits) ds) h in
-    let from = digit_from d p.0 in
-    above d 45 (omega (arith, from))
+number_no_minus : (ds xs : List ℕ) → IsNumber ds → NoMinus (ds ++ xs)
+number_no_minus [] xs h = absurd (false≢true h.0)
+number_no_minus (d ∷ ds) xs h = above d 45 (first_byte d ds h.0).high
 
 signed_no_minus : (t : Token) (xs : List ℕ) → IsWritable t
     → NoMinus (blank_unless (joins at.Signed t) ++ (token_text t ++ xs))

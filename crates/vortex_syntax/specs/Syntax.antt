@@ -5,7 +5,7 @@ use Rattle.vortex_syntax.specs.declared.step.LikeKind.{LikeKind}
 use Rattle.vortex_syntax.specs.Tokens.{Token}
 
 -- operand: a column or a literal, by its token
--- negative: the literal of these digits with a minus sign before them
+-- negative: the literal of that number with a minus sign before it
 -- typed: a literal of the type of that name, nullable if the flag is true
 -- grouped: a tree in brackets
 -- tested: IS NOT NULL, or IS NULL where the flag is false

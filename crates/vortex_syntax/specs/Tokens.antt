@@ -5,8 +5,8 @@ use Rattle.vortex_syntax.specs.declared.token.Token as read
 use Rattle.vortex_syntax.specs.declared.token.Token.TheVariants as variant
 
 -- a name, a name with a question mark after it, a name with an opening bracket after it, the bytes
--- in double quotes, digits, the bytes in single quotes, and a keyword or a sign. Bytes in quotes are
--- as written.
+-- in double quotes, a number as written, the bytes in single quotes, and a keyword or a sign. Bytes
+-- in quotes are as written.
 pub data Token : Type 0 where
   name : List ℕ → Token
   nullable : List ℕ → Token

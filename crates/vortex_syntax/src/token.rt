@@ -44,7 +44,7 @@ pub enum Token<'a> {
     Function(&'a [u8]),
     /// The bytes in double quotes, as written.
     Quoted(&'a [u8]),
-    /// Digits.
+    /// Digits, a point and digits, and an exponent, each where it is there, as written.
     Number(&'a [u8]),
     /// The bytes in single quotes, as written.
     Text(&'a [u8]),

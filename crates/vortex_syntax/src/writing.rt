@@ -243,7 +243,7 @@ impl Writer {
         self.text.push_str("(")
     }
 
-    /// The digits of a number.
+    /// A number, as it is written.
     pub fn push_number(&mut self, digits: &str) -> Result<(), AllocError>
         ensures { OnOk result (Adds (seen.number digits.now) self.old self.new) }
     {
