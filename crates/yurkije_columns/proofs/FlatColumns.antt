@@ -1,9 +1,8 @@
 -- The errors of columns of truth values or of integers, which are not read.
 use Rattle.std.specs.Borrow.{Bor}
-use Rattle.std.proofs.Common.{◌≡◌, ℕ, ◌+◌, ◌<◌, Bool, true, false, Option, Some, None, refl, sym}
-use Rattle.std.proofs.Common.{subst, arith, List}
+use Rattle.std.proofs.Common.{◌≡◌, ℕ, ◌+◌, true, Option, Some, None}
+use Rattle.std.proofs.Common.{arith, List}
 use Rattle.vortex_arrow.specs.declared.column.ArrowColumn.{ArrowColumn}
-use Rattle.vortex_arrow.specs.declared.column.ArrowValues.{ArrowValues}
 use Rattle.vortex_arrow.specs.declared.error.ArrowError.{ArrowError}
 use Rattle.vortex_arrow.specs.declared.error.ArrowError.TheVariants as arrow
 use Rattle.vortex_columns.specs.ValidityView.{ValidityView}

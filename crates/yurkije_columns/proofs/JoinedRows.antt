@@ -1,8 +1,7 @@
 -- Rows that are appended to others in the buffers of one column.
-use Rattle.std.proofs.Common.{◌≡◌, ◌⊎◌, inl, inr, ℕ, ◌+◌, ◌-◌, ◌*◌, ◌/◌, ◌%◌, ◌<◌, ◌≤◌, ℤ, pos}
+use Rattle.std.proofs.Common.{◌≡◌, ◌⊎◌, inl, inr, ℕ, ◌+◌, ◌-◌, ◌*◌, ◌<◌, ◌≤◌, ℤ, pos}
 use Rattle.std.proofs.Common.{Bool, true, false, cond, List, ◌++◌, length, map, take, drop, get_or}
-use Rattle.std.proofs.Common.{refl, sym, ap, subst, ◌∙◌, arith}
-use Rattle.std.specs.List.{range_with_len}
+use Rattle.std.proofs.Common.{refl, sym, ap, ◌∙◌, arith}
 use Rattle.std.proofs.lemmas.List.{get_or-take, get_or-drop, get_or_append_left, take-map, drop-map}
 use Rattle.std.proofs.lemmas.List.{get_or-append_right, length-take, length-map, length-append}
 use Rattle.std.proofs.lemmas.List.{take-append-le, take-take}
@@ -12,15 +11,15 @@ use Rattle.vortex_types.specs.declared.dtype.PType.{PType}
 use Rattle.vortex_types.specs.LogicalTypes.{LogicalType, is_nullable}
 use Rattle.vortex_types.specs.Values.{Value, null, truth, number, is_null}
 use Rattle.vortex_types.proofs.NullValues.{not_null}
-use Rattle.vortex_bits.specs.Bits.{bit, bit_of, bits_from}
+use Rattle.vortex_bits.specs.Bits.{bit_of, bits_from}
 use Rattle.vortex_bits.proofs.Opened.{bit_of_rest, row_of_bits, count_of_bits}
-use Rattle.vortex_columns.specs.ColumnView.{ColumnView, row, AreTyped}
+use Rattle.vortex_columns.specs.ColumnView.{row, AreTyped}
 use Rattle.vortex_columns.specs.ValidityView.{is_valid_row, FitsRows}
 use Rattle.vortex_arrow.specs.Layouts.{Layout, bits, numbers, value_at}
 use Rattle.vortex_arrow.specs.Columns.{column_from}
 use Rattle.vortex_arrow.specs.Written.{bytes_for, AreCopied}
 use Rattle.vortex_arrow.proofs.Parts.{bit_before}
-use Rattle.yurkije_columns.specs.Joining.{validity_in, row_at, Joins, HaveRoom}
+use Rattle.yurkije_columns.specs.Joining.{validity_in, row_at, Joins}
 
 -- a list that was lengthened, of which the part from a place on was written: what stands before it
 kept : {A : Type 0} (old filled new rest : List A) (n end : ℕ)

@@ -1,10 +1,11 @@
--- The columns of a batch over the fields of a scope.
-use Rattle.std.specs.Prelude.{◌≡◌, ◌≢◌, ◌<◌, ℕ, List, length, Some, slice_get}
+-- The columns of a batch over the fields of a scope. A column that no answer reads is None.
+use Rattle.std.specs.Prelude.{◌≡◌, ◌≢◌, ◌<◌, ℕ, List, length, Option, Some, None, slice_get, ⊤}
 use Rattle.vortex_types.specs.LogicalTypes.{LogicalType, Fields, field_count, field_type}
+use Rattle.vortex_columns.specs.ColumnView.{ColumnView, null_column}
 use Rattle.vortex_arrow.specs.declared.column.ArrowColumn.{ArrowColumn}
 use Rattle.vortex_arrow.specs.declared.error.ArrowError.TheVariants.{OutOfMemory}
 use Rattle.vortex_arrow.specs.Layouts.{layout_of, layout_type}
-use Rattle.vortex_arrow.specs.Columns.{IsWellFormed}
+use Rattle.vortex_arrow.specs.Columns.{arrow_column, IsWellFormed}
 use Rattle.vortex_arrow.specs.Refusals.{TellsOf}
 use Rattle.yurkije_columns.specs.declared.batch.ColumnFault.{ColumnFault}
 use Rattle.yurkije_columns.specs.declared.batch.ColumnFault.TheVariants as fault
@@ -26,28 +27,42 @@ RefusesColumn t n c (fault.OtherLength rows) = (type_borrowed c ≡ t) × (rows 
 RefusesColumn t n c (fault.Unread e) = (type_borrowed c ≡ t) × (c.length ≡ n) × TellsOf c e
 RefusesColumn t n c e = ⊥
 
-module _ (scope : Fields) (n : ℕ) (cs : List ArrowColumn) where
-  -- the first k columns serve their fields
+-- the same of a column that may be unread: then it serves, whatever it holds
+abbrev pub ServesIfRead : LogicalType → ℕ → Option ArrowColumn → Type 0
+ServesIfRead t n None = ⊤
+ServesIfRead t n (Some c) = Serves t n c
+
+abbrev pub RefusesIfRead : LogicalType → ℕ → Option ArrowColumn → ColumnFault → Type 0
+RefusesIfRead t n None e = ⊥
+RefusesIfRead t n (Some c) e = RefusesColumn t n c e
+
+-- the column that answers are computed over: what the buffers hold, or n nulls where none reads it
+abbrev pub batch_column : ℕ → Option ArrowColumn → ColumnView
+batch_column n None = null_column n
+batch_column n (Some c) = arrow_column c
+
+module _ (scope : Fields) (n : ℕ) (cs : List (Option ArrowColumn)) where
+  -- of the first k columns each that is read serves its field
   abbrev pub FirstServe : ℕ → Type 0
   FirstServe k =
-      (i : ℕ) → i < k → (c : ArrowColumn) → slice_get cs i ≡ Some c
+      (i : ℕ) → i < k → (c : ArrowColumn) → slice_get cs i ≡ Some (Some c)
       → Serves (field_type i scope) n c
 
-  -- there is a column for each field, and it serves
+  -- there is a column for each field, and it serves if it is read
   pub record AllServe : Type 0 where
     pub each : length cs ≡ field_count scope
     pub serve : FirstServe (length cs)
 
-  -- the first column that does not serve its field
+  -- the first column that is read and does not serve its field
   pub record IsWrong (e : ColumnError) : Type 0 where
     pub each : length cs ≡ field_count scope
     pub column : ArrowColumn
-    pub there : slice_get cs e.column ≡ Some column
+    pub there : slice_get cs e.column ≡ Some (Some column)
     pub refused : RefusesColumn (field_type e.column scope) n column e.fault
     pub before : FirstServe e.column
 
-  -- why a batch is refused: there are fewer or more columns than fields, or one does not serve; or
-  -- memory ran out
+  -- why a batch is refused: there are fewer or more columns than fields, or one that is
+  -- read does not serve; or memory ran out
   pub data RefusesBatch (e : ColumnError) : Type 0 where
     missing : e.fault ≡ fault.Missing → e.column ≡ length cs → length cs < field_count scope
         → RefusesBatch e

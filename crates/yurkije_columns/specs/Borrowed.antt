@@ -1,6 +1,6 @@
 -- What a column that C lends says.
-use Rattle.std.specs.Prelude.{◌≡◌, ◌≢◌, ◌<◌, ℕ, pos, List, [], ◌∷◌, map, Option, Some, None, true, false}
-use Rattle.std.specs.Prelude.{option_map, slice_get, ⊤}
+use Rattle.std.specs.Prelude.{◌≡◌, ◌≢◌, ◌<◌, ℕ, pos, List, [], ◌∷◌, map, Option, Some, None}
+use Rattle.std.specs.Prelude.{Bool, true, false, option_map, slice_get, slice_index_or, ⊤}
 use Rattle.vortex_types.specs.declared.dtype.PType.TheVariants.{I8, I16, I32, I64, U8, U16, U32}
 use Rattle.vortex_types.specs.declared.dtype.PType.TheVariants.{U64}
 use Rattle.vortex_arrow.specs.Layouts.{Layout, bits, numbers, offsets, views, layout_of}
@@ -46,21 +46,34 @@ pub record Says (c : BorrowedColumn) (a : ArrowColumn) : Type 0 where
   pub bits : option_map (λ b. b.now) a.validity ≡ bits_borrowed c.validity.now
   pub layout : layout_of a.values ≡ borrowed_layout kind c
 
-abbrev pub AllSay : List BorrowedColumn → List ArrowColumn → Type 0
-AllSay [] [] = ⊤
-AllSay [] (a ∷ rest) = ⊥
-AllSay (c ∷ cs) [] = ⊥
-AllSay (c ∷ cs) (a ∷ rest) = Says c a × AllSay cs rest
+-- so it does where the column is read; else there is none, whatever was lent
+abbrev pub SaysIfRead : Bool → BorrowedColumn → Option ArrowColumn → Type 0
+SaysIfRead false c o = o ≡ None
+SaysIfRead true c None = ⊥
+SaysIfRead true c (Some a) = Says c a
 
--- that column is the first whose kind is none
-pub record IsFirstUnknown (cs : List BorrowedColumn) (k : ℕ) : Type 0 where
+-- each column is as its mark says, and without a mark it is not read
+abbrev pub AllSay : List Bool → List BorrowedColumn → List (Option ArrowColumn) → Type 0
+AllSay bs [] [] = ⊤
+AllSay bs [] (o ∷ rest) = ⊥
+AllSay bs (c ∷ cs) [] = ⊥
+AllSay [] (c ∷ cs) (o ∷ rest) = SaysIfRead false c o × AllSay [] cs rest
+AllSay (b ∷ bs) (c ∷ cs) (o ∷ rest) = SaysIfRead b c o × AllSay bs cs rest
+
+-- column k is marked as read
+abbrev pub is_read : List Bool → ℕ → Bool
+is_read bs k = slice_index_or bs k false
+
+-- that column is the first that is read and whose kind is none
+pub record IsFirstUnknown (bs : List Bool) (cs : List BorrowedColumn) (k : ℕ) : Type 0 where
   pub column : BorrowedColumn
   pub there : slice_get cs k ≡ Some column
+  pub read : is_read bs k ≡ true
   pub unknown : kind_numbered column.kind ≡ None
   pub before : (i : ℕ) → i < k → (c : BorrowedColumn) → slice_get cs i ≡ Some c
-      → kind_numbered c.kind ≢ None
+      → is_read bs i ≡ true → kind_numbered c.kind ≢ None
 
--- the first column whose kind is none; or memory ran out
-abbrev pub RefusesBorrowed : List BorrowedColumn → BorrowedError → Type 0
-RefusesBorrowed cs (error.UnknownKind k) = IsFirstUnknown cs k
-RefusesBorrowed cs error.OutOfMemory = ⊤
+-- the first column that is read and whose kind is none; or memory ran out
+abbrev pub RefusesBorrowed : List Bool → List BorrowedColumn → BorrowedError → Type 0
+RefusesBorrowed bs cs (error.UnknownKind k) = IsFirstUnknown bs cs k
+RefusesBorrowed bs cs error.OutOfMemory = ⊤

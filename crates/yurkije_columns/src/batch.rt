@@ -4,6 +4,7 @@ ghost use Rattle.vortex_types.specs.LogicalTypes.{integer_type, field_count};
 ghost use Rattle.vortex_types.specs.TypeOf.{type_of, struct_fields, allows_null};
 ghost use Rattle.vortex_arrow.specs.Columns.{arrow_column};
 ghost use Rattle.yurkije_columns.specs.Batches.{type_borrowed, Serves, RefusesColumn, AllServe};
+ghost use Rattle.yurkije_columns.specs.Batches.{ServesIfRead, RefusesIfRead, batch_column};
 ghost use Rattle.yurkije_columns.specs.Batches.{RefusesBatch};
 
 use crate::kinds::nullability;
@@ -97,10 +98,28 @@ pub(crate) fn read_field(
     }
 }
 
+/// The same of a column that may be unread: then nulls are in its place.
+fn read_if_some(
+    alloc: Global,
+    dtype: &DType,
+    column: &Option<ArrowColumn<'_>>,
+    rows: usize,
+) -> Result<Column, ColumnFault>
+    ensures { MatchResult result
+        (λ c. ServesIfRead (type_of dtype.now) rows column.now
+        × (c ≡ batch_column rows column.now))
+        (RefusesIfRead (type_of dtype.now) rows column.now) }
+{
+    match column {
+        Some(column) => read_field(alloc, dtype, column, rows),
+        None => Ok(Column::null(rows)),
+    }
+}
+
 /// Refuses a batch of fewer or more columns than fields.
 pub(crate) fn check_count(
     scope: &StructFields,
-    columns: &[ArrowColumn<'_>],
+    columns: &[Option<ArrowColumn<'_>>],
 ) -> Result<(), ColumnError>
     ensures { MatchResult result
         (λ _. length columns.now ≡ field_count (struct_fields scope.now))
@@ -121,18 +140,19 @@ pub(crate) fn check_count(
     Ok(())
 }
 
-/// The columns of a batch of so many rows, one for each field of the scope, each copied once.
-/// Refuses the first column that is wrong: one that is missing or not asked for, and else of another
-/// type than its field, then of another number of rows, then for its buffers.
+/// The columns of a batch of so many rows, one for each field of the scope, each copied once. Where a
+/// column is None, which no answer reads, nulls are in its place. Refuses the first column that is
+/// wrong: one that is missing or not asked for, and else of another type than its field, then of
+/// another number of rows, then for its buffers.
 pub fn read_batch(
     alloc: Global,
     scope: &StructFields,
-    columns: &[ArrowColumn<'_>],
+    columns: &[Option<ArrowColumn<'_>>],
     rows: usize,
 ) -> Result<Vec<Column>, ColumnError>
     ensures { MatchResult result
         (λ read. AllServe (struct_fields scope.now) rows columns.now
-        × (read.items ≡ map arrow_column columns.now))
+        × (read.items ≡ map (batch_column rows) columns.now))
         (RefusesBatch (struct_fields scope.now) rows columns.now) }
 {
     check_count(scope, columns)?;
@@ -143,7 +163,7 @@ pub fn read_batch(
         });
     };
     for (k, column) in columns.iter().enumerate() {
-        match read_field(alloc, scope.dtype(k), column, rows) {
+        match read_if_some(alloc, scope.dtype(k), column, rows) {
             Ok(field) => read.push_reserved(field),
             Err(fault) => return Err(ColumnError { column: k, fault }),
         }

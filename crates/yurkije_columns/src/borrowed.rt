@@ -1,8 +1,9 @@
 //! Columns as a C caller lends them.
-ghost use Rattle.std.specs.Prelude.{◌≡◌, option_map, MatchOption, MatchResult, None};
+ghost use Rattle.std.specs.Prelude.{◌≡◌, option_map, MatchOption, MatchResult, None, true};
 ghost use Rattle.vortex_arrow.specs.Layouts.{layout_of};
 ghost use Rattle.yurkije_columns.specs.Kinds.{kind_numbered};
-ghost use Rattle.yurkije_columns.specs.Borrowed.{borrowed_layout, bits_borrowed, Says, AllSay, RefusesBorrowed};
+ghost use Rattle.yurkije_columns.specs.Borrowed.{borrowed_layout, bits_borrowed, Says, SaysIfRead};
+ghost use Rattle.yurkije_columns.specs.Borrowed.{AllSay, is_read, RefusesBorrowed};
 
 use crate::kinds::{Kind, kind_numbered};
 use std::alloc::{AllocError, Global};
@@ -107,6 +108,29 @@ impl<'a> BorrowedColumn<'a> {
     }
 }
 
+/// Whether a column is marked as read.
+fn is_read(reads: &[bool], column: usize) -> bool
+    ensures { result ≡ is_read reads.now column }
+{
+    match reads.get(column) {
+        Some(read) => *read,
+        None => false,
+    }
+}
+
+/// The column with its values by its kind, or none where it is not read. None at all where it is read
+/// and its kind is none.
+fn arrow_if_read<'a>(borrowed: &BorrowedColumn<'a>, read: bool) -> Option<Option<ArrowColumn<'a>>>
+    ensures { MatchOption result ((read ≡ true) × (kind_numbered borrowed.now.kind ≡ None))
+        (SaysIfRead read borrowed.now) }
+{
+    if read {
+        Some(Some(borrowed.arrow_column()?))
+    } else {
+        Some(None)
+    }
+}
+
 /// Why columns that are lent are not taken.
 #[derive(Clone, Copy, Debug, Drop, PartialEq, Eq)]
 pub enum BorrowedError {
@@ -126,16 +150,19 @@ impl From<AllocError> for BorrowedError {
     }
 }
 
-/// Each column with its values by their kind. Refuses the first whose kind is none.
+/// Each column that is marked as read, with its values by its kind; None in the place of each other,
+/// of which nothing is asked. Refuses the first that is read and whose kind is none.
 pub fn arrow_columns<'a>(
     alloc: Global,
     borrowed: &[BorrowedColumn<'a>],
-) -> Result<Vec<ArrowColumn<'a>>, BorrowedError>
-    ensures { MatchResult result (λ columns. AllSay borrowed.now columns.items) (RefusesBorrowed borrowed.now) }
+    reads: &[bool],
+) -> Result<Vec<Option<ArrowColumn<'a>>>, BorrowedError>
+    ensures { MatchResult result (λ columns. AllSay reads.now borrowed.now columns.items)
+        (RefusesBorrowed reads.now borrowed.now) }
 {
     let mut columns = Vec::with_capacity(alloc, borrowed.len())?;
     for (column, borrowed) in borrowed.iter().enumerate() {
-        match borrowed.arrow_column() {
+        match arrow_if_read(borrowed, is_read(reads, column)) {
             Some(arrow) => columns.push_reserved(arrow),
             None => return Err(BorrowedError::UnknownKind { column }),
         }

@@ -4,6 +4,7 @@ ghost use Rattle.vortex_types.specs.TypeOf.{type_of, struct_fields};
 ghost use Rattle.vortex_arrow.specs.Columns.{IsWellFormed};
 ghost use Rattle.vortex_arrow.specs.Refusals.{AreLongEnough, MayBeNulls, RefusesNull, TellsOf};
 ghost use Rattle.yurkije_columns.specs.Batches.{Serves, RefusesColumn, AllServe, RefusesBatch};
+ghost use Rattle.yurkije_columns.specs.Batches.{ServesIfRead, RefusesIfRead};
 ghost use Rattle.yurkije_columns.specs.Checking.{IsFlat};
 
 use crate::batch::{ColumnError, ColumnFault, check_count, check_shape, read_field};
@@ -105,12 +106,28 @@ fn check_field(
     }
 }
 
+/// The same of a column that may be unread: then it does.
+fn check_if_some(
+    alloc: Global,
+    dtype: &DType,
+    column: &Option<ArrowColumn<'_>>,
+    rows: usize,
+) -> Result<(), ColumnFault>
+    ensures { MatchResult result (λ _. ServesIfRead (type_of dtype.now) rows column.now)
+        (RefusesIfRead (type_of dtype.now) rows column.now) }
+{
+    match column {
+        Some(column) => check_field(alloc, dtype, column, rows),
+        None => Ok(()),
+    }
+}
+
 /// What `read_batch` says of the columns of a batch. Truth values and integers are not copied, but for
 /// the validity of a column that is not nullable.
 pub fn check_batch(
     alloc: Global,
     scope: &StructFields,
-    columns: &[ArrowColumn<'_>],
+    columns: &[Option<ArrowColumn<'_>>],
     rows: usize,
 ) -> Result<(), ColumnError>
     ensures { MatchResult result (λ _. AllServe (struct_fields scope.now) rows columns.now)
@@ -118,7 +135,7 @@ pub fn check_batch(
 {
     check_count(scope, columns)?;
     for (k, column) in columns.iter().enumerate() {
-        match check_field(alloc, scope.dtype(k), column, rows) {
+        match check_if_some(alloc, scope.dtype(k), column, rows) {
             Ok(()) => {}
             Err(fault) => return Err(ColumnError { column: k, fault }),
         }

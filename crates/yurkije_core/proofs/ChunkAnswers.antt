@@ -11,8 +11,8 @@ use Rattle.vortex_expressions.specs.Items.{Tree, meaning}
 use Rattle.vortex_program.specs.Executing.{AllGiveWithin, RefusesColumnsFirst}
 use Rattle.vortex_program.specs.Rows.{HasRows}
 use Rattle.vortex_program.specs.Running.{AnswersTrees, FaultsFirstThere, RefusesTrees}
-use Rattle.vortex_program.specs.declared.running.BatchRunError.{BatchRunError}
-use Rattle.vortex_program.specs.declared.running.BatchRunError.TheVariants as run
+use Rattle.vortex_program.specs.declared.running.RunError.{RunError}
+use Rattle.vortex_program.specs.declared.running.RunError.TheVariants as run
 use Rattle.yurkije_core.specs.Chunks.{RunsFrom, AnswersFrom}
 use Rattle.yurkije_core.proofs.ChunkRows.{even_chunk, means_there, fits_there, fits_whole}
 use Rattle.yurkije_core.proofs.ChunkRuns.{run_from, answered_from, refused_from, fault_from}
@@ -43,7 +43,7 @@ module _ (first count : ℕ) (cs ds : List ColumnView) (has : AllMean (HasRows f
           (even_chunk first count cs ds has) n even ts e h
 
       pub chunk_fault : first + count ≤ n → All IsBound us → AllGiveWithin meaning cs 0 first us
-          → (j k : ℕ) (x : VortexError) (e : BatchRunError)
+          → (j k : ℕ) (x : VortexError) (e : RunError)
           → (e ≡ run.OutOfMemory) ⊎ (e ≡ run.Fault (first + j) k x)
           → FaultsFirstThere ds count us j k x → RefusesTrees cs n ts us e
       chunk_fault within bound given j k x e (inl is) h =

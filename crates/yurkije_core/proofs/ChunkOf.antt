@@ -1,12 +1,12 @@
 -- Some rows of a lent column are the same buffers with another offset and length.
 use Rattle.std.specs.Borrow.{Bor}
 use Rattle.std.proofs.Common.{◌≡◌, ℕ, ◌+◌, ◌<◌, ◌≤◌, Bool, true, false, cond, List, Option, Some}
-use Rattle.std.proofs.Common.{None, refl, sym, ap, subst, ◌∙◌, arith}
+use Rattle.std.proofs.Common.{None, refl, sym, ap, ◌∙◌, arith}
 use Rattle.std.proofs.lemmas.List.FromFn.{get_or-map-range_with_len, length-map-range_with_len}
 use Rattle.vortex_types.specs.Values.{Value, null}
 use Rattle.vortex_bits.specs.Bits.{bit_of}
 use Rattle.vortex_bits.proofs.Opened.{row_of_bits}
-use Rattle.vortex_columns.specs.ColumnView.{ColumnView, row}
+use Rattle.vortex_columns.specs.ColumnView.{row}
 use Rattle.vortex_columns.specs.ValidityView.{ValidityView, is_valid_row}
 use Rattle.vortex_arrow.specs.Layouts.{Layout, value_at}
 use Rattle.vortex_arrow.specs.Columns.{column_from, validity_from}

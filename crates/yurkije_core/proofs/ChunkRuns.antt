@@ -1,6 +1,6 @@
 -- What holds of the rows of each chunk holds of the rows of the whole.
-use Rattle.std.proofs.Common.{◌≡◌, ◌⊎◌, inl, inr, ℕ, zero, suc, ◌+◌, ◌-◌, ◌<◌, ◌≤◌, refl, sym, ap}
-use Rattle.std.proofs.Common.{subst, ◌∙◌, List, [], ◌∷◌, ◌++◌, length, take, Option, Some, None}
+use Rattle.std.proofs.Common.{◌≡◌, ◌⊎◌, inl, inr, ℕ, zero, suc, ◌+◌, ◌-◌, ◌<◌, ◌≤◌, sym, ap}
+use Rattle.std.proofs.Common.{subst, ◌∙◌, List, [], ◌∷◌, ◌++◌, length, take, Some, None}
 use Rattle.std.proofs.Common.{arith, ◌*◌, ◌/◌}
 use Rattle.std.specs.Prelude.{slice_get, All}
 use Rattle.std.proofs.lemmas.List.{get_or_append_left, get_or-append_right, length-append}
@@ -12,18 +12,14 @@ use Rattle.vortex_columns.specs.ColumnView.{ColumnView, row}
 use Rattle.vortex_interface.specs.Outcomes.{gives, GivesValue}
 use Rattle.vortex_interface.specs.Eval.{eval, HasTreeRows}
 use Rattle.vortex_interface.specs.Rewrites.{Rewrites}
-use Rattle.vortex_interface.specs.Execution.{LeavesFit, other_length, Executes, RefusesColumns}
+use Rattle.vortex_interface.specs.Execution.{LeavesFit, other_length, Executes}
 use Rattle.vortex_interface.specs.Execution.{unfit, uneven}
 use Rattle.vortex_interface.specs.Bound.{IsBound}
-use Rattle.vortex_functions.specs.Executing.{Fits}
 use Rattle.vortex_functions.specs.Walks.{AllMean}
 use Rattle.vortex_expressions.specs.Items.{Tree, meaning}
-use Rattle.vortex_program.specs.Executing.{AllGive, AllGiveWithin, AllFit, FaultsAt}
+use Rattle.vortex_program.specs.Executing.{AllGive, AllGiveWithin}
 use Rattle.vortex_program.specs.Executing.{RefusesColumnsFirst}
-use Rattle.vortex_program.specs.Running.{AnswersTree, AnswersTrees, FaultsThere, FaultsFirstThere}
-use Rattle.vortex_program.specs.Running.{RefusesTrees}
-use Rattle.vortex_program.specs.declared.running.BatchRunError.{BatchRunError}
-use Rattle.vortex_program.specs.declared.running.BatchRunError.TheVariants as run
+use Rattle.vortex_program.specs.Running.{AnswersTrees, FaultsThere, FaultsFirstThere}
 use Rattle.vortex_program.proofs.Answered.{all_head, all_tail, all_cons}
 use Rattle.yurkije_core.specs.Chunks.{RunsFrom, AnswersFrom, IsAnswered, AreAnswered, AreRun}
 use Rattle.yurkije_core.specs.Chunks.{TakesRows, ArePut}

@@ -3,3 +3,4 @@ pub mod ChunkRuns
 pub mod ChunkRows
 pub mod PutRows
 pub mod ChunkAnswers
+pub mod MarkedPlaces

@@ -1,6 +1,6 @@
 -- Answers of a batch that is run chunk by chunk.
 use Rattle.std.specs.Prelude.{◌≡◌, ◌<◌, ◌≤◌, ◌+◌, ◌*◌, ◌/◌, ◌^◌, ◌++◌, ℕ, List}
-use Rattle.std.specs.Prelude.{[], ◌∷◌, length, Some, ⊤}
+use Rattle.std.specs.Prelude.{[], ◌∷◌, length, Option, Some, IfSome, ⊤}
 use Rattle.vortex_types.specs.Values.{Value}
 use Rattle.vortex_columns.specs.ColumnView.{ColumnView, row}
 use Rattle.vortex_interface.specs.Outcomes.{gives}
@@ -15,6 +15,10 @@ use Rattle.vortex_arrow.specs.declared.column.ArrowColumn.{ArrowColumn}
 pub record HasChunk (first count : ℕ) (c : ArrowColumn) : Type 0 where
   pub place : c.offset + first < 2 ^ 64
   pub within : first + count ≤ c.length
+
+-- so has a column that may be unread, if it is read
+abbrev pub HasChunkIfRead : ℕ → ℕ → Option ArrowColumn → Type 0
+HasChunkIfRead first count o = IfSome o (HasChunk first count)
 
 module _ (cs : List ColumnView) where
   -- the column has the tree's type, and its values of so many rows from one on

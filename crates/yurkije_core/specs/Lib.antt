@@ -4,3 +4,4 @@ pub mod Statuses
 pub mod Reports
 pub mod Messages
 pub mod Chunks
+pub mod Fields

@@ -1,5 +1,5 @@
 -- The words in which refusals are told, in the caller's bytes.
-use Rattle.std.specs.Prelude.{◌≡◌, ◌⊎◌, ◌++◌, ℕ, List, [], codes, Option, Some, None, IfSome}
+use Rattle.std.specs.Prelude.{◌≡◌, ◌⊎◌, ◌++◌, ℕ, List, [], codes, Option, Some, None}
 use Rattle.std.specs.Prelude.{slice_get, string_bytes, map}
 use Rattle.std.specs.Fmt.{decimal}
 use Rattle.vortex_errors.specs.declared.error.VortexError.{VortexError}
@@ -7,8 +7,8 @@ use Rattle.vortex_errors.specs.Errors.{error_text}
 use Rattle.vortex_types.specs.LogicalTypes.{Fields}
 use Rattle.vortex_expressions.specs.Messages.{read_error_text}
 use Rattle.vortex_program.specs.declared.answer.Answer as bound
-use Rattle.vortex_program.specs.declared.running.BatchRunError as fault
-use Rattle.vortex_program.specs.declared.running.BatchRunError.TheVariants as fault_of
+use Rattle.vortex_program.specs.declared.running.RunError as fault
+use Rattle.vortex_program.specs.declared.running.RunError.TheVariants as fault_of
 use Rattle.yurkije_columns.specs.Messages.{IsMessage, memory_words, fault_words, name_of_field}
 use Rattle.yurkije_core.specs.declared.reading.ProgramError.{ProgramError}
 use Rattle.yurkije_core.specs.declared.reading.ProgramError.TheVariants as program
@@ -36,7 +36,7 @@ faulty_words row k name e =
     ++ (codes " (" ++ (name ++ (codes "): " ++ error_text e))))))
 
 -- why answers of those names return nothing
-abbrev pub IsFaultWords : List (List ℕ) → fault.BatchRunError → List ℕ → Type 0
+abbrev pub IsFaultWords : List (List ℕ) → fault.RunError → List ℕ → Type 0
 IsFaultWords names (fault_of.Fault row k e) words =
     words ≡ faulty_words row k (name_in (slice_get names k)) e
 IsFaultWords names (fault_of.Refused e) words = words ≡ error_text e

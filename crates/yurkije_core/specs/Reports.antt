@@ -12,8 +12,8 @@ use Rattle.yurkije_columns.specs.declared.fields.ScopeFault.TheVariants as scope
 use Rattle.yurkije_columns.specs.declared.fields.FieldError.{FieldError}
 use Rattle.yurkije_columns.specs.declared.borrowed.BorrowedError.{BorrowedError}
 use Rattle.yurkije_columns.specs.declared.borrowed.BorrowedError.TheVariants as borrowed
-use Rattle.vortex_program.specs.declared.running.BatchRunError as fault
-use Rattle.vortex_program.specs.declared.running.BatchRunError.TheVariants as fault_of
+use Rattle.vortex_program.specs.declared.running.RunError as fault
+use Rattle.vortex_program.specs.declared.running.RunError.TheVariants as fault_of
 use Rattle.yurkije_columns.specs.Statuses.{scope_status, column_status}
 use Rattle.yurkije_core.specs.declared.reading.ProgramError.{ProgramError}
 use Rattle.yurkije_core.specs.declared.reading.ProgramError.TheVariants as program
@@ -108,7 +108,7 @@ borrowed_told (borrowed.UnknownKind k) = of_column k 102
 borrowed_told borrowed.OutOfMemory = nowhere 9
 
 -- the row and the answer that faults in it
-abbrev pub fault_told : fault.BatchRunError → ℕ → ErrorNumbers
+abbrev pub fault_told : fault.RunError → ℕ → ErrorNumbers
 fault_told (fault_of.Fault r k e) s = record {
   status = s;
   answer = k;

@@ -5,8 +5,8 @@ use Rattle.vortex_expressions.specs.declared.error.Reason.{Reason}
 use Rattle.vortex_expressions.specs.declared.error.Reason.TheVariants as reason
 use Rattle.vortex_expressions.specs.declared.refusal.Refusal.{Refusal}
 use Rattle.vortex_expressions.specs.declared.refusal.Refusal.TheVariants as refusal
-use Rattle.vortex_program.specs.declared.running.BatchRunError as fault
-use Rattle.vortex_program.specs.declared.running.BatchRunError.TheVariants as fault_of
+use Rattle.vortex_program.specs.declared.running.RunError as fault
+use Rattle.vortex_program.specs.declared.running.RunError.TheVariants as fault_of
 use Rattle.yurkije_columns.specs.Statuses.{column_status}
 use Rattle.yurkije_core.specs.declared.reading.ProgramError.{ProgramError}
 use Rattle.yurkije_core.specs.declared.reading.ProgramError.TheVariants as program
@@ -31,7 +31,7 @@ abbrev pub program_status : ProgramError → ℕ
 program_status program.NotUtf8 = 110
 program_status (program.Text e) = reason_status e.reason
 
-abbrev pub fault_status : fault.BatchRunError → ℕ
+abbrev pub fault_status : fault.RunError → ℕ
 fault_status (fault_of.Fault row k e) = number_of e
 fault_status (fault_of.Refused e) = number_of e
 fault_status fault_of.OutOfMemory = 9

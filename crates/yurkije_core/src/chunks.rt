@@ -13,13 +13,14 @@ ghost use Rattle.vortex_program.specs.Executing.{AllGiveWithin};
 ghost use Rattle.vortex_program.specs.Programs.{trees_of, AreRewrites};
 ghost use Rattle.vortex_program.specs.Rows.{HasRows};
 ghost use Rattle.vortex_program.specs.Running.{AnswersTrees, RefusesTrees};
+ghost use Rattle.yurkije_columns.specs.Batches.{batch_column};
 ghost use Rattle.yurkije_core.specs.Chunks.{HasChunk, RunsFrom, AnswersFrom, AreRun, AreAnswered};
-ghost use Rattle.yurkije_core.specs.Chunks.{TakesRows, ArePut};
+ghost use Rattle.yurkije_core.specs.Chunks.{HasChunkIfRead, TakesRows, ArePut};
 
 use std::alloc::Global;
 use vortex_arrow::{ArrowColumn, to_column};
 use vortex_columns::{Column, VortexError, VortexResult};
-use vortex_program::{Answer, BatchRunError, Program};
+use vortex_program::{Answer, Program, RunError};
 use yurkije_columns::Joined;
 
 /// How many rows are run at once: a multiple of 64, and so few that what a chunk takes is less than
@@ -48,20 +49,37 @@ fn chunk_of<'a>(column: &ArrowColumn<'a>, first: usize, count: usize) -> ArrowCo
     }
 }
 
-/// Some rows of each column. None where memory is refused.
+/// Some rows of a column, or as many nulls where it is not read. None where memory is refused.
+fn read_rows(
+    alloc: Global,
+    column: &Option<ArrowColumn<'_>>,
+    first: usize,
+    count: usize,
+) -> Option<Column>
+    requires { HasChunkIfRead first count column.now }
+    ensures { IfSome result (λ d. (n : ℕ) → HasRows first count (batch_column n column.now) d) }
+{
+    match column {
+        Some(column) => to_column(alloc, &chunk_of(column, first, count)).ok(),
+        None => Some(Column::null(count)),
+    }
+}
+
+/// Some rows of each column, and nulls in the place of each that is not read. None where memory is
+/// refused.
 fn read_chunk(
     alloc: Global,
-    columns: &[ArrowColumn<'_>],
+    columns: &[Option<ArrowColumn<'_>>],
     first: usize,
     count: usize,
 ) -> Option<Vec<Column>>
-    requires { All (HasChunk first count) columns.now }
-    ensures { IfSome result (λ read. AllMean (HasRows first count) (map arrow_column columns.now)
-        read.items) }
+    requires { All (HasChunkIfRead first count) columns.now }
+    ensures { IfSome result (λ read. (n : ℕ) → AllMean (HasRows first count)
+        (map (batch_column n) columns.now) read.items) }
 {
     let mut read = Vec::new(alloc);
     for k in 0..columns.len() {
-        let Ok(chunk) = to_column(alloc, &chunk_of(&columns[k], first, count)) else {
+        let Some(chunk) = read_rows(alloc, &columns[k], first, count) else {
             return None;
         };
         let Ok(()) = read.push(chunk) else {
@@ -72,13 +90,13 @@ fn read_chunk(
 }
 
 /// A fault in a row of those from the first on, by its row of the batch.
-fn fault_at(first: usize, row: usize, answer: usize, error: VortexError) -> BatchRunError
-    ensures { (result ≡ BatchRunError.OutOfMemory)
-        ⊎ (result ≡ BatchRunError.Fault (first + row) answer error) }
+fn fault_at(first: usize, row: usize, answer: usize, error: VortexError) -> RunError
+    ensures { (result ≡ RunError.OutOfMemory)
+        ⊎ (result ≡ RunError.Fault (first + row) answer error) }
 {
     match first.checked_add(row) {
-        Some(row) => BatchRunError::Fault { row, answer, error },
-        None => BatchRunError::OutOfMemory,
+        Some(row) => RunError::Fault { row, answer, error },
+        None => RunError::OutOfMemory,
     }
 }
 
@@ -86,39 +104,37 @@ fn fault_at(first: usize, row: usize, answer: usize, error: VortexError) -> Batc
 fn run_chunk(
     alloc: Global,
     program: &Program,
-    columns: &[ArrowColumn<'_>],
+    columns: &[Option<ArrowColumn<'_>>],
     rows: usize,
     first: usize,
     count: usize,
-) -> Result<Vec<Column>, BatchRunError>
-    requires chunk { All (HasChunk first count) columns.now }
+) -> Result<Vec<Column>, RunError>
+    requires chunk { All (HasChunkIfRead first count) columns.now }
     requires within { first + count ≤ rows }
-    requires even { other_length rows (map arrow_column columns.now) ≡ None }
+    requires even { other_length rows (map (batch_column rows) columns.now) ≡ None }
     requires written { All IsBound (trees_of program.now.written.items) }
     requires optimized { All IsBound (trees_of program.now.optimized.items) }
-    requires given { AllGiveWithin meaning (map arrow_column columns.now) 0 first
+    requires given { AllGiveWithin meaning (map (batch_column rows) columns.now) 0 first
         (trees_of program.now.optimized.items) }
     ensures run { IfOk result (λ answers. AllMean
-        (RunsFrom (map arrow_column columns.now) first count)
+        (RunsFrom (map (batch_column rows) columns.now) first count)
         (trees_of program.now.optimized.items) answers.items) }
     ensures answered { AreRewrites program.now.written.items program.now.optimized.items
         → IfOk result (λ answers. AllMean
-        (AnswersFrom (map arrow_column columns.now) first count)
+        (AnswersFrom (map (batch_column rows) columns.now) first count)
         (trees_of program.now.written.items) answers.items) }
     ensures refused { AreRewrites program.now.written.items program.now.optimized.items
-        → IfErr result (RefusesTrees (map arrow_column columns.now) rows
+        → IfErr result (RefusesTrees (map (batch_column rows) columns.now) rows
         (trees_of program.now.written.items) (trees_of program.now.optimized.items)) }
 {
     let Some(chunk) = read_chunk(alloc, columns, first, count) else {
-        return Err(BatchRunError::OutOfMemory);
+        return Err(RunError::OutOfMemory);
     };
     match program.run_rows(alloc, &chunk, count) {
         Ok(answers) => Ok(answers),
-        Err(BatchRunError::Fault { row, answer, error }) => Err(fault_at(
-            first, row, answer, error,
-        )),
-        Err(BatchRunError::Refused(error)) => Err(BatchRunError::Refused(error)),
-        Err(BatchRunError::OutOfMemory) => Err(BatchRunError::OutOfMemory),
+        Err(RunError::Fault { row, answer, error }) => Err(fault_at(first, row, answer, error)),
+        Err(RunError::Refused(error)) => Err(RunError::Refused(error)),
+        Err(RunError::OutOfMemory) => Err(RunError::OutOfMemory),
     }
 }
 
@@ -138,29 +154,29 @@ fn push_all(joined: &mut Vec<Joined>, answers: &[Column]) -> VortexResult<()>
 fn add_chunk(
     alloc: Global,
     program: &Program,
-    columns: &[ArrowColumn<'_>],
+    columns: &[Option<ArrowColumn<'_>>],
     rows: usize,
     first: usize,
     count: usize,
     joined: &mut Vec<Joined>,
-) -> Result<(), BatchRunError>
-    requires chunk { All (HasChunk first count) columns.now }
+) -> Result<(), RunError>
+    requires chunk { All (HasChunkIfRead first count) columns.now }
     requires within { first + count ≤ rows }
-    requires even { other_length rows (map arrow_column columns.now) ≡ None }
+    requires even { other_length rows (map (batch_column rows) columns.now) ≡ None }
     requires whole { 8 * (first / 8) ≡ first }
     requires written { All IsBound (trees_of program.now.written.items) }
     requires optimized { All IsBound (trees_of program.now.optimized.items) }
-    requires run { AreRun (map arrow_column columns.now) first
+    requires run { AreRun (map (batch_column rows) columns.now) first
         (trees_of program.now.optimized.items) joined.old.items }
-    ensures run { IfOk result (λ _. AreRun (map arrow_column columns.now) (first + count)
+    ensures run { IfOk result (λ _. AreRun (map (batch_column rows) columns.now) (first + count)
         (trees_of program.now.optimized.items) joined.new.items) }
     ensures answered { AreRewrites program.now.written.items program.now.optimized.items
-        → AreAnswered (map arrow_column columns.now) first
+        → AreAnswered (map (batch_column rows) columns.now) first
         (trees_of program.now.written.items) joined.old.items
-        → IfOk result (λ _. AreAnswered (map arrow_column columns.now) (first + count)
+        → IfOk result (λ _. AreAnswered (map (batch_column rows) columns.now) (first + count)
         (trees_of program.now.written.items) joined.new.items) }
     ensures refused { AreRewrites program.now.written.items program.now.optimized.items
-        → IfErr result (RefusesTrees (map arrow_column columns.now) rows
+        → IfErr result (RefusesTrees (map (batch_column rows) columns.now) rows
         (trees_of program.now.written.items) (trees_of program.now.optimized.items)) }
 {
     let answers = match run_chunk(alloc, program, columns, rows, first, count) {
@@ -169,7 +185,7 @@ fn add_chunk(
     };
     match push_all(joined, &answers) {
         Ok(()) => Ok(()),
-        Err(_) => Err(BatchRunError::OutOfMemory),
+        Err(_) => Err(RunError::OutOfMemory),
     }
 }
 
@@ -219,25 +235,25 @@ fn columns_of(alloc: Global, joined: Vec<Joined>) -> VortexResult<Vec<Column>>
 fn add_chunks(
     alloc: Global,
     program: &Program,
-    columns: &[ArrowColumn<'_>],
+    columns: &[Option<ArrowColumn<'_>>],
     rows: usize,
     joined: &mut Vec<Joined>,
-) -> Result<(), BatchRunError>
-    requires chunk { All (HasChunk 0 rows) columns.now }
-    requires place { All (λ c. c.offset + rows < 2 ^ 64) columns.now }
+) -> Result<(), RunError>
+    requires chunk { All (HasChunkIfRead 0 rows) columns.now }
+    requires place { All (λ o. IfSome o (λ c. c.offset + rows < 2 ^ 64)) columns.now }
     requires some { 0 < rows }
-    requires even { other_length rows (map arrow_column columns.now) ≡ None }
-    requires run { AreRun (map arrow_column columns.now) 0
+    requires even { other_length rows (map (batch_column rows) columns.now) ≡ None }
+    requires run { AreRun (map (batch_column rows) columns.now) 0
         (trees_of program.now.optimized.items) joined.old.items }
-    ensures run { IfOk result (λ _. AreRun (map arrow_column columns.now) rows
+    ensures run { IfOk result (λ _. AreRun (map (batch_column rows) columns.now) rows
         (trees_of program.now.optimized.items) joined.new.items) }
     ensures answered { AreRewrites program.now.written.items program.now.optimized.items
-        → AreAnswered (map arrow_column columns.now) 0
+        → AreAnswered (map (batch_column rows) columns.now) 0
         (trees_of program.now.written.items) joined.old.items
-        → IfOk result (λ _. AreAnswered (map arrow_column columns.now) rows
+        → IfOk result (λ _. AreAnswered (map (batch_column rows) columns.now) rows
         (trees_of program.now.written.items) joined.new.items) }
     ensures refused { AreRewrites program.now.written.items program.now.optimized.items
-        → IfErr result (RefusesTrees (map arrow_column columns.now) rows
+        → IfErr result (RefusesTrees (map (batch_column rows) columns.now) rows
         (trees_of program.now.written.items) (trees_of program.now.optimized.items)) }
 {
     learn_bound(&program.written);
@@ -257,21 +273,21 @@ fn add_chunks(
 pub(crate) fn run_chunks(
     alloc: Global,
     program: &Program,
-    columns: &[ArrowColumn<'_>],
+    columns: &[Option<ArrowColumn<'_>>],
     rows: usize,
     begun: Vec<Joined>,
-) -> Result<Vec<Column>, BatchRunError>
-    requires chunk { All (HasChunk 0 rows) columns.now }
-    requires place { All (λ c. c.offset + rows < 2 ^ 64) columns.now }
+) -> Result<Vec<Column>, RunError>
+    requires chunk { All (HasChunkIfRead 0 rows) columns.now }
+    requires place { All (λ o. IfSome o (λ c. c.offset + rows < 2 ^ 64)) columns.now }
     requires some { 0 < rows }
-    requires even { other_length rows (map arrow_column columns.now) ≡ None }
-    requires run { AreRun (map arrow_column columns.now) 0
+    requires even { other_length rows (map (batch_column rows) columns.now) ≡ None }
+    requires run { AreRun (map (batch_column rows) columns.now) 0
         (trees_of program.now.optimized.items) begun.items }
     ensures { AreRewrites program.now.written.items program.now.optimized.items
         → MatchResult result
-        (λ answers. AnswersTrees (map arrow_column columns.now) rows
+        (λ answers. AnswersTrees (map (batch_column rows) columns.now) rows
         (trees_of program.now.written.items) answers.items)
-        (RefusesTrees (map arrow_column columns.now) rows
+        (RefusesTrees (map (batch_column rows) columns.now) rows
         (trees_of program.now.written.items) (trees_of program.now.optimized.items)) }
 {
     let mut joined = begun;
@@ -281,6 +297,6 @@ pub(crate) fn run_chunks(
     }
     match columns_of(alloc, joined) {
         Ok(answers) => Ok(answers),
-        Err(_) => Err(BatchRunError::OutOfMemory),
+        Err(_) => Err(RunError::OutOfMemory),
     }
 }

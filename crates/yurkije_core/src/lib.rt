@@ -3,12 +3,14 @@
 #![tactic(auto)]
 
 mod chunks;
+pub mod expression;
 pub mod reading;
 pub mod report;
 pub mod running;
 pub mod statuses;
 mod words;
 
+pub use expression::Expression;
 pub use reading::{ProgramError, read_program};
 pub use report::{ErrorNumbers, NONE, Report};
 pub use running::{BatchRunError, run_program};

@@ -157,11 +157,11 @@ impl ErrorNumbers {
     }
 
     /// What is told of a program that returns nothing: the row and the answer that faults in it.
-    fn of_fault(error: &vortex_program::BatchRunError, status: u32) -> ErrorNumbers
+    fn of_fault(error: &vortex_program::RunError, status: u32) -> ErrorNumbers
         ensures { result ≡ fault_told error.now status }
     {
         match error {
-            vortex_program::BatchRunError::Fault {
+            vortex_program::RunError::Fault {
                 row,
                 answer,
                 error: _,
@@ -170,8 +170,8 @@ impl ErrorNumbers {
                 answer: *answer,
                 ..ErrorNumbers::of(status)
             },
-            vortex_program::BatchRunError::Refused(_) => ErrorNumbers::of(status),
-            vortex_program::BatchRunError::OutOfMemory => ErrorNumbers::of(status),
+            vortex_program::RunError::Refused(_) => ErrorNumbers::of(status),
+            vortex_program::RunError::OutOfMemory => ErrorNumbers::of(status),
         }
     }
 

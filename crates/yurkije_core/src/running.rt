@@ -1,5 +1,5 @@
 //! A program run over a batch of columns that a caller lends.
-ghost use Rattle.std.specs.Prelude.{◌<◌, All, IsTrue, MatchResult};
+ghost use Rattle.std.specs.Prelude.{◌<◌, All, IfSome, IsTrue, MatchResult};
 ghost use Rattle.yurkije_columns.specs.Checking.{IsFlat};
 ghost use Rattle.vortex_types.specs.TypeOf.{struct_fields};
 ghost use Rattle.vortex_program.specs.Programs.{trees_of, AreRewrites};
@@ -18,15 +18,25 @@ pub enum BatchRunError {
     /// A column is wrong, or memory ran out as it was read.
     Batch(ColumnError),
     /// A row faults, or memory ran out as the program ran.
-    Program(vortex_program::BatchRunError),
+    Program(vortex_program::RunError),
 }
 
-/// Whether all columns are of truth values or of integers.
-fn are_flat(columns: &[ArrowColumn<'_>]) -> bool
-    ensures { IsTrue result → All IsFlat columns.now }
+/// Whether a column is of truth values or of integers, if it is read.
+fn is_flat_if_read(column: &Option<ArrowColumn<'_>>) -> bool
+    ensures { IsTrue result → IfSome column.now IsFlat }
+{
+    match column {
+        Some(column) => is_flat(column),
+        None => true,
+    }
+}
+
+/// Whether all columns that are read are of truth values or of integers.
+fn are_flat(columns: &[Option<ArrowColumn<'_>>]) -> bool
+    ensures { IsTrue result → All (λ o. IfSome o IsFlat) columns.now }
 {
     for k in 0..columns.len() {
-        if !is_flat(&columns[k]) {
+        if !is_flat_if_read(&columns[k]) {
             return false;
         }
     }
@@ -37,7 +47,7 @@ fn are_flat(columns: &[ArrowColumn<'_>]) -> bool
 fn run_whole(
     alloc: Global,
     program: &Program,
-    columns: &[ArrowColumn<'_>],
+    columns: &[Option<ArrowColumn<'_>>],
     rows: usize,
 ) -> Result<Vec<Column>, BatchRunError>
     ensures { AreRewrites program.now.written.items program.now.optimized.items
@@ -57,15 +67,15 @@ fn run_whole(
     }
 }
 
-/// What `run_program` answers, where the columns are of truth values or of integers: chunk by chunk,
-/// where the answers are so too.
+/// What `run_program` answers, where the columns that are read are of truth values or of integers:
+/// chunk by chunk, where the answers are so too.
 fn run_flat(
     alloc: Global,
     program: &Program,
-    columns: &[ArrowColumn<'_>],
+    columns: &[Option<ArrowColumn<'_>>],
     rows: usize,
 ) -> Result<Vec<Column>, BatchRunError>
-    requires flat { All IsFlat columns.now }
+    requires flat { All (λ o. IfSome o IsFlat) columns.now }
     requires some { 0 < rows }
     ensures { AreRewrites program.now.written.items program.now.optimized.items
         → MatchResult result
@@ -81,7 +91,7 @@ fn run_flat(
     let begun = match begun(alloc, &program.optimized, rows) {
         Ok(Some(begun)) => begun,
         Ok(None) => return run_whole(alloc, program, columns, rows),
-        Err(_) => return Err(BatchRunError::Program(vortex_program::BatchRunError::OutOfMemory)),
+        Err(_) => return Err(BatchRunError::Program(vortex_program::RunError::OutOfMemory)),
     };
     match run_chunks(alloc, program, columns, rows, begun) {
         Ok(answers) => Ok(answers),
@@ -91,7 +101,8 @@ fn run_flat(
 
 /// What the program returns for a batch of so many rows: a column for each answer, which has its
 /// value in each row in which it has one. So says each program that is read: what runs are
-/// rewrites of what was written.
+/// rewrites of what was written. A column that no answer reads is None: an answer that reads one is
+/// refused with E11.
 ///
 /// Fails first for the columns, then with the first row in which an answer faults, as it runs; there
 /// it faults as it was written, too. Rules may drop a fault: then there is an answer, of any value in
@@ -99,7 +110,7 @@ fn run_flat(
 pub fn run_program(
     alloc: Global,
     program: &Program,
-    columns: &[ArrowColumn<'_>],
+    columns: &[Option<ArrowColumn<'_>>],
     rows: usize,
 ) -> Result<Vec<Column>, BatchRunError>
     ensures { AreRewrites program.now.written.items program.now.optimized.items

@@ -56,17 +56,17 @@ pub fn program_status(error: &ProgramError) -> u32
 }
 
 /// The number of a run of a program that returns nothing.
-fn fault_status(error: &vortex_program::BatchRunError) -> u32
+fn fault_status(error: &vortex_program::RunError) -> u32
     ensures { result ≡ fault_status error.now }
 {
     match error {
-        vortex_program::BatchRunError::Fault {
+        vortex_program::RunError::Fault {
             row: _,
             answer: _,
             error,
         } => error_status(error),
-        vortex_program::BatchRunError::Refused(error) => error_status(error),
-        vortex_program::BatchRunError::OutOfMemory => 9,
+        vortex_program::RunError::Refused(error) => error_status(error),
+        vortex_program::RunError::OutOfMemory => 9,
     }
 }
 

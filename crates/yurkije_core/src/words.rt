@@ -51,17 +51,17 @@ fn faulty_words(
 fn fault_words(
     alloc: Global,
     program: &Program,
-    error: &vortex_program::BatchRunError,
+    error: &vortex_program::RunError,
 ) -> VortexResult<String>
     ensures { AnswersUnlessMemory result (λ words.
         IsFaultWords (names_of program.now.written.items) error.now (string_bytes words)) }
 {
     match error {
-        vortex_program::BatchRunError::Fault { row, answer, error } => {
+        vortex_program::RunError::Fault { row, answer, error } => {
             faulty_words(alloc, *row, *answer, answer_named(program, *answer), error)
         }
-        vortex_program::BatchRunError::Refused(error) => Ok(format!(in alloc; "{error}")?),
-        vortex_program::BatchRunError::OutOfMemory => Ok(String::from_str(alloc, "out of memory")?),
+        vortex_program::RunError::Refused(error) => Ok(format!(in alloc; "{error}")?),
+        vortex_program::RunError::OutOfMemory => Ok(String::from_str(alloc, "out of memory")?),
     }
 }
 

@@ -6,7 +6,16 @@ use fixtures::same;
 use std::alloc::Global;
 use vortex_columns::Column;
 use yurkije_columns::{BorrowedColumn, BorrowedError, arrow_columns, borrowed_words};
-use yurkije_core::{BatchRunError, ErrorNumbers, run_program, run_words};
+use yurkije_core::{BatchRunError, ErrorNumbers, Expression, run_program, run_words};
+
+/// The expression of a text over the fields. None where memory ran out: no test wants a text that is
+/// none.
+fn expression_of(alloc: Global, text: &[u8]) -> Option<Expression> {
+    match program_of(alloc, text) {
+        Ok(program) => Expression::of(alloc, program).ok(),
+        Err(_) => None,
+    }
+}
 
 /// The answers of a text over columns of five rows.
 pub fn answers_of(
@@ -14,12 +23,12 @@ pub fn answers_of(
     text: &[u8],
     columns: &[BorrowedColumn<'_>],
 ) -> Result<Vec<Column>, BatchRunError> {
-    let Ok(program) = program_of(alloc, text) else {
-        return Err(BatchRunError::Program(vortex_program::BatchRunError::OutOfMemory));
+    let Some(expression) = expression_of(alloc, text) else {
+        return Err(BatchRunError::Program(vortex_program::RunError::OutOfMemory));
     };
-    match arrow_columns(alloc, columns) {
-        Ok(columns) => run_program(alloc, &program, &columns, 5),
-        Err(_) => Err(BatchRunError::Program(vortex_program::BatchRunError::OutOfMemory)),
+    match arrow_columns(alloc, columns, &expression.reads) {
+        Ok(columns) => run_program(alloc, &expression.program, &columns, 5),
+        Err(_) => Err(BatchRunError::Program(vortex_program::RunError::OutOfMemory)),
     }
 }
 
@@ -60,14 +69,17 @@ fn refuses(
     words: &str,
 ) -> bool {
     let alloc = rt.alloc();
-    let (Ok(program), Ok(columns)) = (program_of(alloc, text), arrow_columns(alloc, columns)) else {
+    let Some(expression) = expression_of(alloc, text) else {
         return false;
     };
-    let Err(error) = run_program(alloc, &program, &columns, 5) else {
+    let Ok(columns) = arrow_columns(alloc, columns, &expression.reads) else {
+        return false;
+    };
+    let Err(error) = run_program(alloc, &expression.program, &columns, 5) else {
         return false;
     };
     let told = ErrorNumbers::of_run(&error);
-    match run_words(alloc, &program, &error, 5) {
+    match run_words(alloc, &expression.program, &error, 5) {
         Ok(said) => {
             same(rt, (told.status, told.column, told.row), wanted) && same(rt, said.as_str(), words)
         }
@@ -82,10 +94,48 @@ fn columns_and_faults_are_refused_with_their_rows(rt: HostRuntime) {
         ..names()
     };
     let words = "column 1 (name): row 1: offsets fall";
-    assert!(rt; refuses(rt, b"number", &[numbers(), falls], (125, 1, 1), words));
+    assert!(rt; refuses(rt, b"number, name", &[numbers(), falls], (125, 1, 1), words));
     let words = "row 3, answer 1 (q): integer division by zero or overflow in checked div";
     let text = b"number, 1 / (number - 4) as q";
     assert!(rt; refuses(rt, text, &[numbers(), names()], (7, usize::MAX, 3), words));
+}
+
+/// Whether the first answer of a text is this one, over the numbers and a column of no kind.
+fn answers_unread(rt: HostRuntime, text: &[u8], wanted: &str) -> bool {
+    let unread = BorrowedColumn {
+        kind: 99,
+        rows: 7,
+        offset: usize::MAX,
+        ..names()
+    };
+    match answers_of(rt.alloc(), text, &[numbers(), unread]) {
+        Ok(columns) => is_text(rt, &columns, 0, wanted),
+        Err(_) => false,
+    }
+}
+
+#[test]
+fn columns_that_are_not_read_are_not_looked_at(rt: HostRuntime) {
+    assert!(rt; answers_unread(rt, b"number < 4", "bool?: true null true false false"));
+    assert!(rt; !answers_unread(rt, b"number < 4, name", "bool?: true null true false false"));
+}
+
+/// Whether the answers of a text read the fields of those numbers.
+fn reads(rt: HostRuntime, text: &[u8], wanted: &[usize]) -> bool {
+    let Some(expression) = expression_of(rt.alloc(), text) else {
+        return false;
+    };
+    match expression.fields_read(rt.alloc()) {
+        Ok(numbers) => numbers.as_slice() == wanted,
+        Err(_) => false,
+    }
+}
+
+#[test]
+fn fields_that_are_read_are_numbered(rt: HostRuntime) {
+    assert!(rt; reads(rt, b"name like 'a%', 1", &[1]));
+    assert!(rt; reads(rt, b"name is null or number > 1", &[0, 1]));
+    assert!(rt; reads(rt, b"1 + 1", &[]));
 }
 
 #[test]

@@ -1,6 +1,6 @@
-use Rattle.std.proofs.Common.{◌≡◌, ◌∙◌, length, map, ap, arith}
+use Rattle.std.proofs.Common.{◌∙◌, map, ap, arith}
 use Rattle.std.proofs.lemmas.List.{take_all}
-use Rattle.vortex_arrow.specs.Columns.{arrow_column}
+use Rattle.yurkije_columns.specs.Batches.{batch_column}
 use Rattle.yurkije_columns.proofs.Serving.{wrong_at, first_serve_more, read_more}
 use Rattle.yurkije_columns.proofs.batch.read_batch.Goals as goal
 
@@ -14,11 +14,11 @@ loop-k-preserved c = record {
   count = omega (arith, c.push_reserved.ensures.len, c.loop-k.invariant.count);
   place = c.push_reserved.ensures.capacity ∙ c.loop-k.invariant.place;
   serve = first_serve_more _ _ _ _ _ _ c.loop-k-test.true c.dtype.ensures
-      c.in-Ok-read_field.ensures.0
+      c.in-Ok-read_if_some.ensures.0
       c.loop-k.invariant.serve;
   columns = c.push_reserved.ensures.items
-      ∙ read_more _ _ _ _ c.in-Ok-read_field.field c.loop-k-test.true c.loop-k.invariant.columns
-      c.in-Ok-read_field.ensures.1;
+      ∙ read_more _ _ _ _ _ c.in-Ok-read_if_some.field c.loop-k-test.true c.loop-k.invariant.columns
+      c.in-Ok-read_if_some.ensures.1;
 }
 
 pub returns : goal.returns
@@ -28,6 +28,6 @@ returns c = (
     serve = λ i below. c.loop-k.invariant.serve i (omega (arith, below, c.loop-k-test.false));
   },
   c.loop-k.invariant.columns
-      ∙ ap (map arrow_column)
+      ∙ ap (map (batch_column c.args.rows))
       (take_all c.loop-k.k c.args.columns.now (omega (arith, c.loop-k-test.false))),
 )

@@ -1,4 +1,4 @@
-use Rattle.std.proofs.Common.{◌∙◌, arith, add-one}
+use Rattle.std.proofs.Common.{◌∙◌, arith, add-one, sym}
 use Rattle.std.proofs.lemmas.Option.{slice_get-get_or}
 use Rattle.yurkije_columns.proofs.BorrowedSoFar.{all_say_more, known_more}
 use Rattle.yurkije_columns.proofs.borrowed.arrow_columns.Goals as goal
@@ -7,7 +7,8 @@ pub returns-in-None : goal.returns-in-None
 returns-in-None c = record {
   column = _;
   there = slice_get-get_or _ _ _ c.loop-column-test.true;
-  unknown = c.in-None.ensures;
+  read = sym c.is_read.ensures ∙ c.in-None.ensures.0;
+  unknown = c.in-None.ensures.1;
   before = c.loop-column.invariant.known;
 }
 
@@ -17,8 +18,8 @@ loop-column-preserved c =
       count = omega (arith, c.push_reserved.ensures.len, c.loop-column.invariant.count);
       place = c.push_reserved.ensures.capacity ∙ c.loop-column.invariant.place;
       say = rw c.push_reserved.ensures.items
-          (all_say_more _ _ k _ _ _ (add-one k) c.loop-column-test.true
-          c.loop-column.invariant.say c.in-Some.ensures);
-      known = known_more _ k _ _ c.loop-column-test.true c.loop-column.invariant.known
-          c.in-Some.ensures;
+          (all_say_more _ _ _ k _ _ _ c.is_read.result (add-one k) c.loop-column-test.true
+          c.loop-column.invariant.say c.is_read.ensures c.in-Some.ensures);
+      known = known_more _ _ k _ _ c.is_read.result c.loop-column-test.true
+          c.loop-column.invariant.known c.is_read.ensures c.in-Some.ensures;
     }

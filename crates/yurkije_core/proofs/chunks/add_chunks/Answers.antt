@@ -1,5 +1,5 @@
 use Rattle.yurkije_core.proofs.ChunkRows.{chunk_at}
-use Rattle.std.proofs.Common.{◌+◌, ◌-◌, arith}
+use Rattle.std.proofs.Common.{arith}
 use Rattle.yurkije_core.proofs.chunks.add_chunks.Goals as goal
 
 pub add_chunk-requires-clause-chunk : goal.add_chunk-requires-clause-chunk

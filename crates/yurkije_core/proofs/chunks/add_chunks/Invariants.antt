@@ -1,5 +1,5 @@
 use Rattle.std.proofs.Common.{◌≡◌, ◌<◌, ◌-◌, ◌*◌, ◌/◌, map}
-use Rattle.vortex_arrow.specs.Columns.{arrow_column}
+use Rattle.yurkije_columns.specs.Batches.{batch_column}
 use Rattle.vortex_program.specs.Programs.{trees_of, AreRewrites}
 use Rattle.yurkije_core.specs.Chunks.{AreRun, AreAnswered}
 use Rattle.yurkije_core.proofs.chunks.add_chunks.Given as goal
@@ -9,12 +9,12 @@ abbrev pub invariant-chunks : goal.invariant-chunks
 invariant-chunks l = record {
   some : l.first < l.rows;
   whole : 8 * (l.first / 8) ≡ l.first;
-  run : AreRun (map arrow_column l.columns) l.first (trees_of l.program.optimized.items)
+  run : AreRun (map (batch_column l.rows) l.columns) l.first (trees_of l.program.optimized.items)
       l.joined.items;
   answered : AreRewrites l.program.written.items l.program.optimized.items
-      → AreAnswered (map arrow_column l.columns) 0 (trees_of l.program.written.items)
+      → AreAnswered (map (batch_column l.rows) l.columns) 0 (trees_of l.program.written.items)
       l.initial.joined.items
-      → AreAnswered (map arrow_column l.columns) l.first (trees_of l.program.written.items)
+      → AreAnswered (map (batch_column l.rows) l.columns) l.first (trees_of l.program.written.items)
       l.joined.items;
 }
 

@@ -1,5 +1,5 @@
 use Rattle.std.proofs.Common.{add-one, arith}
-use Rattle.yurkije_core.proofs.PutRows.{none_put, all_put, put_counted, next_takes, put_more}
+use Rattle.yurkije_core.proofs.PutRows.{none_put, all_put, next_takes, put_more}
 use Rattle.yurkije_core.proofs.chunks.push_all.Goals as goal
 
 pub loop-k-init : goal.loop-k-init
