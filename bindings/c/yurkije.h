@@ -120,6 +120,7 @@ enum yk_status {
     YK_UNTYPED_NULL = 115,       /* a null stands beside nothing that has a type */
     YK_NO_ESCAPE = 116,          /* the escape of a LIKE is more than one character */
     YK_NO_CAST = 117,            /* no cast leads to that type */
+    YK_NO_FUNCTION = 118,        /* no function has that name */
 
     /* Why a column is not read, or an answer not copied. */
     YK_VALIDITY_TOO_SHORT = 120, /* fewer bits than the rows take */

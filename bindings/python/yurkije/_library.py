@@ -39,6 +39,7 @@ STATUSES: dict[int, str] = {
     115: "UntypedNull",
     116: "NoEscape",
     117: "NoCast",
+    118: "NoFunction",
     120: "ValidityTooShort",
     121: "ValuesTooShort",
     122: "OffsetsTooShort",

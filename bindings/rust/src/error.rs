@@ -66,6 +66,7 @@ statuses! {
     UntypedNull = 115, "a null stands beside nothing that has a type";
     NoEscape = 116, "the escape of a LIKE is more than one character";
     NoCast = 117, "no cast leads to that type";
+    NoFunction = 118, "no function has that name";
     ValidityTooShort = 120, "validity is too short";
     ValuesTooShort = 121, "values are too short";
     OffsetsTooShort = 122, "offsets are too short";

@@ -22,13 +22,13 @@ pub mod stream;
 mod truths;
 pub mod watched;
 
-pub use asked::Request;
 pub use columns::{FieldsError, read_columns};
 pub use errors::StreamError;
 pub use explained::explain;
 pub use names::check_names;
 pub use printing::push_field;
 pub use refusals::{NoRefusals, Refusals, RefusedRows, refusals_in};
+pub use request::Request;
 pub use rowfn_csv::Format;
 pub use settings::Settings;
 pub use stream::{Summary, run};

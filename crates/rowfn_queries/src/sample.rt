@@ -14,7 +14,7 @@ use crate::error::QueryError;
 use crate::inference::infer;
 use crate::rows::{read_named, read_numbered, read_rows};
 use crate::scopes::typed_columns;
-use rowfn_csv::{Batch, Format, ReadError, Records, truth_spelled};
+use rowfn_csv::{Batch, Format, RecordError, Records, truth_spelled};
 use std::alloc::{AllocError, Global};
 use std::io::{self, Read};
 use vortex_columns::{StructFields, VortexResult};
@@ -152,8 +152,8 @@ pub(crate) fn read_sample<R: Read>(
     };
     match read_rows(&mut records, &mut rows, format.fits) {
         Ok(()) => {}
-        Err(ReadError::Io(error)) => sample.failed = Some(error),
-        Err(ReadError::OutOfMemory) => return Err(QueryError::OutOfMemory),
+        Err(RecordError::Io(error)) => sample.failed = Some(error),
+        Err(RecordError::OutOfMemory) => return Err(QueryError::OutOfMemory),
     }
     sample.columns = columns_of(alloc, &rows.names, &rows.batch, format.any_truths)?;
     Ok(sample)

@@ -36,6 +36,20 @@ fn an_expression_is_read(rt: HostRuntime) {
     assert!(rt; reads_as(rt, text, STEPS, &[0, 8, 12, 6, 15, 31, 44, 35, 66, 23]));
 }
 
+#[test]
+fn calls_and_numbers_are_read(rt: HostRuntime) {
+    const STEPS: &[Step<'static>] = &[
+        Step::Operand(Token::Name(b"a")),
+        Step::Operand(Token::Number(b"1.5")),
+        Step::Apply(b"now", 0),
+        Step::Apply(b"f", 3),
+        Step::Negative(b".5e-3"),
+        Step::Call(Call::Join(WrittenOperator::Add)),
+    ];
+    let text = "f(a, (1.5), now()) + -.5e-3";
+    assert!(rt; reads_as(rt, text, STEPS, &[2, 6, 12, 0, 21, 19]));
+}
+
 /// Whether the steps of each text are reported at those bytes.
 fn all_places_are(rt: HostRuntime, cases: &[(&str, &[usize])]) -> bool {
     for (text, places) in cases {
@@ -63,6 +77,7 @@ fn steps_have_places(rt: HostRuntime) {
         ("a ilike p or b is null", &[0, 8, 2, 13, 15, 10]),
         ("- 7::i8 + cast(x as i8)", &[0, 5, 15, 20, 8]),
         (" 'it''s' = \"b\"", &[1, 11, 9]),
+        ("f(a, b + 1) = g()", &[2, 5, 9, 7, 0, 14, 12]),
     ];
     assert!(rt; all_places_are(rt, CASES));
 }

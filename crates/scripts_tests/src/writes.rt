@@ -19,6 +19,12 @@ fn written(alloc: Global) -> Result<String, AllocError> {
     writer.push_sign(Sign::Close)?;
     writer.push_sign(Sign::Is)?;
     writer.push_sign(Sign::Null)?;
+    writer.push_sign(Sign::And)?;
+    writer.push_function("f")?;
+    writer.push_name("x")?;
+    writer.push_sign(Sign::Comma)?;
+    writer.push_number(".5")?;
+    writer.push_sign(Sign::Close)?;
     Ok(writer.into_text())
 }
 
@@ -31,6 +37,11 @@ fn writes(rt: HostRuntime, wanted: &str) -> bool {
 
 #[test]
 fn tokens_are_written(rt: HostRuntime) {
-    assert!(rt; writes(rt, "cast(\"a\"\"b\" - -128::i8? >= 'it''s') is null"));
+    assert!(rt;
+        writes(
+            rt,
+            "cast(\"a\"\"b\" - -128::i8? >= 'it''s') is null and f(x, .5)"
+        )
+    );
     assert!(rt; is_bare(b"_x1") && !is_bare(b"nUll"));
 }

@@ -34,7 +34,7 @@ use Rattle.vortex_syntax.specs.declared.token.Sign.{Sign}
 use Rattle.vortex_syntax.specs.declared.token.Sign.TheVariants as sign
 use Rattle.vortex_syntax.specs.Tokens as token
 use Rattle.vortex_syntax.specs.Syntax.{Syntax, operand, negative, typed, grouped, negated, joined}
-use Rattle.vortex_syntax.specs.Syntax.{tested, between, matched, cast}
+use Rattle.vortex_syntax.specs.Syntax.{tested, between, matched, cast, nullary, applied}
 use Rattle.vortex_expressions.specs.Literals as literal
 use Rattle.vortex_expressions.specs.Literals.{Literal, type_beside, value_at}
 use Rattle.vortex_expressions.specs.Outcomes.{Outcome, answers, refuses, missing, and_then}
@@ -42,6 +42,7 @@ use Rattle.vortex_expressions.specs.Outcomes.{or_refuses}
 use Rattle.vortex_expressions.specs.declared.refusal.Refusal.{Refusal}
 use Rattle.vortex_expressions.specs.declared.refusal.Refusal.TheVariants.{UntypedNull, NotHeld}
 use Rattle.vortex_expressions.specs.declared.refusal.Refusal.TheVariants.{NoEscape, NoCast, NotUtf8}
+use Rattle.vortex_expressions.specs.declared.refusal.Refusal.TheVariants.{NoFunction}
 use Rattle.vortex_expressions.specs.Items.{Item, literal, bound, Tree, Callable, meaning}
 use Rattle.vortex_expressions.specs.Items.{common_type, constant_at, settled, all_settled, call_of}
 use Rattle.vortex_expressions.specs.Items.{called, refused_at, place_of}
@@ -52,7 +53,7 @@ use Rattle.vortex_expressions.specs.Calls.{operator_of, joined_type, negated_if,
 use Rattle.vortex_expressions.specs.Calls.{joined_item, tested_item, within_bounds, between_all}
 use Rattle.vortex_expressions.specs.Calls.{between_item, like_options, escape_said, escape_in}
 use Rattle.vortex_expressions.specs.Calls.{liked_item, matched_item}
-use Rattle.vortex_expressions.specs.Binding.{item_of, tree_of}
+use Rattle.vortex_expressions.specs.Binding.{item_of, items_of, tree_of}
 use Rattle.vortex_expressions.specs.Writing.{IsCallable, IsOver, AllOver}
 
 -- outcomes with a result
@@ -259,6 +260,7 @@ module _ (scope : Fields) where
   operand_over : (t : token.Token) (i : Item) → operand_item scope t ≡ answers i → ItemOver i
   operand_over (token.name w) i e = named_over (text_of w) i (λ v k. (text_read w v k).utf8) e
   operand_over (token.nullable w) i e = absurd cc
+  operand_over (token.function w) i e = absurd cc
   operand_over (token.quoted w) i e =
       named_over (between_quotes 34 w) i (λ v k. (text_read (unquoted 34 w) v k).utf8) e
   operand_over (token.number ds) i e = number_over (text_of ds) i e
@@ -385,6 +387,13 @@ module _ (scope : Fields) where
       matched_over k e m.a n.a i (item_over a m.a m.first) (item_over p n.a n.first) n.second
   item_over (cast a w n) i e = let m = then_is (item_of scope a) (cast_item w n) i e in
       cast_over w n m.a i (item_over a m.a m.first) m.second
+  item_over (nullary w) i e = absurd cc
+  item_over (applied w args a) i e =
+      let m = then_is (items_of scope args)
+      (λ is. and_then (item_of scope a) (λ x. refuses NoFunction)) i e in
+      let n = then_is (item_of scope a) (λ x. refuses NoFunction) i m.second in
+      let k : refuses NoFunction ≡ answers i = n.second in
+      absurd cc
 
   pub tree_over : (a : Syntax) (t : Tree) → tree_of scope a ≡ answers t → IsOver scope t
   tree_over a t e = let m = then_is (item_of scope a) (settled None) t e in

@@ -18,10 +18,10 @@ use Rattle.vortex_syntax.specs.declared.step.WrittenOperator as written
 use Rattle.vortex_syntax.specs.declared.step.LikeKind.{LikeKind}
 use Rattle.vortex_syntax.specs.declared.token.Sign.{Sign}
 use Rattle.vortex_syntax.specs.declared.token.Sign.TheVariants as sign
-use Rattle.vortex_syntax.specs.Tokens.{Token, name, nullable, quoted, number, text, sign}
+use Rattle.vortex_syntax.specs.Tokens.{Token, name, nullable, function, quoted, number, text, sign}
 use Rattle.vortex_syntax.specs.Syntax as tree
-use Rattle.vortex_syntax.specs.Syntax.{Syntax}
-use Rattle.vortex_syntax.specs.Levels.{Fits, level, is_operand, operand_level}
+use Rattle.vortex_syntax.specs.Syntax.{Syntax, Arguments}
+use Rattle.vortex_syntax.specs.Levels.{Fits, AllFit, level, is_operand, operand_level}
 use Rattle.vortex_syntax.specs.AnswerLists as syntax
 use Rattle.vortex_syntax.specs.AnswerLists.{is_name, SpellsAnswers, one, more, SpellsAnswer}
 use Rattle.vortex_syntax.proofs.Tables.{own_right, right_atom}
@@ -32,7 +32,7 @@ use Rattle.vortex_expressions.specs.Outcomes.{or_refuses}
 use Rattle.vortex_expressions.specs.Items.{Tree, Item, literal, bound, meaning, settled, all_settled}
 use Rattle.vortex_expressions.specs.Items.{constant_at, refused_at, call_of, called}
 use Rattle.vortex_expressions.specs.Calls as calls
-use Rattle.vortex_expressions.specs.Binding.{item_of, tree_of}
+use Rattle.vortex_expressions.specs.Binding.{item_of, items_of, tree_of}
 use Rattle.vortex_expressions.specs.Answers.{name_of, written_name, answer_of, answers_of}
 
 -- there is a result with P, or an error
@@ -159,6 +159,7 @@ module _ (scope : Fields) where
   sure_operand (name w) h =
       sure_then _ IsItem (calls.text_of w) _ (sure_text w) (λ v k. sure_field v (find_field v scope))
   sure_operand (nullable w) h = absurd cc
+  sure_operand (function w) h = absurd cc
   sure_operand (quoted w) h =
       sure_then _ IsItem (calls.between_quotes 34 w) _ (sure_quoted 34 w)
       (λ v k. sure_field v (find_field v scope))
@@ -183,6 +184,7 @@ module _ (scope : Fields) where
       → Sure IsLiteral (calls.operand_item scope t)
   literal_token (name w) h le = absurd (let k : ⊥ = omega (arith, le) in k)
   literal_token (nullable w) h le = absurd cc
+  literal_token (function w) h le = absurd cc
   literal_token (quoted w) h le = absurd (let k : ⊥ = omega (arith, le) in k)
   literal_token (number ds) h le =
       sure_then _ IsLiteral (calls.text_of ds) _ (sure_text ds) (λ v k. tt)
@@ -203,6 +205,8 @@ module _ (scope : Fields) where
   sure_literal (tree.between n a b c) f le = absurd (let k : ⊥ = omega (arith, le) in k)
   sure_literal (tree.matched k a p e) f le = absurd (let j : ⊥ = omega (arith, le) in j)
   sure_literal (tree.cast a w n) f le = absurd (let k : ⊥ = omega (arith, le) in k)
+  sure_literal (tree.nullary w) f le = absurd (let k : ⊥ = omega (arith, le) in k)
+  sure_literal (tree.applied w args a) f le = absurd (let k : ⊥ = omega (arith, le) in k)
 
   sure_typed : (w : List ℕ) (n : Bool) (i : Item) → IsLiteral i
       → Sure IsItem (calls.typed_item w n i)
@@ -259,34 +263,46 @@ module _ (scope : Fields) where
       sure_item _ (sure_then _ IsTyped (all_settled None (i ∷ [])) _
       (sure_all None (i ∷ []) (h, tt)) (λ ts j. sure_null n ts j.0 j.1))
 
-  pub sure : (t : Syntax) → Fits t → Sure IsItem (item_of scope t)
-  sure (tree.operand t) f = sure_operand t f
-  sure (tree.negative ds) f =
-      sure_then _ IsItem (calls.text_of (45 ∷ ds)) _ (sure_text (45 ∷ ds)) (λ v k. tt)
-  sure (tree.typed a w n) f =
-      sure_then IsLiteral IsItem (item_of scope a) _ (sure_literal a f.1 f.0)
-      (λ i h. sure_typed w n i h)
-  sure (tree.grouped a) f = sure a f
-  sure (tree.negated a) f =
-      sure_then IsItem IsItem (item_of scope a) _ (sure a f.1)
-      (λ i h. sure_item _ (sure_not calls.truth_type i h))
-  sure (tree.joined o a b) f =
-      sure_then IsItem IsItem (item_of scope a) _ (sure a f.2)
-      (λ x h. sure_then IsItem IsItem (item_of scope b) _ (sure b f.3)
-      (λ y k. sure_joined o x y h k))
-  sure (tree.tested n a) f =
-      sure_then IsItem IsItem (item_of scope a) _ (sure a f.1) (λ i h. sure_tested n i h)
-  sure (tree.between n a b c) f =
-      sure_then IsItem IsItem (item_of scope a) _ (sure a f.3)
-      (λ x h. sure_then IsItem IsItem (item_of scope b) _ (sure b f.4)
-      (λ y k. sure_then IsItem IsItem (item_of scope c) _ (sure c f.5)
-      (λ z j. sure_between n x y z h k j)))
-  sure (tree.matched l a p e) f =
-      sure_then IsItem IsItem (item_of scope a) _ (sure a f.2)
-      (λ x h. sure_then IsItem IsItem (item_of scope p) _ (sure p f.3)
-      (λ y k. sure_matched l e x y h k))
-  sure (tree.cast a w n) f =
-      sure_then IsItem IsItem (item_of scope a) _ (sure a f) (λ i h. sure_cast w n i h)
+  mutual
+    pub sure : (t : Syntax) → Fits t → Sure IsItem (item_of scope t)
+    sure (tree.operand t) f = sure_operand t f
+    sure (tree.negative ds) f =
+        sure_then _ IsItem (calls.text_of (45 ∷ ds)) _ (sure_text (45 ∷ ds)) (λ v k. tt)
+    sure (tree.typed a w n) f =
+        sure_then IsLiteral IsItem (item_of scope a) _ (sure_literal a f.1 f.0)
+        (λ i h. sure_typed w n i h)
+    sure (tree.grouped a) f = sure a f
+    sure (tree.negated a) f =
+        sure_then IsItem IsItem (item_of scope a) _ (sure a f.1)
+        (λ i h. sure_item _ (sure_not calls.truth_type i h))
+    sure (tree.joined o a b) f =
+        sure_then IsItem IsItem (item_of scope a) _ (sure a f.2)
+        (λ x h. sure_then IsItem IsItem (item_of scope b) _ (sure b f.3)
+        (λ y k. sure_joined o x y h k))
+    sure (tree.tested n a) f =
+        sure_then IsItem IsItem (item_of scope a) _ (sure a f.1) (λ i h. sure_tested n i h)
+    sure (tree.between n a b c) f =
+        sure_then IsItem IsItem (item_of scope a) _ (sure a f.3)
+        (λ x h. sure_then IsItem IsItem (item_of scope b) _ (sure b f.4)
+        (λ y k. sure_then IsItem IsItem (item_of scope c) _ (sure c f.5)
+        (λ z j. sure_between n x y z h k j)))
+    sure (tree.matched l a p e) f =
+        sure_then IsItem IsItem (item_of scope a) _ (sure a f.2)
+        (λ x h. sure_then IsItem IsItem (item_of scope p) _ (sure p f.3)
+        (λ y k. sure_matched l e x y h k))
+    sure (tree.cast a w n) f =
+        sure_then IsItem IsItem (item_of scope a) _ (sure a f) (λ i h. sure_cast w n i h)
+    sure (tree.nullary w) f = tt
+    sure (tree.applied w args a) f =
+        sure_then (λ is. Unit {0}) IsItem (items_of scope args) _ (sure_all_items args f.0)
+        (λ is h. sure_then IsItem IsItem (item_of scope a) _ (sure a f.1) (λ i k. tt))
+
+    sure_all_items : (args : Arguments) → AllFit args → Sure (λ is. Unit {0}) (items_of scope args)
+    sure_all_items tree.no_arguments f = tt
+    sure_all_items (tree.argument args a) f =
+        sure_then (λ is. Unit {0}) (λ is. Unit {0}) (items_of scope args) _
+        (sure_all_items args f.0)
+        (λ is h. sure_then IsItem (λ is. Unit {0}) (item_of scope a) _ (sure a f.1) (λ i k. tt))
 
   pub sure_tree : (t : Syntax) → Fits t → Sure IsTyped (tree_of scope t)
   sure_tree t f =

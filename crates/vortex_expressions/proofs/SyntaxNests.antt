@@ -10,12 +10,13 @@ use Rattle.vortex_syntax.specs.declared.token.Sign.TheVariants as sign
 use Rattle.vortex_syntax.specs.Tokens as token
 use Rattle.vortex_syntax.specs.Tokens.{Token, nullable, quoted, sign}
 use Rattle.vortex_syntax.specs.Syntax.{Syntax, operand, negative, typed, grouped, negated, joined}
-use Rattle.vortex_syntax.specs.Syntax.{tested, between, matched, cast}
-use Rattle.vortex_syntax.specs.Levels.{is_operand, Fits}
-use Rattle.vortex_syntax.specs.Spelling.{spelling, operator_sign, type_token, with_not, null_test}
-use Rattle.vortex_syntax.specs.Spelling.{like_sign, escape_tokens}
+use Rattle.vortex_syntax.specs.Syntax.{tested, between, matched, cast, nullary, applied, Arguments}
+use Rattle.vortex_syntax.specs.Syntax.{no_arguments, argument}
+use Rattle.vortex_syntax.specs.Levels.{is_operand, Fits, AllFit}
+use Rattle.vortex_syntax.specs.Spelling.{spelling, all_spelled, operator_sign, type_token, with_not}
+use Rattle.vortex_syntax.specs.Spelling.{null_test, like_sign, escape_tokens}
 use Rattle.vortex_syntax.specs.Nesting.{nests, nests_from}
-use Rattle.vortex_expressions.specs.WritingSteps.{nests_behind}
+use Rattle.vortex_expressions.specs.WritingSteps.{nests_behind, all_nest_behind}
 
 and_grouped : (a b c : Bool) → ((a && b) && c) ≡ (a && (b && c))
 and_grouped true b c = refl
@@ -25,6 +26,7 @@ operand_nests : (t : Token) (d : ℕ) (us : List Token) → is_operand t ≡ tru
     → nests_from d (t ∷ us) ≡ nests_from d us
 operand_nests (token.name w) d us h = refl
 operand_nests (nullable w) d us h = refl
+operand_nests (token.function w) d us h = absurd (false≢true h)
 operand_nests (quoted w) d us h = refl
 operand_nests (token.number ds) d us h = refl
 operand_nests (token.text bs) d us h = refl
@@ -76,67 +78,110 @@ escape_nests : (e : Option (List ℕ)) (d : ℕ) (us : List Token)
 escape_nests None d us = refl
 escape_nests (Some e) d us = refl
 
-pub nests_spelled : (a : Syntax) → Fits a → (d : ℕ) (us : List Token)
+-- a tree, and arguments
+abbrev NestsAs : Syntax → Type 0
+NestsAs a = (d : ℕ) (us : List Token)
     → nests_from d (spelling a ++ us) ≡ (nests_behind d a && nests_from d us)
-nests_spelled (operand t) f d us = operand_nests t d us f
-nests_spelled (negative ds) f d us = refl
-nests_spelled (typed a w n) f d us =
-    ap (nests_from d) (append_assoc (spelling a) (sign sign.Typed ∷ type_token w n ∷ []) us)
-    ∙ nests_spelled a f.1 d (sign sign.Typed ∷ type_token w n ∷ us)
-    ∙ ap (λ b. nests_behind d a && b) (type_nests w n d us)
-nests_spelled (grouped a) f d us =
-    ap (λ ts. nat_lt d nesting_limit && nests_from (suc d) ts)
-    (append_assoc (spelling a) (sign sign.Close ∷ []) us)
-    ∙ ap (λ b. nat_lt d nesting_limit && b) (nests_spelled a f (suc d) (sign sign.Close ∷ us))
-    ∙ sym (and_grouped (nat_lt d nesting_limit) (nests_behind (suc d) a) (nests_from d us))
-nests_spelled (negated a) f d us = nests_spelled a f.1 d us
-nests_spelled (joined o a b) f d us =
-    ap (nests_from d) (append_assoc (spelling a) (sign (operator_sign o) ∷ spelling b) us)
-    ∙ nests_spelled a f.2 d (sign (operator_sign o) ∷ (spelling b ++ us))
-    ∙ ap (λ v. nests_behind d a && v)
-    (operator_nests o d (spelling b ++ us) ∙ nests_spelled b f.3 d us)
-    ∙ sym (and_grouped (nests_behind d a) (nests_behind d b) (nests_from d us))
-nests_spelled (tested n a) f d us =
-    ap (nests_from d) (append_assoc (spelling a) (null_test n) us)
-    ∙ nests_spelled a f.1 d (null_test n ++ us)
-    ∙ ap (λ v. nests_behind d a && v) (null_nests n d us)
-nests_spelled (between n a low high) f d us =
-    let upper : List Token = spelling high ++ us in
-    let lower : List Token = spelling low ++ (sign sign.And ∷ upper) in
+
+abbrev AllNestAs : Arguments → Type 0
+AllNestAs args = (d : ℕ) (us : List Token)
+    → nests_from d (all_spelled args ++ us) ≡ (all_nest_behind d args && nests_from d us)
+
+argument_nests : (args : Arguments) (a : Syntax) → AllNestAs args → NestsAs a
+    → AllNestAs (argument args a)
+argument_nests args a h k = λ d us.
     ap (nests_from d)
-    (append_assoc (spelling a)
-    (with_not n sign.Between ++ (spelling low ++ (sign sign.And ∷ spelling high))) us
-    ∙ ap (λ ts. spelling a ++ ts)
-    (append_assoc (with_not n sign.Between)
-    (spelling low ++ (sign sign.And ∷ spelling high)) us)
-    ∙ ap (λ ts. spelling a ++ (with_not n sign.Between ++ ts))
-    (append_assoc (spelling low) (sign sign.And ∷ spelling high) us))
-    ∙ nests_spelled a f.3 d (with_not n sign.Between ++ lower)
-    ∙ ap (λ v. nests_behind d a && v)
-    (between_nests n d lower ∙ nests_spelled low f.4 d (sign sign.And ∷ upper)
-    ∙ ap (λ v. nests_behind d low && v) (nests_spelled high f.5 d us)
-    ∙ sym (and_grouped (nests_behind d low) (nests_behind d high) (nests_from d us)))
-    ∙ sym (and_grouped (nests_behind d a) (nests_behind d low && nests_behind d high)
-    (nests_from d us))
-nests_spelled (matched k a p e) f d us =
-    let last : List Token = escape_tokens e ++ us in
-    ap (nests_from d)
-    (append_assoc (spelling a) (like_sign k ++ (spelling p ++ escape_tokens e)) us
-    ∙ ap (λ ts. spelling a ++ ts) (append_assoc (like_sign k) (spelling p ++ escape_tokens e) us)
-    ∙ ap (λ ts. spelling a ++ (like_sign k ++ ts)) (append_assoc (spelling p) (escape_tokens e) us))
-    ∙ nests_spelled a f.2 d (like_sign k ++ (spelling p ++ last))
-    ∙ ap (λ v. nests_behind d a && v)
-    (like_nests k.negated k.case_insensitive d (spelling p ++ last) ∙ nests_spelled p f.3 d last
-    ∙ ap (λ v. nests_behind d p && v) (escape_nests e d us))
-    ∙ sym (and_grouped (nests_behind d a) (nests_behind d p) (nests_from d us))
-nests_spelled (cast a w n) f d us =
-    let last : List Token = sign sign.As ∷ type_token w n ∷ sign sign.Close ∷ us in
-    ap (λ ts. nat_lt d nesting_limit && nests_from (suc d) ts)
-    (append_assoc (spelling a) (sign sign.As ∷ type_token w n ∷ sign sign.Close ∷ []) us)
-    ∙ ap (λ b. nat_lt d nesting_limit && b)
-    (nests_spelled a f (suc d) last
-    ∙ ap (λ v. nests_behind (suc d) a && v) (type_nests w n (suc d) (sign sign.Close ∷ us)))
-    ∙ sym (and_grouped (nat_lt d nesting_limit) (nests_behind (suc d) a) (nests_from d us))
+    (append_assoc (all_spelled args) (spelling a ++ (sign sign.Comma ∷ [])) us
+    ∙ ap (λ ts. all_spelled args ++ ts) (append_assoc (spelling a) (sign sign.Comma ∷ []) us))
+    ∙ h d (spelling a ++ (sign sign.Comma ∷ us))
+    ∙ ap (λ b. all_nest_behind d args && b) (k d (sign sign.Comma ∷ us))
+    ∙ sym (and_grouped (all_nest_behind d args) (nests_behind d a) (nests_from d us))
+
+call_nests : (w : List ℕ) (args : Arguments) (a : Syntax) → AllNestAs args → NestsAs a
+    → NestsAs (applied w args a)
+call_nests w args a h k = λ d us.
+    let limit = nat_lt d nesting_limit in
+    let first = all_nest_behind (suc d) args in
+    let rest = nests_behind (suc d) a in
+    ap (λ ts. limit && nests_from (suc d) ts)
+    (append_assoc (all_spelled args) (spelling a ++ (sign sign.Close ∷ [])) us
+    ∙ ap (λ ts. all_spelled args ++ ts) (append_assoc (spelling a) (sign sign.Close ∷ []) us))
+    ∙ ap (λ b. limit && b)
+    (h (suc d) (spelling a ++ (sign sign.Close ∷ us))
+    ∙ ap (λ b. first && b) (k (suc d) (sign sign.Close ∷ us))
+    ∙ sym (and_grouped first rest (nests_from d us)))
+    ∙ sym (and_grouped limit (first && rest) (nests_from d us))
+
+mutual
+  pub nests_spelled : (a : Syntax) → Fits a → (d : ℕ) (us : List Token)
+      → nests_from d (spelling a ++ us) ≡ (nests_behind d a && nests_from d us)
+  nests_spelled (operand t) f d us = operand_nests t d us f
+  nests_spelled (negative ds) f d us = refl
+  nests_spelled (typed a w n) f d us =
+      ap (nests_from d) (append_assoc (spelling a) (sign sign.Typed ∷ type_token w n ∷ []) us)
+      ∙ nests_spelled a f.1 d (sign sign.Typed ∷ type_token w n ∷ us)
+      ∙ ap (λ b. nests_behind d a && b) (type_nests w n d us)
+  nests_spelled (grouped a) f d us =
+      ap (λ ts. nat_lt d nesting_limit && nests_from (suc d) ts)
+      (append_assoc (spelling a) (sign sign.Close ∷ []) us)
+      ∙ ap (λ b. nat_lt d nesting_limit && b) (nests_spelled a f (suc d) (sign sign.Close ∷ us))
+      ∙ sym (and_grouped (nat_lt d nesting_limit) (nests_behind (suc d) a) (nests_from d us))
+  nests_spelled (negated a) f d us = nests_spelled a f.1 d us
+  nests_spelled (joined o a b) f d us =
+      ap (nests_from d) (append_assoc (spelling a) (sign (operator_sign o) ∷ spelling b) us)
+      ∙ nests_spelled a f.2 d (sign (operator_sign o) ∷ (spelling b ++ us))
+      ∙ ap (λ v. nests_behind d a && v)
+      (operator_nests o d (spelling b ++ us) ∙ nests_spelled b f.3 d us)
+      ∙ sym (and_grouped (nests_behind d a) (nests_behind d b) (nests_from d us))
+  nests_spelled (tested n a) f d us =
+      ap (nests_from d) (append_assoc (spelling a) (null_test n) us)
+      ∙ nests_spelled a f.1 d (null_test n ++ us)
+      ∙ ap (λ v. nests_behind d a && v) (null_nests n d us)
+  nests_spelled (between n a low high) f d us =
+      let upper : List Token = spelling high ++ us in
+      let lower : List Token = spelling low ++ (sign sign.And ∷ upper) in
+      ap (nests_from d)
+      (append_assoc (spelling a)
+      (with_not n sign.Between ++ (spelling low ++ (sign sign.And ∷ spelling high))) us
+      ∙ ap (λ ts. spelling a ++ ts)
+      (append_assoc (with_not n sign.Between)
+      (spelling low ++ (sign sign.And ∷ spelling high)) us)
+      ∙ ap (λ ts. spelling a ++ (with_not n sign.Between ++ ts))
+      (append_assoc (spelling low) (sign sign.And ∷ spelling high) us))
+      ∙ nests_spelled a f.3 d (with_not n sign.Between ++ lower)
+      ∙ ap (λ v. nests_behind d a && v)
+      (between_nests n d lower ∙ nests_spelled low f.4 d (sign sign.And ∷ upper)
+      ∙ ap (λ v. nests_behind d low && v) (nests_spelled high f.5 d us)
+      ∙ sym (and_grouped (nests_behind d low) (nests_behind d high) (nests_from d us)))
+      ∙ sym (and_grouped (nests_behind d a) (nests_behind d low && nests_behind d high)
+      (nests_from d us))
+  nests_spelled (matched k a p e) f d us =
+      let last : List Token = escape_tokens e ++ us in
+      ap (nests_from d)
+      (append_assoc (spelling a) (like_sign k ++ (spelling p ++ escape_tokens e)) us
+      ∙ ap (λ ts. spelling a ++ ts) (append_assoc (like_sign k) (spelling p ++ escape_tokens e) us)
+      ∙ ap (λ ts. spelling a ++ (like_sign k ++ ts)) (append_assoc (spelling p) (escape_tokens e) us))
+      ∙ nests_spelled a f.2 d (like_sign k ++ (spelling p ++ last))
+      ∙ ap (λ v. nests_behind d a && v)
+      (like_nests k.negated k.case_insensitive d (spelling p ++ last) ∙ nests_spelled p f.3 d last
+      ∙ ap (λ v. nests_behind d p && v) (escape_nests e d us))
+      ∙ sym (and_grouped (nests_behind d a) (nests_behind d p) (nests_from d us))
+  nests_spelled (cast a w n) f d us =
+      let last : List Token = sign sign.As ∷ type_token w n ∷ sign sign.Close ∷ us in
+      ap (λ ts. nat_lt d nesting_limit && nests_from (suc d) ts)
+      (append_assoc (spelling a) (sign sign.As ∷ type_token w n ∷ sign sign.Close ∷ []) us)
+      ∙ ap (λ b. nat_lt d nesting_limit && b)
+      (nests_spelled a f (suc d) last
+      ∙ ap (λ v. nests_behind (suc d) a && v) (type_nests w n (suc d) (sign sign.Close ∷ us)))
+      ∙ sym (and_grouped (nat_lt d nesting_limit) (nests_behind (suc d) a) (nests_from d us))
+  nests_spelled (nullary w) f d us = refl
+  nests_spelled (applied w args a) f d us =
+      call_nests w args a (all_nest args f.0) (nests_spelled a f.1) d us
+
+  all_nest : (args : Arguments) → AllFit args → AllNestAs args
+  all_nest no_arguments f d us = refl
+  all_nest (argument args a) f d us =
+      argument_nests args a (all_nest args f.0) (nests_spelled a f.1) d us
 
 and_right : (b : Bool) → (b && true) ≡ b
 and_right true = refl

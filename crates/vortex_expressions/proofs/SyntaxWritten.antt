@@ -1,12 +1,16 @@
 -- The tokens of the syntax of a tree can be written.
-use Rattle.std.proofs.Common.{◌≡◌, ℕ, suc, ◌<◌, ◌^◌, Bool, true, false, List, [], ◌∷◌, ◌++◌, length}
-use Rattle.std.proofs.Common.{Option, Some, None, refl, subst, arith, ℤ, pos, negsuc}
+use Rattle.std.proofs.Common.{◌≡◌, ℕ, suc, ◌<◌, ◌==◌, ◌^◌, Bool, true, false, List, [], ◌∷◌, ◌++◌}
+use Rattle.std.proofs.Common.{length, Option, Some, None, refl, ap, sym, subst, ◌∙◌, arith, ℤ, pos}
+use Rattle.std.proofs.Common.{negsuc}
 use Rattle.std.specs.Prelude.{codes, nat_le, if◌then◌else◌, ◌≤ℤ◌}
 use Rattle.std.specs.List.{list_all}
 use Rattle.std.specs.Char.{is_ascii_digit}
 use Rattle.std.specs.Fmt.{decimal}
 use Rattle.std.proofs.lemmas.Fmt.{digits_decimal, decimal_nonempty}
 use Rattle.std.proofs.lemmas.Int.{ints}
+use Rattle.std.proofs.lemmas.List.{append-nil}
+use Rattle.std.proofs.lemmas.Bool.{and_parts}
+use Rattle.std.proofs.lemmas.Bool.Decides.{nat_tests}
 use Rattle.vortex_types.specs.declared.dtype.PType.{PType}
 use Rattle.vortex_types.specs.declared.dtype.PType.TheVariants.{I8, I16, I32, I64, U8, U16, U32}
 use Rattle.vortex_types.specs.declared.dtype.PType.TheVariants.{U64}
@@ -32,7 +36,10 @@ use Rattle.vortex_syntax.specs.Levels.{level, left, right, not_level, is_level, 
 use Rattle.vortex_syntax.specs.Spelling.{spelling, operator_sign, type_token, null_test, like_sign}
 use Rattle.vortex_syntax.specs.Spelling.{escape_tokens}
 use Rattle.vortex_syntax.specs.Keywords.{keyword_of}
-use Rattle.vortex_syntax.specs.Writing.{is_bare, is_word, are_digits, name_token, text_token}
+use Rattle.vortex_syntax.specs.declared.pieces.Run.TheVariants.{Digits}
+use Rattle.vortex_syntax.specs.Pieces.{behind, behind_fraction, behind_exponent, begins_number}
+use Rattle.vortex_syntax.specs.Writing.{is_bare, is_word, IsNumber, name_token, text_token}
+use Rattle.vortex_syntax.proofs.Runs.{behind_all}
 use Rattle.vortex_syntax.specs.Writing.{doubled, IsWritable, AllWritable}
 use Rattle.vortex_expressions.specs.Items.{Tree}
 use Rattle.vortex_expressions.specs.Writing.{at_level, value_syntax, type_name, is_own_type}
@@ -61,12 +68,21 @@ name_written w = by (is_bare w) refl
     by true h = h
     by false h = (w, refl)
 
-digits_written : (ds : List ℕ) → 0 < length ds → list_all is_ascii_digit ds ≡ true
-    → are_digits ds ≡ true
-digits_written [] some h = absurd (let k : ⊥ = omega (arith, some) in k)
-digits_written (d ∷ ds) some h = h
+no_point : (d : ℕ) → is_ascii_digit d ≡ true → (d == 46) ≡ false
+no_point d h = grind (arith, nat_tests)
 
-pub decimal_written : (n : ℕ) → n < 2 ^ 64 → are_digits (decimal n) ≡ true
+digits_written : (ds : List ℕ) → 0 < length ds → list_all is_ascii_digit ds ≡ true → IsNumber ds
+digits_written [] some h = absurd (let k : ⊥ = omega (arith, some) in k)
+digits_written (d ∷ ds) some h =
+    let first : is_ascii_digit d ≡ true =
+    (and_parts (is_ascii_digit d) (list_all is_ascii_digit ds) h).0 in
+    let other = no_point d first in
+    let begun : begins_number (d ∷ ds) ≡ true = rw other first in
+    let none : behind Digits (d ∷ ds) ≡ [] =
+    ap (behind Digits) (sym (append-nil (d ∷ ds))) ∙ behind_all Digits (d ∷ ds) [] h tt in
+    (begun, ap (λ ys. behind_exponent (behind_fraction ys)) none)
+
+pub decimal_written : (n : ℕ) → n < 2 ^ 64 → IsNumber (decimal n)
 decimal_written n h =
     digits_written (decimal n) (decimal_nonempty n h) (digits_decimal numbers.own n h)
 

@@ -21,7 +21,7 @@ use Rattle.vortex_syntax.specs.declared.step.WrittenOperator.TheVariants as writ
 use Rattle.vortex_syntax.specs.declared.step.LikeKind.{LikeKind}
 use Rattle.vortex_syntax.specs.declared.token.Sign.{Sign}
 use Rattle.vortex_syntax.specs.declared.token.Sign.TheVariants as sign
-use Rattle.vortex_syntax.specs.Tokens.{Token, name, nullable, quoted, number, text, sign}
+use Rattle.vortex_syntax.specs.Tokens.{Token, name, nullable, function, quoted, number, text, sign}
 use Rattle.vortex_expressions.specs.declared.refusal.Refusal.TheVariants.{NotUtf8, UnknownType}
 use Rattle.vortex_expressions.specs.declared.refusal.Refusal.TheVariants.{NoCast, NoEscape, Binding}
 use Rattle.vortex_expressions.specs.Literals as literal
@@ -72,6 +72,7 @@ text_item bs = answers (literal (literal.text bs))
 abbrev pub operand_item : Fields → Token → Outcome Item
 operand_item scope (name w) = and_then (text_of w) (column_of scope)
 operand_item scope (nullable w) = missing
+operand_item scope (function w) = missing
 operand_item scope (quoted w) = and_then (between_quotes 34 w) (column_of scope)
 operand_item scope (number ds) = and_then (text_of ds) (λ w. answers (literal (literal.number w)))
 operand_item scope (text bs) = and_then (between_quotes 39 bs) text_item

@@ -3,9 +3,11 @@ use Rattle.std.specs.Prelude.{List, [], ◌∷◌, true, false, None, Some, map,
 use Rattle.vortex_types.specs.LogicalTypes.{Fields}
 use Rattle.vortex_syntax.specs.declared.step.Call.{Call}
 use Rattle.vortex_syntax.specs.declared.step.Call.TheVariants as call
-use Rattle.vortex_syntax.specs.Postfix.{Step, operand, negative, typed, cast, escaped, called}
+use Rattle.vortex_syntax.specs.Postfix.{Step, operand, negative, typed, cast, escaped, applied}
+use Rattle.vortex_syntax.specs.Postfix.{called}
 use Rattle.vortex_expressions.specs.declared.item.Item as held
-use Rattle.vortex_expressions.specs.Outcomes.{Outcome, answers, missing, and_then}
+use Rattle.vortex_expressions.specs.declared.refusal.Refusal.TheVariants.{NoFunction}
+use Rattle.vortex_expressions.specs.Outcomes.{Outcome, answers, refuses, missing, and_then}
 use Rattle.vortex_expressions.specs.Items.{Item, item_in, Tree, settled}
 use Rattle.vortex_expressions.specs.Calls.{operand_item, negative_item, typed_item, cast_item}
 use Rattle.vortex_expressions.specs.Calls.{not_item, joined_item, tested_item, between_item}
@@ -46,6 +48,7 @@ module _ (scope : Fields) where
   stepped (typed w n) st = with_one (typed_item w n) st
   stepped (cast w n) st = with_one (cast_item w n) st
   stepped (escaped k e) st = with_two (matched_item k (Some e)) st
+  stepped (applied w n) st = refuses NoFunction
   stepped (called c) st = call_made c st
 
   unfoldable pub run : List Step → List Item → Outcome (List Item)

@@ -20,7 +20,8 @@ use Rattle.vortex_syntax.specs.declared.token.Sign.TheVariants as sign
 use Rattle.vortex_syntax.specs.declared.writing.Writer.{Writer}
 use Rattle.vortex_syntax.specs.Tokens.{Token, nullable, sign}
 use Rattle.vortex_syntax.specs.Syntax.{Syntax, operand, negative, typed, grouped, negated, joined}
-use Rattle.vortex_syntax.specs.Syntax.{tested, between, matched, cast}
+use Rattle.vortex_syntax.specs.Syntax.{tested, between, matched, cast, nullary, applied, Arguments}
+use Rattle.vortex_syntax.specs.Syntax.{no_arguments, argument}
 use Rattle.vortex_syntax.specs.Levels.{own, left, right, not_level, is_level, predicate_level}
 use Rattle.vortex_syntax.specs.Levels.{sum_level, atom_level, literal_level}
 use Rattle.vortex_syntax.specs.Spelling.{spelling, operator_sign, null_test, like_sign}
@@ -57,18 +58,26 @@ tree_level (call f ts) = function_level f
 tree_level t = leaf_level t
 
 -- inside that many open brackets, its own nest no deeper than allowed
-abbrev pub nests_behind : ℕ → Syntax → Bool
-nests_behind d (operand t) = true
-nests_behind d (negative ds) = true
-nests_behind d (typed a w n) = nests_behind d a
-nests_behind d (grouped a) = nat_lt d nesting_limit && nests_behind (suc d) a
-nests_behind d (negated a) = nests_behind d a
-nests_behind d (joined o a b) = nests_behind d a && nests_behind d b
-nests_behind d (tested n a) = nests_behind d a
-nests_behind d (between n a low high) =
-    nests_behind d a && (nests_behind d low && nests_behind d high)
-nests_behind d (matched k a p e) = nests_behind d a && nests_behind d p
-nests_behind d (cast a w n) = nat_lt d nesting_limit && nests_behind (suc d) a
+abbrev mutual
+  pub nests_behind : ℕ → Syntax → Bool
+  nests_behind d (operand t) = true
+  nests_behind d (negative ds) = true
+  nests_behind d (typed a w n) = nests_behind d a
+  nests_behind d (grouped a) = nat_lt d nesting_limit && nests_behind (suc d) a
+  nests_behind d (negated a) = nests_behind d a
+  nests_behind d (joined o a b) = nests_behind d a && nests_behind d b
+  nests_behind d (tested n a) = nests_behind d a
+  nests_behind d (between n a low high) =
+      nests_behind d a && (nests_behind d low && nests_behind d high)
+  nests_behind d (matched k a p e) = nests_behind d a && nests_behind d p
+  nests_behind d (cast a w n) = nat_lt d nesting_limit && nests_behind (suc d) a
+  nests_behind d (nullary w) = nat_lt d nesting_limit
+  nests_behind d (applied w args a) =
+      nat_lt d nesting_limit && (all_nest_behind (suc d) args && nests_behind (suc d) a)
+
+  pub all_nest_behind : ℕ → Arguments → Bool
+  all_nest_behind d no_arguments = true
+  all_nest_behind d (argument args a) = all_nest_behind d args && nests_behind d a
 
 abbrev pub tokens_behind : ℕ → Syntax → Option (List Token)
 tokens_behind d a = if nests_behind d a then Some (spelling a) else None

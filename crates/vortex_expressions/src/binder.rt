@@ -15,7 +15,7 @@ use crate::calls::{
     tested_item, typed_item,
 };
 use crate::item::Item;
-use crate::refusal::BindStop;
+use crate::refusal::{BindStop, Refusal};
 use std::alloc::Global;
 use vortex_columns::StructFields;
 use vortex_functions::{BoundExpression, NoCustom};
@@ -114,6 +114,7 @@ impl Stack {
                 self.push(cast_item(alloc, name, is_nullable, item)?)
             }
             Step::Escaped(kind, escape) => self.like(alloc, kind, Some(escape)),
+            Step::Apply(_, _) => Err(BindStop::Refused(Refusal::NoFunction)),
             Step::Call(call) => self.call(alloc, call),
         }
     }

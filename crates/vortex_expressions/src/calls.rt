@@ -65,7 +65,7 @@ pub(crate) fn operand_item(
             Ok(Item::Literal(Literal::Text(text)))
         }
         Token::Sign(sign) => sign_item(sign),
-        Token::Nullable(_) => Err(BindStop::Missing),
+        Token::Nullable(_) | Token::Function(_) => Err(BindStop::Missing),
     }
 }
 

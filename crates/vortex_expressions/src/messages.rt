@@ -4,8 +4,9 @@ ghost use Rattle.vortex_expressions.specs.Reading.{is_want_of_memory, ToldAt, Un
 
 use crate::binder::{Stopped, operands};
 use crate::error::{Reason, TextError};
+use crate::forms::function_text;
 use crate::item::{Item, common_type};
-use crate::literal::Literal;
+use crate::item_texts::{is_fraction, push_fraction, push_literal, push_types};
 use crate::quotes::unquoted;
 use crate::refusal::{BindStop, Refusal};
 use crate::words::{found_at, line_and_column, nearest, nearest_keyword};
@@ -66,9 +67,9 @@ fn token_text(alloc: Global, text: &str, byte: usize) -> VortexResult<String> {
     let found = found_at(text, byte);
     let told = match bytes_at(text, byte) {
         (_, Some(b'\'' | b'"')) => format!(in alloc; "a quote is not closed")?,
-        (Some(b'0'..=b'9'), Some(b'.')) => {
-            format!(in alloc; "numbers are whole, without {found}")?
-        }
+        (_, Some(b'.')) => format!(in alloc;
+            "found {found}; write a name with dots in double quotes"
+        )?,
         (_, Some(b'0'..=b'9')) => format!(in alloc;
             "{found} is no number; write a name that begins with a digit in double quotes"
         )?,
@@ -97,6 +98,7 @@ fn is_operator(expected: Expected) -> bool {
         Expected::OperatorOrEnd
             | Expected::OperatorOrName
             | Expected::OperatorOrClose
+            | Expected::OperatorOrComma
             | Expected::OperatorOrAs
             | Expected::OperatorOrAnd
             | Expected::PredicateWord
@@ -114,6 +116,11 @@ fn unexpected_text(
     if is_operator(expected) {
         if let Some(word) = nearest_keyword(alloc, text, byte)? {
             return Ok(format!(in alloc; "found {found}, expected {expected}; is {word} meant?")?);
+        }
+        if let (Some(b' '), Some(b'(')) = bytes_at(text, byte) {
+            return Ok(format!(in alloc;
+                "found {found}, expected {expected}; a function's bracket follows its name directly"
+            )?);
         }
     }
     let meant = sign_meant(text, byte);
@@ -149,51 +156,12 @@ pub(crate) fn unread(alloc: Global, text: &str, error: SyntaxError) -> TextError
 fn operand_count(step: Option<&Step<'_>>) -> usize {
     match step {
         Some(Step::Operand(_)) | Some(Step::Negative(_)) => 0,
+        Some(Step::Apply(_, count)) => *count,
         Some(Step::Call(Call::Join(_))) | Some(Step::Call(Call::Like(_))) => 2,
         Some(Step::Escaped(_, _)) => 2,
         Some(Step::Call(Call::Between(_))) => 3,
         _ => 1,
     }
-}
-
-/// A literal, as written.
-fn push_literal(out: &mut String, literal: &Literal) -> VortexResult<()> {
-    match literal {
-        Literal::Number(word) => out.push_str(word.as_str())?,
-        Literal::Text(text) => {
-            let text = text.as_str();
-            write!(out, "{text:?}")?
-        }
-        Literal::Truth(truth) => write!(out, "{truth}")?,
-        Literal::Null => out.push_str("null")?,
-    }
-    Ok(())
-}
-
-/// The type of an item, or that it is a null without one.
-fn push_type(out: &mut String, item: &Item) -> VortexResult<()> {
-    match item {
-        Item::Bound(tree) => tree.dtype().write_text(out),
-        Item::Literal(literal) => match literal.own_type() {
-            Some(dtype) => dtype.write_text(out),
-            None => push_literal(out, literal),
-        },
-    }
-}
-
-/// The types of items, with commas and an `and`.
-fn push_types(out: &mut String, items: &[Item]) -> VortexResult<()> {
-    for (place, item) in items.iter().enumerate() {
-        if place > 0 {
-            out.push_str(if place + 1 < items.len() {
-                ", "
-            } else {
-                " and "
-            })?;
-        }
-        push_type(out, item)?;
-    }
-    Ok(())
 }
 
 /// What a call accepts that does not accept types at that place.
@@ -264,6 +232,9 @@ fn push_unheld(out: &mut String, alloc: Global, items: &[Item]) -> VortexResult<
             continue;
         };
         if literal.value_at(alloc, dtype.try_clone(alloc)?)?.is_none() {
+            if is_fraction(literal) {
+                return push_fraction(out, literal);
+            }
             push_literal(out, literal)?;
             out.push_str(" is no ")?;
             return dtype.write_text(out);
@@ -276,6 +247,9 @@ fn push_unheld(out: &mut String, alloc: Global, items: &[Item]) -> VortexResult<
 /// The literal that has no value in the type after it.
 fn push_untyped(out: &mut String, name: &[u8], items: &[Item]) -> VortexResult<()> {
     if let Some(Item::Literal(literal)) = items.last() {
+        if is_fraction(literal) {
+            return push_fraction(out, literal);
+        }
         push_literal(out, literal)?;
     }
     let name = str::from_utf8(name).unwrap_or("");
@@ -351,6 +325,7 @@ impl<'a> TextFailure<'a> {
                     "no type {found}; types are bool, utf8, i8, i16, i32, i64, u8, u16, u32 and u64, with ? where they have null"
                 )?);
             }
+            Refusal::NoFunction => return function_text(alloc, self.tree.steps.get(self.step)),
             Refusal::NotUtf8 => "a text is not UTF-8",
             Refusal::UntypedNull => "null has no type here; give it one, as null::i64?",
             Refusal::NoEscape => "an escape is one character, or none",

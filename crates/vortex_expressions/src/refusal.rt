@@ -23,6 +23,8 @@ pub enum Refusal {
     NoEscape,
     /// No cast leads to that type.
     NoCast,
+    /// No function has that name.
+    NoFunction,
     /// The scope has no such column (E11), a function does not accept the types (E3), or an
     /// allocation fails (E9).
     Binding(VortexError),

@@ -138,6 +138,27 @@ module _ {V O : Type 0} (m : Meaning V O) where
             (call_answers m cs n (ours (Binary op)) (left ∷ right ∷ []) ds k r both_have
             (type_is k typed) a)
 
+      -- the whole has a value where the left operand has one and the right one too
+      pub value_at : (k : LogicalType) → Settled m cs n right → tree_type m t ≡ Some k → (i : ℕ)
+          → i < n → GivesValue (eval m cs t i)
+      value_at k values typed i lt =
+          let v = value_in (eval m cs right i) (values i lt) in
+          let is =
+          eval_bool m cs i op left right (row c.rows i) v.0 j.boolean (h.each i lt) v.1 in
+          subst (λ (x : trees.Tree V O). GivesValue (eval m cs x i)) (sym j.is)
+          (subst GivesValue (sym is) tt)
+
+      -- a row in which the left operand decides
+      pub decided_at : (b : Bool) (k : LogicalType) → decides op b ≡ true → Settled m cs n right
+          → tree_type m t ≡ Some k → (i : ℕ) → i < n → row c.rows i ≡ truth b
+          → eval m cs t i ≡ gives (truth b)
+      decided_at b k decides_all values typed i lt is =
+          let v = value_in (eval m cs right i) (values i lt) in
+          let here = h.each i lt ∙ ap gives is in
+          subst (λ (x : trees.Tree V O). eval m cs x i ≡ gives (truth b)) (sym j.is)
+          (eval_bool m cs i op left right (truth b) v.0 j.boolean here v.1
+          ∙ ap gives (ap truth_or_null (left_decides op b (truth_of v.0) decides_all)))
+
       -- where each row of the left operand decides and the right one has a value, whichever
       pub decided : (b : Bool) (d : ColumnView) (k : LogicalType) (nullable : Bool)
           → decides op b ≡ true → IsTruth b c → Settled m cs n right → tree_type m t ≡ Some k

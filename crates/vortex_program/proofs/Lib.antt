@@ -1,12 +1,15 @@
 pub mod Agreeing
 pub mod Answered
 pub mod BitRuns
+pub mod CodedRows
 pub mod Decided
 pub mod Faulty
+pub mod Fitting
 pub mod Faultless
 pub mod Keeping
 pub mod NamedTrees
 pub mod Flattened
+pub mod Opened
 pub mod Optimized
 pub mod Parsing
 pub mod ReadColumns

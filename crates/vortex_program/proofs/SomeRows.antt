@@ -21,48 +21,61 @@ use Rattle.vortex_interface.proofs.FaultyRows.{fault_row}
 use Rattle.vortex_program.specs.declared.answer.Answer as named
 use Rattle.vortex_program.specs.Programs.{trees_of}
 use Rattle.vortex_program.specs.Reads.{Reads, AnyReads, AreRead, BothAt, BothWhere}
-use Rattle.vortex_program.specs.Rows.{HasRows, HaveRows, IsMarked}
+use Rattle.vortex_program.specs.Rows.{HasRowsAt, HaveRows, IsMarked, from}
 use Rattle.vortex_program.specs.Executing.{FaultsAt, AllGive, AllGiveWithin, AllFit}
 use Rattle.vortex_program.proofs.Agreeing.{ReadsIn, where_first, where_later, leaves_fit}
 use Rattle.vortex_program.proofs.Answered.{all_cons}
 
-module _ (first count : ℕ) (cs ds : List ColumnView) where
+module _ (at : ℕ → ℕ) (count : ℕ) (cs ds : List ColumnView) where
   -- columns of which the second have rows of the first, where they are of a kind
-  abbrev pub HasWhere : (ℕ → Type 0) → Type 0
-  HasWhere P = BothWhere P (HasRows first count) cs ds
+  abbrev pub HasWhereAt : (ℕ → Type 0) → Type 0
+  HasWhereAt P = BothWhere P (HasRowsAt at count) cs ds
 
-  place_row : (a b : Option ColumnView) → BothAt (HasRows first count) a b → (j : ℕ) → j < count
-      → row (rows_or_none b) j ≡ row (rows_or_none a) (first + j)
+  place_row : (a b : Option ColumnView) → BothAt (HasRowsAt at count) a b → (j : ℕ) → j < count
+      → row (rows_or_none b) j ≡ row (rows_or_none a) (at j)
   place_row None None h j lt = refl
   place_row None (Some d) h j lt = absurd h
   place_row (Some c) None h j lt = absurd h
   place_row (Some c) (Some d) h j lt = h.each j lt
 
   module _ {V O : Type 0} where
-    pub leaves_fit_there : (t : Tree V O) → HasWhere (λ k. Reads k t) → LeavesFit cs t
+    pub leaves_fit_at : (t : Tree V O) → HasWhereAt (λ k. Reads k t) → LeavesFit cs t
         → LeavesFit ds t
-    leaves_fit_there t have fit =
-        leaves_fit (HasRows first count) cs ds (λ c d h. h.dtype) t have fit
+    leaves_fit_at t have fit =
+        leaves_fit (HasRowsAt at count) cs ds (λ c d h. h.dtype) t have fit
 
     module _ (m : Meaning V O) (j : ℕ) (lt : j < count) where
       mutual
-        pub row_is : (t : Tree V O) → IsBound t → HasWhere (λ k. Reads k t)
-            → eval m ds t j ≡ eval m cs t (first + j)
-        row_is (leaf (place p name t)) h have =
+        pub row_is_at : (t : Tree V O) → IsBound t → HasWhereAt (λ k. Reads k t)
+            → eval m ds t j ≡ eval m cs t (at j)
+        row_is_at (leaf (place p name t)) h have =
             ap gives (place_row (slice_get cs p) (slice_get ds p) (have p (name, t, refl)) j lt)
-        row_is (leaf (held c)) h have = absurd h
-        row_is (constant s) h have = refl
-        row_is (call f ts) h have =
+        row_is_at (leaf (held c)) h have = absurd h
+        row_is_at (constant s) h have = refl
+        row_is_at (call f ts) h have =
             ap (then_means (function_means m f (types_or_none (tree_types m ts))))
-            (rows_are ts h have)
+            (rows_are_at ts h have)
 
-        rows_are : (ts : Trees V O) → AllBound ts → HasWhere (λ k. ReadsIn k ts)
-            → eval_all m ds ts j ≡ eval_all m cs ts (first + j)
-        rows_are no_trees h have = refl
-        rows_are (tree t ts) h have =
+        rows_are_at : (ts : Trees V O) → AllBound ts → HasWhereAt (λ k. ReadsIn k ts)
+            → eval_all m ds ts j ≡ eval_all m cs ts (at j)
+        rows_are_at no_trees h have = refl
+        rows_are_at (tree t ts) h have =
             λ i. with_first
-            (row_is t h.0 (where_first (HasRows first count) cs ds t ts have) i)
-            (rows_are ts h.1 (where_later (HasRows first count) cs ds t ts have) i)
+            (row_is_at t h.0 (where_first (HasRowsAt at count) cs ds t ts have) i)
+            (rows_are_at ts h.1 (where_later (HasRowsAt at count) cs ds t ts have) i)
+
+-- the same of the rows from the first on
+abbrev pub HasWhere : ℕ → ℕ → List ColumnView → List ColumnView → (ℕ → Type 0) → Type 0
+HasWhere first count = HasWhereAt (from first) count
+
+pub row_is : {V O : Type 0} (first count : ℕ) (cs ds : List ColumnView) (m : Meaning V O) (j : ℕ)
+    → j < count → (t : Tree V O) → IsBound t → HasWhere first count cs ds (λ k. Reads k t)
+    → eval m ds t j ≡ eval m cs t (first + j)
+row_is first count cs ds = row_is_at (from first) count cs ds
+
+pub leaves_fit_there : {V O : Type 0} (first count : ℕ) (cs ds : List ColumnView) (t : Tree V O)
+    → HasWhere first count cs ds (λ k. Reads k t) → LeavesFit cs t → LeavesFit ds t
+leaves_fit_there first count cs ds = leaves_fit_at (from first) count cs ds
 
 gives_here : (x : Outcome) → GivesValue x → (inputs : Inputs) (f : Fault) → inputs ≡ one_faults f
     → with_first x inputs ≡ one_faults f
@@ -106,7 +119,7 @@ module _ {V O : Type 0} (m : Meaning V O) (cs ds : List ColumnView) (first : ℕ
     gives_there : (c : ColumnView) → HasTreeRows m ds count t c → (j : ℕ) → j < count
         → GivesValue (eval m cs t (first + j))
     gives_there c h j lt =
-        subst GivesValue (sym (h.each j lt) ∙ row_is first count cs ds m j lt t bound have) tt
+        subst GivesValue (sym (h.each j lt) ∙ row_is_at (from first) count cs ds m j lt t bound have) tt
 
     pub gives_within : (c : ColumnView) → HasTreeRows m ds count t c → (i : ℕ) → first ≤ i
         → i < first + count → GivesValue (eval m cs t i)
@@ -120,7 +133,7 @@ module _ {V O : Type 0} (m : Meaning V O) (cs ds : List ColumnView) (first : ℕ
         → (j : ℕ) × (j < count) × (f : Fault) × (eval m cs t (first + j) ≡ faults f)
     some_faults e k =
         let h = fault_row m ds count t e k in
-        (h.0, h.1, h.2, sym (row_is first count cs ds m h.0 h.1 t bound have) ∙ h.3)
+        (h.0, h.1, h.2, sym (row_is_at (from first) count cs ds m h.0 h.1 t bound have) ∙ h.3)
 
   module _ (have : HasWhere first 1 cs ds (λ k. Reads k t)) where
     -- for one row it is the fault
@@ -130,7 +143,7 @@ module _ {V O : Type 0} (m : Meaning V O) (cs ds : List ColumnView) (first : ℕ
         record {
           fault = h.0;
           here = ap (eval m cs t) (sym (add-zero first))
-              ∙ sym (row_is first 1 cs ds m 0 (omega arith) t bound have) ∙ h.1;
+              ∙ sym (row_is_at (from first) 1 cs ds m 0 (omega arith) t bound have) ∙ h.1;
           told = h.2;
         }
 

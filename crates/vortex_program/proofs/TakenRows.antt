@@ -7,7 +7,7 @@ use Rattle.std.proofs.Common.{inl, inr}
 use Rattle.std.specs.Prelude.{◌⊎◌, All, slice_get, slice_index_or}
 use Rattle.std.specs.List.{range_with_len}
 use Rattle.std.proofs.Math.Nat.{add-zero}
-use Rattle.std.proofs.lemmas.List.{get_or-map, get_or_default}
+use Rattle.std.proofs.lemmas.List.{get_or-map, get_or_default, length-map}
 use Rattle.std.proofs.lemmas.List.FromFn.{length-range_with_len, get_or-range_with_len}
 use Rattle.std.proofs.lemmas.List.FromFn.{length-map-range_with_len}
 use Rattle.vortex_types.specs.Values.{null}
@@ -16,7 +16,8 @@ use Rattle.vortex_columns.specs.ColumnView.{null_column}
 use Rattle.vortex_columns.specs.Taken.{IsTaken}
 use Rattle.vortex_interface.specs.Execution.{other_length}
 use Rattle.vortex_program.specs.Reads.{BothAt}
-use Rattle.vortex_program.specs.Rows.{HasRows, HaveRows, IsMarked, IsPart}
+use Rattle.vortex_program.specs.Rows.{HasRowsAt, HaveRowsAt, IsPartAt, IsMarked}
+use Rattle.vortex_program.specs.Rows.{HasRows, IsPart, from, numbered}
 
 -- one row, as a constant
 pub one_row_has : (i : ℕ) (c d : ColumnView) → d ≡ constant_column (scalar_in c i) 1
@@ -55,55 +56,69 @@ taken_has first count c d h = record {
 pub nulls_counted : (n : ℕ) → length (null_column n).rows ≡ n
 nulls_counted n = length-map-range_with_len (λ i. null) 0 n
 
--- of a column that is read its rows, and of another nulls
-pub read_part : (first count : ℕ) (read : Bool) (c d : ColumnView) → HasRows first count c d
-    → IsPart read first count c d
-read_part first count read c d h = record { counted = h.counted; rows = λ marked. h }
+-- rows that were taken by their numbers
+pub taken_at : (numbers : List ℕ) (c d : ColumnView) → IsTaken c numbers d
+    → HasRowsAt (numbered numbers) (length numbers) c d
+taken_at numbers c d h = record {
+  dtype = h.dtype;
+  counted = ap length h.rows ∙ length-map numbers (row c.rows);
+  each = λ j lt. ap (λ rows. row rows j) h.rows ∙ get_or-map (row c.rows) numbers j 0 null lt;
+}
 
-pub other_part : (first count : ℕ) (read : Bool) (c d : ColumnView) → read ≡ false
-    → d ≡ null_column count → IsPart read first count c d
-other_part first count read c d unread nulls = record {
+-- of a column that is read its rows, and of another nulls
+pub read_part_at : (at : ℕ → ℕ) (count : ℕ) (read : Bool) (c d : ColumnView)
+    → HasRowsAt at count c d → IsPartAt read at count c d
+read_part_at at count read c d h = record { counted = h.counted; rows = λ marked. h }
+
+pub other_part_at : (at : ℕ → ℕ) (count : ℕ) (read : Bool) (c d : ColumnView) → read ≡ false
+    → d ≡ null_column count → IsPartAt read at count c d
+other_part_at at count read c d unread nulls = record {
   counted = ap (λ (x : ColumnView). length x.rows) nulls ∙ nulls_counted count;
   rows = λ marked. let both : false ≡ true = sym unread ∙ marked in cc;
 }
 
+-- the same of the rows from the first on
+pub other_part : (first count : ℕ) (read : Bool) (c d : ColumnView) → read ≡ false
+    → d ≡ null_column count → IsPart read first count c d
+other_part first count = other_part_at (from first) count
+
 -- numbers that are asked of more than one row
-pub numbered : (first count : ℕ) (numbers : List ℕ)
+pub several_numbered : (first count : ℕ) (numbers : List ℕ)
     → (count ≡ 1) ⊎ (numbers ≡ range_with_len first count) → (count ≡ 1 → ⊥)
     → numbers ≡ range_with_len first count
-numbered first count numbers (inl one) several = absurd (several one)
-numbered first count numbers (inr are) several = are
+several_numbered first count numbers (inl one) several = absurd (several one)
+several_numbered first count numbers (inr are) several = are
 
-module _ (first count : ℕ) (read : List Bool) where
+module _ (at : ℕ → ℕ) (count : ℕ) (read : List Bool) where
   -- so it is with columns from that place on
   abbrev pub ArePartsFrom : ℕ → List ColumnView → List ColumnView → Type 0
   ArePartsFrom i [] [] = Unit {0}
   ArePartsFrom i [] (d ∷ ds) = ⊥
   ArePartsFrom i (c ∷ cs) [] = ⊥
   ArePartsFrom i (c ∷ cs) (d ∷ ds) =
-      IsPart (slice_index_or read i false) first count c d × ArePartsFrom (suc i) cs ds
+      IsPartAt (slice_index_or read i false) at count c d × ArePartsFrom (suc i) cs ds
 
   -- the columns so far, and one column more
   pub part_more : (cs ds : List ColumnView) (k j : ℕ) (c d : ColumnView) → j ≡ suc k
       → k < length cs → c ≡ get_or cs k c → ArePartsFrom 0 (take k cs) ds
-      → (e : Bool) → k < length read → IsPart (slice_index_or read k e) first count c d
+      → (e : Bool) → k < length read → IsPartAt (slice_index_or read k e) at count c d
       → ArePartsFrom 0 (take j cs) (ds ++ d ∷ [])
-  part_more cs ds k j c d next lt at h e there is =
+  part_more cs ds k j c d next lt here_is h e there is =
       let here : k ≡ 0 + k = omega arith in
       let same = get_or_default read k e false there in
       subst (λ (n : ℕ). ArePartsFrom 0 (take n cs) (ds ++ d ∷ [])) (sym next)
-      (go cs ds k 0 lt at h
-      (subst (λ (n : ℕ). IsPart (slice_index_or read n false) first count c d) here
-      (subst (λ (x : Bool). IsPart x first count c d) same is)))
+      (go cs ds k 0 lt here_is h
+      (subst (λ (n : ℕ). IsPartAt (slice_index_or read n false) at count c d) here
+      (subst (λ (x : Bool). IsPartAt x at count c d) same is)))
     where
       go : (xs os : List ColumnView) (l i : ℕ) → l < length xs → c ≡ get_or xs l c
           → ArePartsFrom i (take l xs) os
-          → IsPart (slice_index_or read (i + l) false) first count c d
+          → IsPartAt (slice_index_or read (i + l) false) at count c d
           → ArePartsFrom i (take (suc l) xs) (os ++ d ∷ [])
       go [] os l i below there so_far here = absurd (omega (arith, below))
       go (x ∷ xs) [] zero i below there so_far here = (
-        subst (λ (y : ColumnView). IsPart (slice_index_or read i false) first count y d) there
-            (subst (λ (n : ℕ). IsPart (slice_index_or read n false) first count c d) (add-zero i)
+        subst (λ (y : ColumnView). IsPartAt (slice_index_or read i false) at count y d) there
+            (subst (λ (n : ℕ). IsPartAt (slice_index_or read n false) at count c d) (add-zero i)
             here),
         tt,
       )
@@ -113,7 +128,7 @@ module _ (first count : ℕ) (read : List Bool) where
           let moved : i + suc l ≡ suc i + l = omega arith in (
             so_far.0,
             go xs os l (suc i) (omega (arith, below)) there so_far.1
-                (subst (λ (n : ℕ). IsPart (slice_index_or read n false) first count c d) moved here),
+                (subst (λ (n : ℕ). IsPartAt (slice_index_or read n false) at count c d) moved here),
           )
 
   even_parts : (i : ℕ) (cs ds : List ColumnView) → ArePartsFrom i cs ds
@@ -127,7 +142,7 @@ module _ (first count : ℕ) (read : List Bool) where
 
   parts_at : (i : ℕ) (cs ds : List ColumnView) → ArePartsFrom i cs ds → (k : ℕ)
       → (k < length cs → IsTrue (slice_index_or read (i + k) false))
-      → BothAt (HasRows first count) (slice_get cs k) (slice_get ds k)
+      → BothAt (HasRowsAt at count) (slice_get cs k) (slice_get ds k)
   parts_at i [] [] h k marked = tt
   parts_at i [] (d ∷ ds) h k marked = absurd h
   parts_at i (c ∷ cs) [] h k marked = absurd h
@@ -143,7 +158,7 @@ module _ (first count : ℕ) (read : List Bool) where
       (marked (omega (arith, lt))))
 
   pub parts_have : (cs ds : List ColumnView) → ArePartsFrom 0 cs ds
-      → HaveRows (IsMarked read cs) first count cs ds
+      → HaveRowsAt (IsMarked read cs) at count cs ds
   parts_have cs ds h = record {
     even = even_parts 0 cs ds h;
     each = λ k marked.
@@ -154,7 +169,7 @@ module _ (first count : ℕ) (read : List Bool) where
 
   -- all columns
   pub all_parts : (cs ds : List ColumnView) (k : ℕ) → length cs ≤ k
-      → ArePartsFrom 0 (take k cs) ds → HaveRows (IsMarked read cs) first count cs ds
+      → ArePartsFrom 0 (take k cs) ds → HaveRowsAt (IsMarked read cs) at count cs ds
   all_parts cs ds k past h =
       parts_have cs ds
       (subst (λ (xs : List ColumnView). ArePartsFrom 0 xs ds) (take_all k cs past) h)

@@ -7,6 +7,8 @@ use Rattle.vortex_columns.specs.ColumnView.{ColumnView, row}
 use Rattle.vortex_columns.specs.ValidityView.{ValidityView, ValidityForm, all_invalid, array}
 use Rattle.vortex_operators.specs.declared.operators.Operator.{Operator}
 use Rattle.vortex_operators.specs.Operators.{is_boolean}
+use Rattle.vortex_operators.specs.Kleene.{decides}
+use Rattle.vortex_interface.specs.Eval.{HasTreeRows, Settled}
 use Rattle.vortex_interface.specs.Meaning.{Meaning}
 use Rattle.vortex_interface.specs.Functions.{function_infallible}
 use Rattle.vortex_interface.specs.Trees as trees
@@ -14,6 +16,8 @@ use Rattle.vortex_interface.specs.Trees.{leaf, constant, call, Trees, no_trees, 
 use Rattle.vortex_interface.specs.ComparisonTrees.{operated}
 use Rattle.vortex_functions.specs.Executing.{HasRows}
 use Rattle.vortex_expressions.specs.Items.{Tree, meaning}
+use Rattle.vortex_program.specs.Coded.{AreCoded}
+use Rattle.vortex_program.specs.declared.coded.CodedRows.{CodedRows}
 use Rattle.vortex_program.specs.declared.deciding.Joined.{Joined}
 
 -- each bit from one on, up to another, is this truth value
@@ -77,3 +81,16 @@ abbrev pub HasLeftRows : List ColumnView → ℕ → Joined → Cow ColumnView �
 HasLeftRows cs n joined column =
     (left : Tree) × (right : Tree)
     × Joins joined.operator joined.node.now left right × HasRows meaning cs n left column
+
+-- the column has the rows of the node's left operand, the right one has a value in each row, and
+-- each row of the column has a code: of its own number, or of a row that is decided as it is
+pub record LeavesCoded (cs : List ColumnView) (n : ℕ) (joined : Joined) (c : ColumnView)
+    (rows : CodedRows) : Type 0 where
+  pub left : Tree
+  pub right : Tree
+  pub joins : Joins joined.operator joined.node.now left right
+  pub has : HasTreeRows meaning cs n left c
+  pub truth : Bool
+  pub decides : decides joined.operator truth ≡ true
+  pub values : Settled meaning cs n right
+  pub coded : AreCoded truth c rows.numbers.items rows.codes.items (length c.rows)

@@ -1,3 +1,4 @@
+pub mod Coded
 pub mod Deciding
 pub mod Executing
 pub mod Names

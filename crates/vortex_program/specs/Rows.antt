@@ -5,23 +5,40 @@ use Rattle.vortex_columns.specs.ColumnView.{ColumnView, row}
 use Rattle.vortex_interface.specs.Execution.{other_length}
 use Rattle.vortex_program.specs.Reads.{BothWhere}
 
--- count rows of a column, from the first on
-pub record HasRows (first count : ℕ) (c d : ColumnView) : Type 0 where
+-- so many rows of a column: row j is the one that has number `at j`
+pub record HasRowsAt (at : ℕ → ℕ) (count : ℕ) (c d : ColumnView) : Type 0 where
   pub dtype : d.dtype ≡ c.dtype
   pub counted : length d.rows ≡ count
-  pub each : (j : ℕ) → j < count → row d.rows j ≡ row c.rows (first + j)
+  pub each : (j : ℕ) → j < count → row d.rows j ≡ row c.rows (at j)
 
--- as many rows of a column, those from the first on where it is read
-pub record IsPart (read : Bool) (first count : ℕ) (c d : ColumnView) : Type 0 where
+-- as many rows of a column, those where it is read
+pub record IsPartAt (read : Bool) (at : ℕ → ℕ) (count : ℕ) (c d : ColumnView) : Type 0 where
   pub counted : length d.rows ≡ count
-  pub rows : IsTrue read → HasRows first count c d
+  pub rows : IsTrue read → HasRowsAt at count c d
 
 -- a column that is marked, or is not there
 abbrev pub IsMarked : List Bool → List ColumnView → ℕ → Type 0
 IsMarked read cs k = k < length cs → IsTrue (slice_index_or read k false)
 
--- count rows, from the first on, of the columns at places of which P says so; and as many of each
--- other
-pub record HaveRows (P : ℕ → Type 0) (first count : ℕ) (cs ds : List ColumnView) : Type 0 where
-  pub even : other_length count ds ≡ None
-  pub each : BothWhere P (HasRows first count) cs ds
+-- so many rows of the columns at places of which P says so; and as many of each other
+pub record HaveRowsAt (P : ℕ → Type 0) (at : ℕ → ℕ) (count : ℕ) (cs ds : List ColumnView) : Type 0
+  where
+    pub even : other_length count ds ≡ None
+    pub each : BothWhere P (HasRowsAt at count) cs ds
+
+-- the rows from the first on
+abbrev pub from : ℕ → ℕ → ℕ
+from first j = first + j
+
+abbrev pub HasRows : ℕ → ℕ → ColumnView → ColumnView → Type 0
+HasRows first count = HasRowsAt (from first) count
+
+abbrev pub IsPart : Bool → ℕ → ℕ → ColumnView → ColumnView → Type 0
+IsPart read first count = IsPartAt read (from first) count
+
+abbrev pub HaveRows : (ℕ → Type 0) → ℕ → ℕ → List ColumnView → List ColumnView → Type 0
+HaveRows P first count = HaveRowsAt P (from first) count
+
+-- the rows that have these numbers
+abbrev pub numbered : List ℕ → ℕ → ℕ
+numbered numbers j = slice_index_or numbers j 0

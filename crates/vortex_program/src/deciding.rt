@@ -1,5 +1,5 @@
 //! Trees that join operands by And or Or: an operand that cannot change the answer is not executed.
-ghost use Rattle.std.specs.Prelude.{◌≡◌, [], ◌∷◌, All, IsTrue, MatchOption, ⊤, true};
+ghost use Rattle.std.specs.Prelude.{◌≡◌, [], ◌∷◌, All, IsTrue, IfSome, MatchOption, ⊤, true, length};
 ghost use Rattle.vortex_errors.specs.Answers.{Answers, AnswersUnlessMemory};
 ghost use Rattle.vortex_columns.specs.ColumnView.{AreTyped};
 ghost use Rattle.vortex_operators.specs.Kleene.{decides};
@@ -8,16 +8,25 @@ ghost use Rattle.vortex_interface.specs.Eval.{HasTreeRows, IsFirstFault};
 ghost use Rattle.vortex_interface.specs.Execution.{Executes, RefusesExecution};
 ghost use Rattle.vortex_functions.specs.Executing.{Fits, HasRows};
 ghost use Rattle.vortex_functions.specs.Fixed.{fixed_meaning};
+ghost use Rattle.vortex_program.specs.Coded.{AreCoded};
 ghost use Rattle.vortex_program.specs.Deciding.{HasLeftRows, IsInfallible, IsJoin, IsSpine};
+ghost use Rattle.vortex_program.specs.Deciding.{LeavesCoded};
 ghost use Rattle.vortex_program.specs.Deciding.{IsTruth};
 
-use crate::infallible::is_infallible;
+use crate::coded::{CodedRows, few_other_rows};
+use crate::infallible::infallible_pattern;
+use crate::reads::tree_marks;
+use crate::rows::numbered_rows;
 use crate::truths::is_truth;
 use std::alloc::Global;
 use std::borrow::Cow;
 use vortex_columns::{Column, ExecutionCtx, Scalar, VortexResult};
 use vortex_functions::{BoundExpression, NoCustom, ScalarFnRef, VecExecutionArgs};
 use vortex_operators::Operator;
+use vortex_rewriting::laws::types_invariant;
+
+/// Fewer rows are not divided.
+const LEAST_ROWS: usize = 64;
 
 /// A call of And or Or, with its operator.
 #[derive(Clone, Copy)]
@@ -120,11 +129,62 @@ fn is_decided(
     if !is_truth(left, truth) {
         return Ok(false);
     }
-    is_infallible(alloc, right)
+    match infallible_pattern(alloc, right)? {
+        Some(_) => Ok(true),
+        None => Ok(false),
+    }
+}
+
+/// The rows of a node that are not decided by its left operand, and one that is, where they are few,
+/// and the right operand cannot fault and reads texts by a pattern, which costs more than taking
+/// rows by number. E9 where memory is refused.
+fn few_open_rows(
+    left: &Column,
+    truth: bool,
+    right: &BoundExpression<NoCustom>,
+    alloc: Global,
+) -> VortexResult<Option<CodedRows>>
+    ensures { AnswersUnlessMemory result (λ found. IfSome found (λ r.
+        AreCoded truth left.now r.numbers.items r.codes.items (length left.now.rows)
+        × IsInfallible fixed_meaning right.now)) }
+{
+    if left.len() < LEAST_ROWS {
+        return Ok(None);
+    }
+    match infallible_pattern(alloc, right)? {
+        Some(true) => few_other_rows(alloc, left, truth),
+        _ => Ok(None),
+    }
+}
+
+/// The rows of a node over those that its left operand leaves open, and one that it decides; and
+/// from these all of its rows.
+fn execute_coded<'a>(
+    joined: Joined<'a>,
+    left: &Column,
+    rows: &CodedRows,
+    columns: &'a [Column],
+    row_count: usize,
+    ctx: &mut ExecutionCtx,
+) -> VortexResult<Column>
+    requires fit { Fits columns.now row_count joined.node.now }
+    requires typed { All (λ c. AreTyped c.dtype c.rows) columns.now }
+    requires left { LeavesCoded columns.now row_count joined left.now rows.now }
+    ensures { Answers result
+        (HasTreeRows fixed_meaning columns.now row_count joined.entry.node.now)
+        (IsFirstFault fixed_meaning columns.now row_count joined.entry.node.now) }
+{
+    let alloc = ctx.alloc();
+    let _typed = joined.node.dtype();
+    let read = tree_marks(alloc, joined.node, columns.len())?;
+    let taken = numbered_rows(alloc, columns, &read, &rows.numbers, ctx)?;
+    let left = Cow::Owned(left.take(&rows.numbers, ctx)?);
+    let answered = execute_right(joined, left, &taken, rows.numbers.len(), ctx)?;
+    answered.take(&rows.codes, ctx)
 }
 
 /// The rows of a node, over those of its left operand. Where these decide each row and the right
-/// operand cannot fault, it is not executed.
+/// operand cannot fault, it is not executed; where they leave few rows open, over these alone.
 fn execute_joined<'a>(
     joined: Joined<'a>,
     left: Cow<'a, Column>,
@@ -141,10 +201,13 @@ fn execute_joined<'a>(
 {
     let truth = decider(joined.operator);
     let right = joined.node.child(1);
+    let _typed = right.dtype();
     if is_decided(&left, truth, right, ctx.alloc())? {
-        let _typed = right.dtype();
         let nullability = joined.node.dtype().nullability();
         return Column::constant(ctx.alloc(), Scalar::bool(truth, nullability), row_count);
+    }
+    if let Some(rows) = few_open_rows(&left, truth, right, ctx.alloc())? {
+        return execute_coded(joined, &left, &rows, columns, row_count, ctx);
     }
     execute_right(joined, left, columns, row_count, ctx)
 }
@@ -169,7 +232,7 @@ fn execute_spine<'a>(
     Ok(column)
 }
 
-/// What `execute` returns of the tree, as a column of its own.
+/// What `execute` returns of the tree over columns that fit it, as a column of its own.
 ///
 /// Of a tree that joins operands by And or Or from left to right, an operand is not executed where
 /// those before it decide each row (And: each is false; Or: each is true) and it cannot fault.
@@ -179,10 +242,30 @@ pub(crate) fn execute_deciding(
     row_count: usize,
     ctx: &mut ExecutionCtx,
 ) -> VortexResult<Column>
+    requires { Fits columns.now row_count tree.now }
     ensures { Answers result (Executes fixed_meaning columns.now row_count tree.now)
         (RefusesExecution fixed_meaning columns.now row_count tree.now) }
 {
-    tree.check_columns(columns, row_count, ctx)?;
+    types_invariant(columns);
     let column = execute_spine(tree, columns, row_count, ctx)?;
     Ok(column.into_owned()?)
+}
+
+/// The same over any columns, which are checked, unless it is known that they fit.
+pub(crate) fn execute_checking(
+    tree: &BoundExpression<NoCustom>,
+    columns: &[Column],
+    row_count: usize,
+    is_known: bool,
+    ctx: &mut ExecutionCtx,
+) -> VortexResult<Column>
+    requires { IsTrue is_known → Fits columns.now row_count tree.now }
+    ensures { Answers result (Executes fixed_meaning columns.now row_count tree.now)
+        (RefusesExecution fixed_meaning columns.now row_count tree.now) }
+{
+    if is_known {
+        return execute_deciding(tree, columns, row_count, ctx);
+    }
+    tree.check_columns(columns, row_count, ctx)?;
+    execute_deciding(tree, columns, row_count, ctx)
 }

@@ -1,10 +1,11 @@
 //! What answers return over columns.
+ghost use Rattle.std.specs.Prelude.{IsTrue};
 ghost use Rattle.vortex_functions.specs.Fixed.{fixed_meaning};
 ghost use Rattle.vortex_program.specs.Programs.{trees_of};
-ghost use Rattle.vortex_program.specs.Executing.{AnswersAll};
+ghost use Rattle.vortex_program.specs.Executing.{AllFit, AnswersAll};
 
 use crate::answer::Answer;
-use crate::deciding::execute_deciding;
+use crate::deciding::execute_checking;
 use std::alloc::Global;
 use vortex_columns::{Column, ExecutionCtx, VortexResult};
 
@@ -21,22 +22,24 @@ pub fn execute_answers(
 ) -> VortexResult<Vec<Column>>
     ensures { AnswersAll fixed_meaning columns.now row_count (trees_of answers.now) result }
 {
-    let mut ctx = ExecutionCtx::new(alloc);
-    execute_all(alloc, answers, columns, row_count, &mut ctx)
+    execute_all(alloc, answers, columns, row_count, false)
 }
 
+/// The same; where it is known that the columns fit each answer, they are not checked.
 pub(crate) fn execute_all(
     alloc: Global,
     answers: &[Answer],
     columns: &[Column],
     row_count: usize,
-    ctx: &mut ExecutionCtx,
+    is_known: bool,
 ) -> VortexResult<Vec<Column>>
+    requires { IsTrue is_known → AllFit columns.now row_count (trees_of answers.now) }
     ensures { AnswersAll fixed_meaning columns.now row_count (trees_of answers.now) result }
 {
+    let mut ctx = ExecutionCtx::new(alloc);
     let mut executed = Vec::new(alloc);
     for answer in answers {
-        let column = execute_deciding(&answer.tree, columns, row_count, ctx)?;
+        let column = execute_checking(&answer.tree, columns, row_count, is_known, &mut ctx)?;
         executed.push(column)?;
     }
     Ok(executed)

@@ -1,5 +1,5 @@
-//! Whether a tree faults in no row, whatever its columns hold.
-ghost use Rattle.std.specs.Prelude.{IsTrue};
+//! Whether a tree faults in no row, whatever its columns hold, and whether it matches a pattern.
+ghost use Rattle.std.specs.Prelude.{IfSome, IsTrue};
 ghost use Rattle.vortex_errors.specs.Answers.{AnswersUnlessMemory};
 ghost use Rattle.vortex_functions.specs.Fixed.{fixed_meaning};
 ghost use Rattle.vortex_program.specs.Deciding.{IsInfallible, IsNodeInfallible};
@@ -18,23 +18,36 @@ fn is_node_infallible(node: &BoundExpression<NoCustom>) -> bool
     }
 }
 
-/// Whether each call of the tree is of a function that faults for no values, by a list of the nodes
-/// that are still to be read.
-pub(crate) fn is_infallible(alloc: Global, tree: &BoundExpression<NoCustom>) -> VortexResult<bool>
+/// Whether the function of a node matches texts with a pattern.
+fn has_pattern(node: &BoundExpression<NoCustom>) -> bool {
+    match node.as_scalar() {
+        Some(function) => function.as_like().is_some(),
+        None => false,
+    }
+}
+
+/// Whether a tree matches a pattern, if each call of it is of a function that faults for no values;
+/// none if one is not. By a list of the nodes that are still to be read.
+pub(crate) fn infallible_pattern(
+    alloc: Global,
+    tree: &BoundExpression<NoCustom>,
+) -> VortexResult<Option<bool>>
     ensures { AnswersUnlessMemory result
-        (λ b. IsTrue b → IsInfallible fixed_meaning tree.now) }
+        (λ found. IfSome found (λ _. IsInfallible fixed_meaning tree.now)) }
 {
     let mut list: Vec<&BoundExpression<NoCustom>> = Vec::new(alloc);
     let mut node = tree;
+    let mut matches = false;
     loop {
         if !is_node_infallible(node) {
-            return Ok(false);
+            return Ok(None);
         }
+        matches = matches || has_pattern(node);
         for child in node.children() {
             list.push(child)?;
         }
         let Some(next) = list.pop() else {
-            return Ok(true);
+            return Ok(Some(matches));
         };
         node = next;
     }

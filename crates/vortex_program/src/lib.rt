@@ -2,6 +2,7 @@
 #![tactic(auto)]
 
 pub mod answer;
+mod coded;
 mod deciding;
 pub mod executing;
 pub mod faults;

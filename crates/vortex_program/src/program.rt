@@ -10,6 +10,7 @@ ghost use Rattle.vortex_expressions.specs.Reading.{ReadUnlessMemory, RefusesAs, 
 ghost use Rattle.vortex_program.specs.declared.form.Form.TheVariants.{Answers};
 ghost use Rattle.vortex_program.specs.Texts.{AreAnswersOf};
 ghost use Rattle.vortex_program.specs.Programs.{trees_of, IsOptimized, AreOptimized, IsTextAt};
+ghost use Rattle.vortex_program.specs.Programs.{AreRewrites};
 
 use crate::answer::Answer;
 use crate::naming::text_of;
@@ -28,6 +29,7 @@ pub struct Program {
     pub written: Vec<Answer>,
     /// The same as they are run: what rules make of each. They have no names.
     pub optimized: Vec<Answer>,
+    pub ghost rewrites: { ∥ AreRewrites written.items optimized.items ∥₁ },
 }
 
 /// What rules make of a tree.

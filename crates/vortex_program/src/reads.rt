@@ -1,5 +1,5 @@
 //! Which columns answers read.
-ghost use Rattle.std.specs.Prelude.{map};
+ghost use Rattle.std.specs.Prelude.{map, replicate, false};
 ghost use Rattle.vortex_errors.specs.Answers.{AnswersUnlessMemory};
 ghost use Rattle.vortex_functions.specs.Binding.{IsLeafAt};
 ghost use Rattle.vortex_program.specs.Programs.{trees_of};
@@ -44,6 +44,20 @@ fn mark_tree(
         };
         node = next;
     }
+}
+
+/// Of `count` columns those that a tree reads are marked. E9 where an allocation fails.
+pub(crate) fn tree_marks(
+    alloc: Global,
+    tree: &BoundExpression<NoCustom>,
+    count: usize,
+) -> VortexResult<Vec<bool>>
+    ensures { AnswersUnlessMemory result
+        (λ marks. Marks (λ k. Reads k tree.now) (replicate count false) marks.items) }
+{
+    let mut marks = vec![in alloc; false; count]?;
+    mark_tree(alloc, tree, &mut marks)?;
+    Ok(marks)
 }
 
 /// For each of `count` columns, whether an answer reads it: whether it is a leaf of the answer's

@@ -2,7 +2,9 @@
 ghost use Rattle.std.specs.Prelude.{◌≡◌, ◌+◌, ◌^◌, ◌≤◌, ◌⊎◌, All, length};
 ghost use Rattle.std.specs.List.{range_with_len};
 ghost use Rattle.vortex_errors.specs.Answers.{AnswersUnlessMemory};
-ghost use Rattle.vortex_program.specs.Rows.{HasRows, HaveRows, IsMarked, IsPart};
+ghost use Rattle.vortex_columns.specs.Taken.{AreRowsOf};
+ghost use Rattle.vortex_program.specs.Rows.{HasRows, HaveRows, HaveRowsAt, IsMarked, IsPart};
+ghost use Rattle.vortex_program.specs.Rows.{IsPartAt, numbered};
 
 use std::alloc::Global;
 use vortex_columns::{Column, ExecutionCtx, VortexResult};
@@ -73,6 +75,44 @@ fn column_part(
         return column_rows(alloc, column, first, count, numbers, ctx);
     }
     Ok(Column::null(count))
+}
+
+/// The rows with these numbers of a column that is read; of any other as many nulls.
+fn numbered_part(
+    column: &Column,
+    read: bool,
+    numbers: &[u32],
+    ctx: &mut ExecutionCtx,
+) -> VortexResult<Column>
+    requires { AreRowsOf column.now numbers.now }
+    ensures { AnswersUnlessMemory result
+        (IsPartAt read (numbered numbers.now) (length numbers.now) column.now) }
+{
+    if read {
+        return column.take(numbers, ctx);
+    }
+    Ok(Column::null(numbers.len()))
+}
+
+/// The rows with these numbers of each column that is read; in the place of each other as many
+/// nulls. E9 where an allocation fails.
+pub(crate) fn numbered_rows(
+    alloc: Global,
+    columns: &[Column],
+    read: &[bool],
+    numbers: &[u32],
+    ctx: &mut ExecutionCtx,
+) -> VortexResult<Vec<Column>>
+    requires read { length read.now ≡ length columns.now }
+    requires within { All (λ c. AreRowsOf c numbers.now) columns.now }
+    ensures { AnswersUnlessMemory result (λ taken. HaveRowsAt (IsMarked read.now columns.now)
+        (numbered numbers.now) (length numbers.now) columns.now taken.items) }
+{
+    let mut taken = Vec::new(alloc);
+    for (k, column) in columns.iter().enumerate() {
+        taken.push(numbered_part(column, read[k], numbers, ctx)?)?;
+    }
+    Ok(taken)
 }
 
 /// So many rows, from the first on, of each column that is read; in the place of each other as many

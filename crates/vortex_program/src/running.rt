@@ -10,7 +10,7 @@ ghost use Rattle.vortex_program.specs.Programs.{trees_of, AreRewrites};
 ghost use Rattle.vortex_program.specs.Running.{AnswersTrees, IsFault, RefusesTrees};
 
 use crate::answer::Answer;
-use crate::executing::execute_answers;
+use crate::executing::execute_all;
 use crate::faults::{check_answers, first_row_fault};
 use crate::program::Program;
 use std::alloc::Global;
@@ -96,7 +96,8 @@ impl Program {
         if let Err(error) = check_answers(alloc, &self.written, columns, rows) {
             return Err(RunError::Refused(error));
         }
-        match execute_answers(alloc, &self.optimized, columns, rows) {
+        // The columns that rewrites read are read by what was written.
+        match execute_all(alloc, &self.optimized, columns, rows, true) {
             Ok(answers) => Ok(answers),
             Err(VortexError::OutOfMemory) => Err(RunError::OutOfMemory),
             Err(_) => Err(fault_of(alloc, &self.optimized, columns, rows)),

@@ -8,7 +8,7 @@ use vortex_functions::{ArrayRef, BoundExpression};
 use vortex_interface::ScalarFnVTable;
 
 /// The rows of columns have their types.
-fn types_invariant(columns: &[Column])
+pub fn types_invariant(columns: &[Column])
     ensures { All (λ c. AreTyped c.dtype c.rows) columns.now }
 {
     for column in columns {

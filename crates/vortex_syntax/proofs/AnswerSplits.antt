@@ -1,31 +1,23 @@
 -- A list of answers is read answer by answer.
-use Rattle.std.specs.Prelude.{IfSome}
-use Rattle.std.proofs.Common.{◌≡◌, ℕ, ◌+◌, ◌-◌, ◌<◌, ◌≤◌, Bool, true, false, cond, List, [], ◌∷◌}
-use Rattle.std.proofs.Common.{◌++◌, length, map, get_or, take, drop, All, Option, Some, None}
-use Rattle.std.proofs.Common.{option_map, refl, ap, sym, subst, ◌∙◌, append_assoc, arith}
-use Rattle.std.specs.List.{slice_split, onto_first}
-use Rattle.std.proofs.lemmas.List.Splits.{slice_split_none, slice_split_at}
-use Rattle.std.proofs.lemmas.List.{map-append, take-append-drop, drop_more, take_all, take_rest}
+use Rattle.std.proofs.Common.{◌≡◌, ℕ, ◌+◌, ◌-◌, ◌==◌, ◌&&◌, Bool, true, false, cond, List, [], ◌∷◌}
+use Rattle.std.proofs.Common.{◌++◌, length, map, take, drop, Option, Some, None}
+use Rattle.std.proofs.Common.{option_map, refl, ap, sym, ◌∙◌, append_assoc, arith}
+use Rattle.std.specs.List.{onto_first}
+use Rattle.std.proofs.lemmas.List.{take_rest}
 use Rattle.std.proofs.lemmas.List.{drop-drop}
-use Rattle.std.proofs.lemmas.List.Elements.{All-nil, All-cons, All-append, All-same, All-map}
 use Rattle.vortex_syntax.specs.declared.error.SyntaxError.{SyntaxError}
 use Rattle.vortex_syntax.specs.declared.error.SyntaxError.TheVariants.{OutOfMemory}
 use Rattle.vortex_syntax.specs.declared.token.Sign.TheVariants as sign
-use Rattle.vortex_syntax.specs.declared.frame.Mode.TheVariants as mode
 use Rattle.vortex_syntax.specs.Errors.{UnlessMemory}
-use Rattle.vortex_syntax.specs.Tokens.{Token, name, quoted, sign}
+use Rattle.vortex_syntax.specs.Tokens.{Token, sign}
 use Rattle.vortex_syntax.specs.Lexing.{Lexes}
 use Rattle.vortex_syntax.specs.Nesting.{nests}
-use Rattle.vortex_syntax.specs.Spelling.{spelling}
-use Rattle.vortex_syntax.specs.Postfix.{postfix}
-use Rattle.vortex_syntax.specs.Reading.{state, steps_of}
-use Rattle.vortex_syntax.specs.AnswerLists.{Answer, is_name, name_tokens, SpellsAnswer}
+use Rattle.vortex_syntax.specs.AnswerLists.{Answer}
 use Rattle.vortex_syntax.specs.AnswerLists.{SpellsAnswers, one, more, ReadsAnswers, Told, told}
-use Rattle.vortex_syntax.specs.AnswerParts.{is_comma, answer_of, with_first, answers_of}
-use Rattle.vortex_syntax.specs.AnswerParts.{all_answers}
+use Rattle.vortex_syntax.specs.AnswerParts.{is_comma, depth_behind, parts_from, answer_parts}
+use Rattle.vortex_syntax.specs.AnswerParts.{answer_of, with_first, answers_of, all_answers}
 use Rattle.vortex_syntax.proofs.Lexed.{one_list}
-use Rattle.vortex_syntax.proofs.Complete.{whole_read}
-use Rattle.vortex_syntax.proofs.AnswerTokens.{no_commas}
+use Rattle.vortex_syntax.proofs.AnswerCommas.{whole_part, part_before, answer_stays}
 use Rattle.vortex_syntax.proofs.AnswerNames.{answer_found, answer_read}
 
 -- a list that is read is spelled by its tokens
@@ -43,16 +35,22 @@ comma_is : (t : Token) → is_comma t ≡ true → t ≡ sign sign.Comma
 comma_is (sign sign.Comma) h = refl
 comma_is t h = absurd cc
 
-part_if : (t : Token) (ts : List Token) (b : Bool) → is_comma t ≡ b
-    → Parts ts (slice_split is_comma ts)
+part_if : (d : ℕ) (t : Token) (ts : List Token) (b c : Bool) → is_comma t ≡ b → (d == 0) ≡ c
+    → Parts ts (parts_from d ts) → Parts ts (parts_from (depth_behind d t) ts)
     → Parts (t ∷ ts)
-    (cond b ([] ∷ slice_split is_comma ts) (onto_first t (slice_split is_comma ts)))
-part_if t ts true h p = first [] (ap (λ u. u ∷ ts) (comma_is t h)) p
-part_if t ts false h p = onto t p
+    (cond (b && c) ([] ∷ parts_from d ts) (onto_first t (parts_from (depth_behind d t) ts)))
+part_if d t ts true true h k p q = first [] (ap (λ u. u ∷ ts) (comma_is t h)) p
+part_if d t ts true false h k p q = onto t q
+part_if d t ts false c h k p q = onto t q
 
-pub parts_of : (ts : List Token) → Parts ts (slice_split is_comma ts)
-parts_of [] = whole
-parts_of (t ∷ ts) = part_if t ts (is_comma t) refl (parts_of ts)
+parts_inside : (ts : List Token) (d : ℕ) → Parts ts (parts_from d ts)
+parts_inside [] d = whole
+parts_inside (t ∷ ts) d =
+    part_if d t ts (is_comma t) (d == 0) refl refl (parts_inside ts d)
+    (parts_inside ts (depth_behind d t))
+
+pub parts_of : (ts : List Token) → Parts ts (answer_parts ts)
+parts_of ts = parts_inside ts 0
 
 pub lists_are : (xs ys : List Told) → Some xs ≡ Some ys → xs ≡ ys
 lists_are xs ys e = cc
@@ -77,38 +75,16 @@ answers_found xs (first {ps = ps} us h p) e =
     (a.0 ∷ r.0, more us h a.1 r.1, f.4 ∙ ap (λ x. x ∷ f.1) a.2 ∙ ap (λ ys. told a.0 ∷ ys) r.2)
 
 -- a list that its tokens spell is read
-name_no_comma : (n : Token) → is_name n ≡ true → is_comma n ≡ false
-name_no_comma (name w) h = refl
-name_no_comma (quoted w) h = refl
-name_no_comma n h = absurd cc
-
-name_no_commas : (o : Option Token) → IfSome o (λ n. is_name n ≡ true)
-    → All (λ t. is_comma t ≡ false) (name_tokens o)
-name_no_commas None h = All-nil (λ t. is_comma t ≡ false)
-name_no_commas (Some n) h =
-    All-cons (λ t. is_comma t ≡ false) (sign sign.As) (n ∷ []) refl
-    (All-cons (λ t. is_comma t ≡ false) n [] (name_no_comma n h)
-    (All-nil (λ t. is_comma t ≡ false)))
-
-answer_no_commas : (ts : List Token) (a : Answer) → SpellsAnswer ts a
-    → All (λ t. is_comma t ≡ false) ts
-unfolding steps_of
-answer_no_commas ts a s =
-    All-same (λ t. is_comma t ≡ false) ts (spelling a.tree ++ name_tokens a.name) s.tokens
-    (All-append (λ t. is_comma t ≡ false) (spelling a.tree) (name_tokens a.name)
-    (no_commas (spelling a.tree) (state mode.Want [] []) (postfix a.tree)
-    (whole_read a.tree s.levels)) (name_no_commas a.name s.named))
-
 pub all_read : {ts : List Token} {bs : List Answer} → SpellsAnswers ts bs
     → all_answers ts ≡ Some (map told bs)
 unfolding all_answers
 all_read (one {ts = ts} {a = a} s) =
-    ap answers_of (slice_split_none is_comma ts (answer_no_commas ts a s))
+    ap answers_of (whole_part ts (answer_stays ts a s))
     ∙ ap (λ x. with_first x (Some [])) (answer_read ts a s)
 all_read (more {ts = ts} {vs = vs} {a = a} us e s p) =
-    ap (λ ws. answers_of (slice_split is_comma ws)) e
-    ∙ ap answers_of (slice_split_at is_comma us (sign sign.Comma) vs (answer_no_commas us a s) refl)
-    ∙ ap (λ x. with_first x (answers_of (slice_split is_comma vs))) (answer_read us a s)
+    ap (λ ws. answers_of (answer_parts ws)) e
+    ∙ ap answers_of (part_before us vs (answer_stays us a s))
+    ∙ ap (λ x. with_first x (answers_of (answer_parts vs))) (answer_read us a s)
     ∙ ap (with_first (Some (told a))) (all_read p)
 
 -- a whole text
@@ -129,42 +105,22 @@ unfolding all_answers
 answers_in text ts xs l n e = let f = answers_found xs (parts_of ts) e in
     (f.0, record { ts = ts; lexed = l; spelled = f.1; nested = n }, f.2)
 
--- the code's split, at the first comma
-module _ {A : Type 0} (f : A → Token) (xs : List A) (n : ℕ) where
-  pub first_at : (d : A) → n < length xs → All (λ x. is_comma (f x) ≡ false) (take n xs)
-      → is_comma (f (get_or xs n d)) ≡ true
-      → slice_split is_comma (map f xs) ≡ map f (take n xs) ∷ slice_split is_comma
-      (map f (drop (n + 1) xs))
-  first_at d lt each here =
-      ap (λ ys. slice_split is_comma (map f ys))
-      (sym (take-append-drop n xs) ∙ ap (λ ys. take n xs ++ ys) (drop_more xs n d lt))
-      ∙ ap (slice_split is_comma) (map-append f (take n xs) (get_or xs n d ∷ drop (n + 1) xs))
-      ∙ slice_split_at is_comma (map f (take n xs)) (f (get_or xs n d)) (map f (drop (n + 1) xs))
-      (All-map (λ t. is_comma t ≡ false) f (take n xs) each) here
-
-  pub none_at : length xs ≤ n → All (λ x. is_comma (f x) ≡ false) (take n xs)
-      → slice_split is_comma (map f xs) ≡ map f xs ∷ []
-  none_at le each =
-      slice_split_none is_comma (map f xs)
-      (All-map (λ t. is_comma t ≡ false) f xs
-      (subst (All (λ x. is_comma (f x) ≡ false)) (take_all n xs le) each))
-
 -- the code's parts, from place i on
 module _ {A : Type 0} (f : A → Token) (xs : List A) (i : ℕ) where
-  pub part_is : (n : ℕ) → slice_split is_comma (map f (take (length xs - i) (drop i xs)))
-      ≡ map f (take n (take (length xs - i) (drop i xs))) ∷ slice_split is_comma
+  pub part_is : (n : ℕ) → answer_parts (map f (take (length xs - i) (drop i xs)))
+      ≡ map f (take n (take (length xs - i) (drop i xs))) ∷ answer_parts
       (map f (drop (n + 1) (take (length xs - i) (drop i xs))))
-      → slice_split is_comma (map f (drop i xs))
-      ≡ map f (take (i + n - i) (drop i xs)) ∷ slice_split is_comma (map f (drop (i + (n + 1)) xs))
+      → answer_parts (map f (drop i xs))
+      ≡ map f (take (i + n - i) (drop i xs)) ∷ answer_parts (map f (drop (i + (n + 1)) xs))
   part_is n h =
       let e : i + n - i ≡ n = omega arith in
       let k = rw (take_rest xs i, drop-drop (n + 1) i xs) at h in
       rw e k
 
-  pub last_is : slice_split is_comma (map f (take (length xs - i) (drop i xs)))
+  pub last_is : answer_parts (map f (take (length xs - i) (drop i xs)))
       ≡ map f (take (length xs - i) (drop i xs)) ∷ []
-      → slice_split is_comma (map f (drop i xs)) ≡ map f (take (length xs - i) (drop i xs)) ∷ []
-  last_is h = ap (λ ys. slice_split is_comma (map f ys)) (sym (take_rest xs i)) ∙ h
+      → answer_parts (map f (drop i xs)) ≡ map f (take (length xs - i) (drop i xs)) ∷ []
+  last_is h = ap (λ ys. answer_parts (map f ys)) (sym (take_rest xs i)) ∙ h
 
 -- the answers so far, and the rest
 abbrev pub after : List Told → Option (List Told) → Option (List Told)
@@ -181,7 +137,7 @@ one_more done a (Some xs) = ap Some (sym (append_assoc done (a ∷ []) xs))
 
 module _ (all : Option (List Told)) (done : List Told) (ts p : List Token) where
   pub goes_on : (us : List Token) (a : Told) → all ≡ after done (all_answers ts)
-      → slice_split is_comma ts ≡ p ∷ slice_split is_comma us → answer_of p ≡ Some a
+      → answer_parts ts ≡ p ∷ answer_parts us → answer_of p ≡ Some a
       → all ≡ after (done ++ (a ∷ [])) (all_answers us)
   unfolding all_answers
   goes_on us a so_far cut h =
@@ -190,12 +146,12 @@ module _ (all : Option (List Told)) (done : List Told) (ts p : List Token) where
       ∙ one_more done a (all_answers us)
 
   pub stops : (ps : List (List Token)) → all ≡ after done (all_answers ts)
-      → slice_split is_comma ts ≡ p ∷ ps → answer_of p ≡ None → all ≡ None
+      → answer_parts ts ≡ p ∷ ps → answer_of p ≡ None → all ≡ None
   unfolding all_answers
   stops ps so_far cut h = so_far ∙ ap (λ qs. after done (answers_of qs)) cut
       ∙ ap (λ x. after done (with_first x (answers_of ps))) h
 
-  pub finishes : (a : Told) → all ≡ after done (all_answers ts) → slice_split is_comma ts ≡ p ∷ []
+  pub finishes : (a : Told) → all ≡ after done (all_answers ts) → answer_parts ts ≡ p ∷ []
       → answer_of p ≡ Some a → all ≡ Some (done ++ (a ∷ []))
   unfolding all_answers
   finishes a so_far cut h = so_far ∙ ap (λ qs. after done (answers_of qs)) cut

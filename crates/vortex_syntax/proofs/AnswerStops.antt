@@ -2,7 +2,6 @@
 use Rattle.std.proofs.Common.{◌≡◌, ℕ, ◌+◌, ◌-◌, ◌≤◌, List, ◌∷◌, length, map, take, drop}
 use Rattle.std.proofs.Common.{Some, ap, sym, subst, ◌∙◌, arith, length-append}
 use Rattle.std.proofs.Common.{zero-add}
-use Rattle.std.specs.List.{slice_split}
 use Rattle.std.proofs.lemmas.List.{length-map, length-take-le}
 use Rattle.vortex_syntax.specs.declared.error.SyntaxError.{SyntaxError}
 use Rattle.vortex_syntax.specs.declared.error.SyntaxError.TheVariants.{NoToken, Unexpected}
@@ -11,7 +10,7 @@ use Rattle.vortex_syntax.specs.declared.places.TokenPlaces.{TokenPlaces}
 use Rattle.vortex_syntax.specs.declared.token.Sign.TheVariants as sign
 use Rattle.vortex_syntax.specs.Tokens.{Token, sign}
 use Rattle.vortex_syntax.specs.AnswerLists.{Told}
-use Rattle.vortex_syntax.specs.AnswerParts.{is_comma, answer_of}
+use Rattle.vortex_syntax.specs.AnswerParts.{answer_parts, answer_of}
 use Rattle.vortex_syntax.specs.Refusals.{TreeStopsAt, tree_tokens, PartsStopAt, first, later}
 use Rattle.vortex_syntax.specs.Refusals.{ListStopsAt, NamesPlace, place_in}
 use Rattle.vortex_syntax.proofs.AnswerNames.{answer_found, tree_within}
@@ -51,13 +50,13 @@ stops_with_all all ts e n h =
     (subst (λ (us : List Token). ListStopsAt us n) e h)
 
 pub stops_first : (all : List Token) (i : ℕ) (ts p : List Token) (ps : List (List Token))
-    → slice_split is_comma ts ≡ p ∷ ps → StopsWith all i ts
+    → answer_parts ts ≡ p ∷ ps → StopsWith all i ts
     → (n : ℕ) → TreeStopsAt (tree_tokens p) n → ListStopsAt all (i + n)
 stops_first all i ts p ps cut so_far n h =
     so_far n (subst (λ (qs : List (List Token)). PartsStopAt qs n) (sym cut) (first h))
 
 pub stops_later : (all : List Token) (i : ℕ) (ts p us : List Token) (x : Told) (k : ℕ)
-    → slice_split is_comma ts ≡ p ∷ slice_split is_comma us → answer_of p ≡ Some x
+    → answer_parts ts ≡ p ∷ answer_parts us → answer_of p ≡ Some x
     → length p ≡ k → StopsWith all i ts → StopsWith all (i + (k + 1)) us
 stops_later all i ts p us x k cut answer count so_far n h =
     let a = answer_found p x answer in

@@ -1,18 +1,16 @@
--- A tree's tokens have no comma, and do not end with `as` and a token.
-use Rattle.std.proofs.Common.{◌≡◌, ◌++◌, ◌∷◌, [], false, List, Option, Some, None, All, refl, ap}
-use Rattle.std.proofs.Common.{sym, subst, ◌∙◌}
+-- A tree's tokens do not end with `as` and a token.
+use Rattle.std.proofs.Common.{◌≡◌, ◌++◌, ◌∷◌, [], List, Option, Some, None, refl, ap}
+use Rattle.std.proofs.Common.{sym, subst}
 use Rattle.std.specs.Option.{option_and_then}
-use Rattle.std.proofs.lemmas.List.Elements.{All-nil, All-cons}
 use Rattle.vortex_syntax.specs.declared.token.Sign.TheVariants as sign
-use Rattle.vortex_syntax.specs.declared.frame.Frame.{Frame}
-use Rattle.vortex_syntax.specs.declared.frame.Frame.TheVariants as frame
+use Rattle.vortex_syntax.specs.Frames.{Frame}
+use Rattle.vortex_syntax.specs.Frames as frame
 use Rattle.vortex_syntax.specs.declared.frame.Mode.{Mode}
 use Rattle.vortex_syntax.specs.declared.frame.Mode.TheVariants as mode
 use Rattle.vortex_syntax.specs.Tokens.{Token, name, nullable, sign}
 use Rattle.vortex_syntax.specs.Postfix.{Step}
 use Rattle.vortex_syntax.specs.Reading.{State, settled, as_behind, predicate, word_after}
 use Rattle.vortex_syntax.specs.Reading.{cast_expected, next, finish, run}
-use Rattle.vortex_syntax.specs.AnswerParts.{is_comma}
 
 -- what is read of the first token, where all are read
 ran : (o : Option State) (ts : List Token) (xs : List Step)
@@ -20,27 +18,6 @@ ran : (o : Option State) (ts : List Token) (xs : List Step)
     → (r : State) × (o ≡ Some r) × (run r ts ≡ Some xs)
 ran None ts xs e = absurd cc
 ran (Some r) ts xs e = (r, refl, e)
-
-comma_stops : (m : Mode) (fs : List Frame) (out : List Step)
-    → next m fs out (sign sign.Comma) ≡ None
-unfolding next word_after predicate
-comma_stops mode.Want fs out = refl
-comma_stops m fs out = refl
-
-not_comma : (m : Mode) (fs : List Frame) (out : List Step) (t : Token) (r : State)
-    → next m fs out t ≡ Some r → is_comma t ≡ false
-not_comma m fs out (sign sign.Comma) r e =
-    absurd (let k : None ≡ Some r = sym (comma_stops m fs out) ∙ e in cc)
-not_comma m fs out t r e = refl
-
-pub no_commas : (ts : List Token) (s : State) (xs : List Step) → run s ts ≡ Some xs
-    → All (λ t. is_comma t ≡ false) ts
-unfolding run
-no_commas [] s xs e = All-nil (λ t. is_comma t ≡ false)
-no_commas (t ∷ ts) s xs e =
-    let r = ran (next s.mode s.frames s.steps t) ts xs e in
-    All-cons (λ u. is_comma u ≡ false) t ts (not_comma s.mode s.frames s.steps t r.0 r.1)
-    (no_commas ts r.0 xs r.2)
 
 -- `as` comes only before the type of a cast, and no tree ends with that
 abbrev mode_of : Option State → Mode

@@ -5,18 +5,19 @@ use Rattle.std.proofs.lemmas.List.{append-nil}
 use Rattle.std.proofs.lemmas.Bool.Decides.{nat_tests}
 use Rattle.vortex_syntax.specs.declared.step.LikeKind.{LikeKind}
 use Rattle.vortex_syntax.specs.declared.token.Sign.TheVariants as sign
-use Rattle.vortex_syntax.specs.declared.frame.Frame.{Frame}
-use Rattle.vortex_syntax.specs.declared.frame.Frame.TheVariants as frame
+use Rattle.vortex_syntax.specs.Frames.{Frame}
+use Rattle.vortex_syntax.specs.Frames as frame
 use Rattle.vortex_syntax.specs.declared.frame.Mode.{Mode}
 use Rattle.vortex_syntax.specs.declared.frame.Mode.TheVariants as mode
 use Rattle.vortex_syntax.specs.Tokens.{Token, sign}
-use Rattle.vortex_syntax.specs.Syntax.{Syntax}
+use Rattle.vortex_syntax.specs.Syntax.{Syntax, Arguments}
 use Rattle.vortex_syntax.specs.Levels.{level, Fits}
 use Rattle.vortex_syntax.specs.Spelling.{spelling, type_token, like_sign}
-use Rattle.vortex_syntax.specs.Postfix.{Step, cast, postfix}
+use Rattle.vortex_syntax.specs.Postfix.{Step, cast, argument_count, postfix}
 use Rattle.vortex_syntax.specs.Reading.{State, top_hole, whole, Operand, settled}
 use Rattle.vortex_syntax.proofs.Held.{Held, opened, casting, negating, joining, lower, upper}
-use Rattle.vortex_syntax.proofs.Held.{matching, frame_of, written, held, IsSound, frames_of}
+use Rattle.vortex_syntax.proofs.Held.{matching, calling, frame_of, written, held, IsSound}
+use Rattle.vortex_syntax.proofs.Held.{frames_of}
 use Rattle.vortex_syntax.proofs.Held.{all_written, all_held, Nested, Settles, settled_sound}
 
 -- what was read before: pending frames, then these steps and tokens
@@ -126,6 +127,7 @@ open_is (joining o a) e = absurd cc
 open_is (lower n a) e = absurd cc
 open_is (upper n a b) e = absurd cc
 open_is (matching k a) e = absurd cc
+open_is (calling w args) e = absurd cc
 
 pub cast_is : (h : Held) → frame.Cast ≡ frame_of h → h ≡ casting
 cast_is opened e = absurd cc
@@ -135,6 +137,7 @@ cast_is (joining o a) e = absurd cc
 cast_is (lower n a) e = absurd cc
 cast_is (upper n a b) e = absurd cc
 cast_is (matching k a) e = absurd cc
+cast_is (calling w args) e = absurd cc
 
 pub lower_mark : (n m : Bool) → frame.Between n ≡ frame.Between m → n ≡ m
 lower_mark n m e = cc
@@ -147,6 +150,7 @@ lower_is n (joining o a) e = absurd cc
 lower_is n (lower m a) e = (a, ap (λ v. lower v a) (sym (lower_mark n m e)))
 lower_is n (upper m a b) e = absurd cc
 lower_is n (matching k a) e = absurd cc
+lower_is n (calling w args) e = absurd cc
 
 pub like_mark : (k j : LikeKind) → frame.Like k ≡ frame.Like j → k ≡ j
 like_mark k j e = cc
@@ -160,6 +164,28 @@ like_is k (joining o a) e = absurd cc
 like_is k (lower m a) e = absurd cc
 like_is k (upper m a b) e = absurd cc
 like_is k (matching j a) e = (a, ap (λ v. matching v a) (sym (like_mark k j e)))
+like_is k (calling w args) e = absurd cc
+
+pub called_name : (w v : List ℕ) (n m : ℕ) → frame.Arguments w n ≡ frame.Arguments v m → w ≡ v
+called_name w v n m e = cc
+
+pub called_count : (w v : List ℕ) (n m : ℕ) → frame.Arguments w n ≡ frame.Arguments v m → n ≡ m
+called_count w v n m e = cc
+
+pub call_is : (w : List ℕ) (n : ℕ) (h : Held) → frame.Arguments w n ≡ frame_of h
+    → (args : Arguments) × (h ≡ calling w args) × (n ≡ argument_count args)
+call_is w n opened e = absurd cc
+call_is w n casting e = absurd cc
+call_is w n negating e = absurd cc
+call_is w n (joining o a) e = absurd cc
+call_is w n (lower m a) e = absurd cc
+call_is w n (upper m a b) e = absurd cc
+call_is w n (matching k a) e = absurd cc
+call_is w n (calling v args) e = (
+  args,
+  ap (λ u. calling u args) (sym (called_name w v n (argument_count args) e)),
+  called_count w v n (argument_count args) e,
+)
 
 -- an operand after pending frames, then these tokens
 pub record HasOperand (l : ℕ) (fs : List Frame) (out : List Step)

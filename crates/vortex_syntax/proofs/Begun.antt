@@ -3,20 +3,20 @@ use Rattle.std.proofs.Common.{◌≡◌, ℕ, ◌≤◌, List, [], ◌∷◌, �
 use Rattle.std.proofs.Common.{subst, ◌∙◌, append_assoc, arith, lit<, lit≤}
 use Rattle.std.proofs.lemmas.List.{append-nil}
 use Rattle.vortex_syntax.specs.declared.token.Sign.TheVariants as sign
-use Rattle.vortex_syntax.specs.declared.frame.Frame.{Frame}
+use Rattle.vortex_syntax.specs.Frames.{Frame}
 use Rattle.vortex_syntax.specs.declared.frame.Mode.{Mode}
 use Rattle.vortex_syntax.specs.declared.frame.Mode.TheVariants as mode
-use Rattle.vortex_syntax.specs.Tokens.{Token, name, number, text, sign}
+use Rattle.vortex_syntax.specs.Tokens.{Token, name, function, number, text, sign}
 use Rattle.vortex_syntax.specs.Syntax as tree
 use Rattle.vortex_syntax.specs.Syntax.{Syntax}
 use Rattle.vortex_syntax.specs.Levels.{level, Fits}
-use Rattle.vortex_syntax.specs.Spelling.{spelling, with_not, like_sign, type_token}
+use Rattle.vortex_syntax.specs.Spelling.{spelling, all_spelled, with_not, like_sign, type_token}
 use Rattle.vortex_syntax.specs.Postfix.{Step, postfix}
 use Rattle.vortex_syntax.specs.Reading.{hole, top_hole, whole}
 use Rattle.vortex_syntax.specs.Refusals.{Begins}
 use Rattle.vortex_syntax.proofs.Tables.{top_atom, own_right}
 use Rattle.vortex_syntax.proofs.Held.{Held, opened, casting, negating, joining, lower, upper}
-use Rattle.vortex_syntax.proofs.Held.{matching, frame_of, written, IsSound, frames_of}
+use Rattle.vortex_syntax.proofs.Held.{matching, calling, frame_of, written, IsSound, frames_of}
 use Rattle.vortex_syntax.proofs.Held.{all_written, Nested, Plugged, plugged}
 use Rattle.vortex_syntax.proofs.Before.{Behind, HasOperand, Holds}
 
@@ -72,6 +72,14 @@ filled (lower n a) e s f le = record {
 filled (upper n a b) e s f le = closed (upper n a b) e (plugged (upper n a b) e (lit< tt) s f le)
 filled (matching k a) e s f le =
     closed (matching k a) e (plugged (matching k a) e (lit< tt) s f le)
+filled (calling w args) e s f le = record {
+  tree = tree.applied w args e;
+  fits = (s, f);
+  level = refl;
+  more = sign sign.Close ∷ [];
+  tokens =
+      ap (λ ts. function w ∷ ts) (append_assoc (all_spelled args) (spelling e) (sign sign.Close ∷ []));
+}
 
 regrouped : (a b c d e : List Token) → ((a ++ b) ++ c) ++ (d ++ e) ≡ (a ++ ((b ++ c) ++ d)) ++ e
 regrouped a b c d e = simp append_assoc

@@ -1,5 +1,5 @@
 -- The spelling of a tree is read as its steps.
-use Rattle.std.proofs.Common.{◌≡◌, ℕ, ◌<◌, ◌≤◌, Bool, true, false, List, [], ◌∷◌, ◌++◌, Option}
+use Rattle.std.proofs.Common.{◌≡◌, ℕ, suc, ◌<◌, ◌≤◌, Bool, true, false, List, [], ◌∷◌, ◌++◌, Option}
 use Rattle.std.proofs.Common.{Some, None, refl, ap, sym, ◌∙◌, append_assoc, arith, lit<, lit≤}
 use Rattle.std.specs.Option.{option_and_then}
 use Rattle.std.proofs.lemmas.List.{append-nil}
@@ -9,17 +9,19 @@ use Rattle.vortex_syntax.specs.declared.step.LikeKind.{LikeKind}
 use Rattle.vortex_syntax.specs.declared.step.Call.TheVariants as call
 use Rattle.vortex_syntax.specs.declared.token.Sign.{Sign}
 use Rattle.vortex_syntax.specs.declared.token.Sign.TheVariants as sign
-use Rattle.vortex_syntax.specs.declared.frame.Frame.{Frame}
-use Rattle.vortex_syntax.specs.declared.frame.Frame.TheVariants as frame
+use Rattle.vortex_syntax.specs.Frames.{Frame}
+use Rattle.vortex_syntax.specs.Frames as frame
 use Rattle.vortex_syntax.specs.declared.frame.Mode.TheVariants as mode
-use Rattle.vortex_syntax.specs.Tokens.{Token, name, nullable, quoted, number, text, sign}
+use Rattle.vortex_syntax.specs.Tokens.{Token, name, nullable, function, quoted, number, text, sign}
 use Rattle.vortex_syntax.specs.Syntax as tree
-use Rattle.vortex_syntax.specs.Syntax.{Syntax}
-use Rattle.vortex_syntax.specs.Levels.{own, left, right, level, Fits, is_operand, operand_level}
-use Rattle.vortex_syntax.specs.Spelling.{spelling, operator_sign, type_token, with_not, null_test}
-use Rattle.vortex_syntax.specs.Spelling.{like_sign, escape_tokens}
-use Rattle.vortex_syntax.specs.Postfix.{Step, operand, negative, typed, cast, escaped, called}
-use Rattle.vortex_syntax.specs.Postfix.{null_call, like_step, postfix}
+use Rattle.vortex_syntax.specs.Syntax.{Syntax, Arguments}
+use Rattle.vortex_syntax.specs.Levels.{own, left, right, level, Fits, AllFit, is_operand}
+use Rattle.vortex_syntax.specs.Levels.{operand_level}
+use Rattle.vortex_syntax.specs.Spelling.{spelling, all_spelled, operator_sign, type_token, with_not}
+use Rattle.vortex_syntax.specs.Spelling.{null_test, like_sign, escape_tokens}
+use Rattle.vortex_syntax.specs.Postfix.{Step, operand, negative, typed, cast, escaped, applied}
+use Rattle.vortex_syntax.specs.Postfix.{called, null_call, like_step, argument_count, postfix}
+use Rattle.vortex_syntax.specs.Postfix.{all_postfix}
 use Rattle.vortex_syntax.specs.Reading as specs
 use Rattle.vortex_syntax.specs.Reading.{State, state, hole, top_hole, guard, whole, closing}
 use Rattle.vortex_syntax.specs.Reading.{operand_of, settled, waiting, shifted, joining, operator_of}
@@ -127,7 +129,8 @@ sign_closes l f fs out sign.Divide ts h =
 sign_closes l f fs out sign.Open ts h = refl
 sign_closes l f fs out sign.Close ts h =
     ap (λ a. ran ts (specs.close_behind a.frames a.steps)) (settled_one 0 l f fs out h)
-sign_closes l f fs out sign.Comma ts h = refl
+sign_closes l f fs out sign.Comma ts h =
+    ap (λ a. ran ts (specs.comma_behind a.frames a.steps)) (settled_one 0 l f fs out h)
 sign_closes l f fs out sign.Typed ts h =
     absurd (let k : ⊥ = omega (arith, h, guard_hole f, hole_atom f) in k)
 
@@ -138,6 +141,7 @@ closes l f fs out [] h = ap (λ a. specs.end_behind a.frames a.steps) (settled_o
 closes l f fs out (sign s ∷ ts) h = sign_closes l f fs out s ts h
 closes l f fs out (name w ∷ ts) h = refl
 closes l f fs out (nullable w ∷ ts) h = refl
+closes l f fs out (function w ∷ ts) h = refl
 closes l f fs out (quoted w ∷ ts) h = refl
 closes l f fs out (number w ∷ ts) h = refl
 closes l f fs out (text w ∷ ts) h = refl
@@ -153,6 +157,7 @@ and_joins l (frame.Not ∷ fs) out h k = absurd (let j : ⊥ = omega (arith, k) 
 and_joins l (frame.Join o ∷ fs) out h k = rw (at_most 1 l h, at_most (hole (frame.Join o)) 1 k) refl
 and_joins l (frame.Bounded n ∷ fs) out h k = absurd (let j : ⊥ = omega (arith, k) in j)
 and_joins l (frame.Like n ∷ fs) out h k = absurd (let j : ⊥ = omega (arith, k) in j)
+and_joins l (frame.Arguments w n ∷ fs) out h k = rw (at_most 1 l h) refl
 
 step_join : (o : WrittenOperator) (l : ℕ) (fs : List Frame) (out : List Step) (ts : List Token)
     → left o ≤ l → top_hole fs ≤ own o
@@ -292,6 +297,29 @@ step_cast_open : (fs : List Frame) (out : List Step) (ts : List Token)
     → want fs out (sign sign.Cast ∷ sign sign.Open ∷ ts) ≡ want (frame.Cast ∷ fs) out ts
 unfolding run next
 step_cast_open fs out ts = refl
+
+step_function : (w : List ℕ) (fs : List Frame) (out : List Step) (ts : List Token)
+    → want fs out (function w ∷ ts) ≡ want (frame.Arguments w 0 ∷ fs) out ts
+unfolding run next
+step_function w fs out ts = refl
+
+step_nullary : (w : List ℕ) (fs : List Frame) (out : List Step) (ts : List Token)
+    → want (frame.Arguments w 0 ∷ fs) out (sign sign.Close ∷ ts)
+    ≡ have 8 fs (out ++ (applied w 0 ∷ [])) ts
+unfolding run next
+step_nullary w fs out ts = refl
+
+step_comma : (w : List ℕ) (n l : ℕ) (fs : List Frame) (out : List Step) (ts : List Token)
+    → have l (frame.Arguments w n ∷ fs) out (sign sign.Comma ∷ ts)
+    ≡ want (frame.Arguments w (suc n) ∷ fs) out ts
+unfolding run next word_after settled
+step_comma w n l fs out ts = refl
+
+step_applied : (w : List ℕ) (n l : ℕ) (fs : List Frame) (out : List Step) (ts : List Token)
+    → have l (frame.Arguments w n ∷ fs) out (sign sign.Close ∷ ts)
+    ≡ have 8 fs (out ++ (applied w (suc n) ∷ [])) ts
+unfolding run next word_after settled
+step_applied w n l fs out ts = refl
 
 -- a tree's tokens lead to its steps, before a sign that binds no tighter
 abbrev pub IsRead : Syntax → Type 0
@@ -459,18 +487,67 @@ read_cast a w n ia = λ fs out rest top end.
     ∙ step_cast (level a) fs (out ++ postfix a) w n rest
     ∙ ap (λ xs. have 8 fs xs rest) (regrouped_2 out (postfix a) (cast w n))
 
-pub is_read : (t : Syntax) → Fits t → IsRead t
-is_read (tree.operand t) h = read_operand t h
-is_read (tree.negative ds) h = read_negative ds
-is_read (tree.typed a w n) h = read_typed a w n h.0 (is_read a h.1)
-is_read (tree.grouped a) h = read_grouped a (is_read a h)
-is_read (tree.negated a) h = read_negated a h.0 (is_read a h.1)
-is_read (tree.joined o a b) h = read_joined o a b h.0 h.1 (is_read a h.2) (is_read b h.3)
-is_read (tree.tested n a) h = read_tested n a h.0 (is_read a h.1)
-is_read (tree.between n a b c) h =
-    read_between n a b c h.0 h.1 h.2 (is_read a h.3) (is_read b h.4) (is_read c h.5)
-is_read (tree.matched k a p e) h = read_matched k a p e h.0 h.1 (is_read a h.2) (is_read p h.3)
-is_read (tree.cast a w n) h = read_cast a w n (is_read a h)
+-- arguments and their commas
+abbrev AreRead : Arguments → Type 0
+AreRead args = (w : List ℕ) (fs : List Frame) (out : List Step) (rest : List Token)
+    → want (frame.Arguments w 0 ∷ fs) out (all_spelled args ++ rest)
+    ≡ want (frame.Arguments w (argument_count args) ∷ fs) (out ++ all_postfix args) rest
+
+read_no_arguments : AreRead tree.no_arguments
+read_no_arguments = λ w fs out rest.
+    ap (λ xs. want (frame.Arguments w 0 ∷ fs) xs rest) (sym (append-nil out))
+
+read_argument : (args : Arguments) (a : Syntax) → AreRead args → IsRead a → AreRead (tree.argument args a)
+read_argument args a ias ia = λ w fs out rest.
+    let n = argument_count args in
+    ap (want (frame.Arguments w 0 ∷ fs) out)
+    (append_assoc (all_spelled args) (spelling a ++ (sign sign.Comma ∷ [])) rest
+    ∙ ap (λ ts. all_spelled args ++ ts) (append_assoc (spelling a) (sign sign.Comma ∷ []) rest))
+    ∙ ias w fs out (spelling a ++ (sign sign.Comma ∷ rest))
+    ∙ ia (frame.Arguments w n ∷ fs) (out ++ all_postfix args) (sign sign.Comma ∷ rest) (omega arith)
+    (omega arith)
+    ∙ step_comma w n (level a) fs ((out ++ all_postfix args) ++ postfix a) rest
+    ∙ ap (λ xs. want (frame.Arguments w (suc n) ∷ fs) xs rest)
+    (append_assoc out (all_postfix args) (postfix a))
+
+read_nullary : (w : List ℕ) → IsRead (tree.nullary w)
+read_nullary w = λ fs out rest top end. step_function w fs out (sign sign.Close ∷ rest)
+    ∙ step_nullary w fs out rest
+
+read_applied : (w : List ℕ) (args : Arguments) (a : Syntax) → AreRead args → IsRead a
+    → IsRead (tree.applied w args a)
+read_applied w args a ias ia = λ fs out rest top end.
+    let n = argument_count args in
+    step_function w fs out ((all_spelled args ++ (spelling a ++ (sign sign.Close ∷ []))) ++ rest)
+    ∙ ap (want (frame.Arguments w 0 ∷ fs) out)
+    (append_assoc (all_spelled args) (spelling a ++ (sign sign.Close ∷ [])) rest
+    ∙ ap (λ ts. all_spelled args ++ ts) (append_assoc (spelling a) (sign sign.Close ∷ []) rest))
+    ∙ ias w fs out (spelling a ++ (sign sign.Close ∷ rest))
+    ∙ ia (frame.Arguments w n ∷ fs) (out ++ all_postfix args) (sign sign.Close ∷ rest) (omega arith)
+    (omega arith)
+    ∙ step_applied w n (level a) fs ((out ++ all_postfix args) ++ postfix a) rest
+    ∙ ap (λ xs. have 8 fs xs rest)
+    (regrouped_3 out (all_postfix args) (postfix a) (applied w (suc n)))
+
+mutual
+  pub is_read : (t : Syntax) → Fits t → IsRead t
+  is_read (tree.operand t) h = read_operand t h
+  is_read (tree.negative ds) h = read_negative ds
+  is_read (tree.typed a w n) h = read_typed a w n h.0 (is_read a h.1)
+  is_read (tree.grouped a) h = read_grouped a (is_read a h)
+  is_read (tree.negated a) h = read_negated a h.0 (is_read a h.1)
+  is_read (tree.joined o a b) h = read_joined o a b h.0 h.1 (is_read a h.2) (is_read b h.3)
+  is_read (tree.tested n a) h = read_tested n a h.0 (is_read a h.1)
+  is_read (tree.between n a b c) h =
+      read_between n a b c h.0 h.1 h.2 (is_read a h.3) (is_read b h.4) (is_read c h.5)
+  is_read (tree.matched k a p e) h = read_matched k a p e h.0 h.1 (is_read a h.2) (is_read p h.3)
+  is_read (tree.cast a w n) h = read_cast a w n (is_read a h)
+  is_read (tree.nullary w) h = read_nullary w
+  is_read (tree.applied w args a) h = read_applied w args a (are_read args h.0) (is_read a h.1)
+
+  are_read : (args : Arguments) → AllFit args → AreRead args
+  are_read tree.no_arguments h = read_no_arguments
+  are_read (tree.argument args a) h = read_argument args a (are_read args h.0) (is_read a h.1)
 
 -- all of the tokens
 at_end : (l : ℕ) (out : List Step) → have l [] out [] ≡ Some out

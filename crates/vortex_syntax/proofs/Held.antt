@@ -7,14 +7,14 @@ use Rattle.vortex_syntax.specs.declared.step.WrittenOperator.{WrittenOperator}
 use Rattle.vortex_syntax.specs.declared.step.LikeKind.{LikeKind}
 use Rattle.vortex_syntax.specs.declared.step.Call.TheVariants as call
 use Rattle.vortex_syntax.specs.declared.token.Sign.TheVariants as sign
-use Rattle.vortex_syntax.specs.declared.frame.Frame.{Frame}
-use Rattle.vortex_syntax.specs.declared.frame.Frame.TheVariants as frame
-use Rattle.vortex_syntax.specs.Tokens.{Token, sign}
+use Rattle.vortex_syntax.specs.Frames.{Frame}
+use Rattle.vortex_syntax.specs.Frames as frame
+use Rattle.vortex_syntax.specs.Tokens.{Token, function, sign}
 use Rattle.vortex_syntax.specs.Syntax as tree
-use Rattle.vortex_syntax.specs.Syntax.{Syntax}
-use Rattle.vortex_syntax.specs.Levels.{left, level, Fits}
-use Rattle.vortex_syntax.specs.Spelling.{spelling, operator_sign, with_not, like_sign}
-use Rattle.vortex_syntax.specs.Postfix.{Step, called, postfix}
+use Rattle.vortex_syntax.specs.Syntax.{Syntax, Arguments}
+use Rattle.vortex_syntax.specs.Levels.{left, level, Fits, AllFit}
+use Rattle.vortex_syntax.specs.Spelling.{spelling, all_spelled, operator_sign, with_not, like_sign}
+use Rattle.vortex_syntax.specs.Postfix.{Step, called, argument_count, postfix, all_postfix}
 use Rattle.vortex_syntax.specs.Reading.{hole, top_hole, guard, whole, closing, Operand, operand_of}
 use Rattle.vortex_syntax.specs.Reading.{settled}
 
@@ -26,6 +26,7 @@ pub data Held : Type 0 where
   lower : Bool → Syntax → Held
   upper : Bool → Syntax → Syntax → Held
   matching : LikeKind → Syntax → Held
+  calling : List ℕ → Arguments → Held
 
 abbrev pub frame_of : Held → Frame
 frame_of opened = frame.Open
@@ -35,6 +36,7 @@ frame_of (joining o a) = frame.Join o
 frame_of (lower n a) = frame.Between n
 frame_of (upper n a b) = frame.Bounded n
 frame_of (matching k a) = frame.Like k
+frame_of (calling w args) = frame.Arguments w (argument_count args)
 
 abbrev pub written : Held → List Token
 written opened = sign sign.Open ∷ []
@@ -45,6 +47,7 @@ written (lower n a) = spelling a ++ with_not n sign.Between
 written (upper n a b) =
     spelling a ++ (with_not n sign.Between ++ (spelling b ++ (sign sign.And ∷ [])))
 written (matching k a) = spelling a ++ like_sign k
+written (calling w args) = function w ∷ all_spelled args
 
 abbrev pub held : Held → List Step
 held opened = []
@@ -54,6 +57,7 @@ held (joining o a) = postfix a
 held (lower n a) = postfix a
 held (upper n a b) = postfix a ++ postfix b
 held (matching k a) = postfix a
+held (calling w args) = all_postfix args
 
 abbrev pub IsSound : Held → Type 0
 IsSound opened = Unit {0}
@@ -63,6 +67,7 @@ IsSound (joining o a) = (left o ≤ level a) × Fits a
 IsSound (lower n a) = (6 ≤ level a) × Fits a
 IsSound (upper n a b) = (6 ≤ level a) × (6 ≤ level b) × Fits a × Fits b
 IsSound (matching k a) = (6 ≤ level a) × Fits a
+IsSound (calling w args) = AllFit args
 
 abbrev pub frames_of : List Held → List Frame
 frames_of [] = []
@@ -123,6 +128,7 @@ plugged (matching k a) e g s f le = record {
   tokens = append_assoc (spelling a) (like_sign k) (spelling e)
       ∙ ap (λ ts. spelling a ++ (like_sign k ++ ts)) (sym (append-nil (spelling e)));
 }
+plugged (calling w args) e g s f le = absurd (let k : ⊥ = omega (arith, g) in k)
 
 -- an operand after the pending frames
 pub record Settles (a : Operand) (ts : List Token) : Type 0 where

@@ -1,4 +1,5 @@
 pub mod Runs
+pub mod Numbers
 pub mod Quotes
 pub mod Lexed
 pub mod Doubled
@@ -19,6 +20,7 @@ pub mod Stops
 pub mod Placed
 pub mod Deep
 pub mod AnswerTokens
+pub mod AnswerCommas
 pub mod AnswerNames
 pub mod AnswerSplits
 pub mod AnswerStops

@@ -1,20 +1,20 @@
 -- What the other tokens do to what was read.
-use Rattle.std.proofs.Common.{◌≡◌, ℕ, ◌≤◌, Bool, true, false, nat_le, cond, List, [], ◌∷◌, ◌++◌}
+use Rattle.std.proofs.Common.{◌≡◌, ℕ, zero, suc, ◌≤◌, Bool, true, false, nat_le, cond, List, [], ◌∷◌, ◌++◌}
 use Rattle.std.proofs.Common.{Some, None, refl, ap, subst, ◌∙◌, append_assoc, arith, lit≤}
 use Rattle.vortex_syntax.specs.declared.step.LikeKind.{LikeKind}
 use Rattle.vortex_syntax.specs.declared.step.Call.TheVariants as call
 use Rattle.vortex_syntax.specs.declared.token.Sign.{Sign}
 use Rattle.vortex_syntax.specs.declared.token.Sign.TheVariants as sign
-use Rattle.vortex_syntax.specs.declared.frame.Frame.{Frame}
-use Rattle.vortex_syntax.specs.declared.frame.Frame.TheVariants as frame
+use Rattle.vortex_syntax.specs.Frames.{Frame}
+use Rattle.vortex_syntax.specs.Frames as frame
 use Rattle.vortex_syntax.specs.declared.frame.Mode.TheVariants as mode
-use Rattle.vortex_syntax.specs.Tokens.{Token, name, nullable, quoted, number, text, sign}
+use Rattle.vortex_syntax.specs.Tokens.{Token, name, nullable, function, quoted, number, text, sign}
 use Rattle.vortex_syntax.specs.Syntax as tree
-use Rattle.vortex_syntax.specs.Syntax.{Syntax}
+use Rattle.vortex_syntax.specs.Syntax.{Syntax, Arguments}
 use Rattle.vortex_syntax.specs.Levels.{level, Fits, is_operand, operand_level}
 use Rattle.vortex_syntax.specs.Spelling.{spelling, type_token, null_test, like_sign}
-use Rattle.vortex_syntax.specs.Postfix.{Step, operand, negative, typed, cast, escaped, called}
-use Rattle.vortex_syntax.specs.Postfix.{null_call, postfix}
+use Rattle.vortex_syntax.specs.Postfix.{Step, operand, negative, typed, cast, escaped, applied}
+use Rattle.vortex_syntax.specs.Postfix.{called, null_call, argument_count, postfix}
 use Rattle.vortex_syntax.specs.Reading as specs
 use Rattle.vortex_syntax.specs.Reading.{State, state, hole, top_hole, guard, whole, closing}
 use Rattle.vortex_syntax.specs.Reading.{Operand, operand_of, settled, waiting, shifted, operator_of}
@@ -22,14 +22,16 @@ use Rattle.vortex_syntax.specs.Reading.{and_behind, is_behind, close_behind, as_
 use Rattle.vortex_syntax.specs.Reading.{escape_behind, end_behind, predicate, word_after, behind}
 use Rattle.vortex_syntax.specs.Reading.{next, finish, run, steps_of}
 use Rattle.vortex_syntax.proofs.Tables.{top_atom}
-use Rattle.vortex_syntax.proofs.Held.{opened, casting, negating}
+use Rattle.vortex_syntax.proofs.Held.{Held, opened, casting, negating, calling, written, held}
 use Rattle.vortex_syntax.proofs.Before.{Behind, more, more_tokens, as_tokens, as_steps, pushed}
+use Rattle.vortex_syntax.proofs.Before.{popped, call_is}
 use Rattle.vortex_syntax.proofs.Before.{HasOperand, Holds, HoldsIn, along, chosen, fits_below}
 use Rattle.vortex_syntax.proofs.Before.{operand_more, operand_is}
 
 pub operand_atom : (t : Token) → 8 ≤ operand_level t
 operand_atom (name w) = lit≤ tt
 operand_atom (nullable w) = lit≤ tt
+operand_atom (function w) = lit≤ tt
 operand_atom (quoted w) = lit≤ tt
 operand_atom (number w) = lit≤ tt
 operand_atom (text w) = lit≤ tt
@@ -44,6 +46,40 @@ not_sound fs out s before e b =
     (pushed negating fs out (before ++ (sign sign.Not ∷ []))
     (more_tokens fs out before [] [] (sign sign.Not ∷ []) b) tt
     (fits_below (top_hole fs) 2 c.0))
+
+none_are : (args : Arguments) → 0 ≡ argument_count args → args ≡ tree.no_arguments
+none_are tree.no_arguments e = refl
+none_are (tree.argument args a) e = absurd (let k : ⊥ = omega (arith, e) in k)
+
+pub nullary_is : (w : List ℕ) (args : Arguments) (h : Held) (fs : List Frame) (out : List Step)
+    (before : List Token) → h ≡ calling w args → 0 ≡ argument_count args
+    → Behind fs out before (held h ++ []) (written h ++ [])
+    → HasOperand 8 fs (out ++ (applied w 0 ∷ [])) (before ++ (sign sign.Close ∷ [])) []
+nullary_is w args h fs out before e k r =
+    let is : h ≡ calling w tree.no_arguments = e ∙ ap (calling w) (none_are args k) in
+    let b : Behind fs out before [] (function w ∷ []) =
+    subst (λ (v : Held). Behind fs out before (held v ++ []) (written v ++ [])) is r in
+    operand_is (tree.nullary w) fs (out ++ (applied w 0 ∷ [])) (before ++ (sign sign.Close ∷ [])) tt
+    (top_atom fs)
+    (more fs out before [] (function w ∷ []) (applied w 0 ∷ []) (sign sign.Close ∷ []) b)
+
+pub nullary_sound : (fs : List Frame) (out : List Step) (s : State) (before : List Token)
+    → specs.close_expected fs out ≡ Some s → Behind fs out before [] []
+    → HoldsIn s (before ++ (sign sign.Close ∷ []))
+nullary_sound [] out s before e b = absurd cc
+nullary_sound (frame.Arguments w zero ∷ fs) out s before e b =
+    let r = popped (frame.Arguments w 0) fs out before [] [] b in
+    let i = call_is w 0 r.h r.is in
+    along (state (mode.Have 8) fs (out ++ (applied w 0 ∷ []))) s (before ++ (sign sign.Close ∷ []))
+    e (nullary_is w i.0 r.h fs out before i.1 i.2 r.behind)
+nullary_sound (frame.Arguments w (suc n) ∷ fs) out s before e b = absurd cc
+nullary_sound (frame.Open ∷ fs) out s before e b = absurd cc
+nullary_sound (frame.Cast ∷ fs) out s before e b = absurd cc
+nullary_sound (frame.Not ∷ fs) out s before e b = absurd cc
+nullary_sound (frame.Join o ∷ fs) out s before e b = absurd cc
+nullary_sound (frame.Between n ∷ fs) out s before e b = absurd cc
+nullary_sound (frame.Bounded n ∷ fs) out s before e b = absurd cc
+nullary_sound (frame.Like k ∷ fs) out s before e b = absurd cc
 
 pub sign_wanted_sound : (fs : List Frame) (out : List Step) (u : Sign) (s : State)
     (before : List Token) → specs.sign_expected fs out u ≡ Some s → Behind fs out before [] []
@@ -79,7 +115,7 @@ sign_wanted_sound fs out sign.GreaterOrEqual s before e b = absurd cc
 sign_wanted_sound fs out sign.Plus s before e b = absurd cc
 sign_wanted_sound fs out sign.Times s before e b = absurd cc
 sign_wanted_sound fs out sign.Divide s before e b = absurd cc
-sign_wanted_sound fs out sign.Close s before e b = absurd cc
+sign_wanted_sound fs out sign.Close s before e b = nullary_sound fs out s before e b
 sign_wanted_sound fs out sign.Comma s before e b = absurd cc
 sign_wanted_sound fs out sign.Typed s before e b = absurd cc
 
@@ -89,6 +125,10 @@ pub other_wanted_sound : (fs : List Frame) (out : List Step) (t : Token) (s : St
 other_wanted_sound fs out (sign u) s before e b = sign_wanted_sound fs out u s before e b
 other_wanted_sound fs out (name w) s before e b = absurd cc
 other_wanted_sound fs out (nullable w) s before e b = absurd cc
+other_wanted_sound fs out (function w) s before e b =
+    along (state mode.Want (frame.Arguments w 0 ∷ fs) out) s (before ++ (function w ∷ [])) e
+    (pushed (calling w tree.no_arguments) fs out (before ++ (function w ∷ []))
+    (more_tokens fs out before [] [] (function w ∷ []) b) tt (top_atom fs))
 other_wanted_sound fs out (quoted w) s before e b = absurd cc
 other_wanted_sound fs out (number w) s before e b = absurd cc
 other_wanted_sound fs out (text w) s before e b = absurd cc
@@ -117,6 +157,7 @@ digits_sound fs out (number ds) s before e b =
 digits_sound fs out (sign u) s before e b = absurd cc
 digits_sound fs out (name w) s before e b = absurd cc
 digits_sound fs out (nullable w) s before e b = absurd cc
+digits_sound fs out (function w) s before e b = absurd cc
 digits_sound fs out (quoted w) s before e b = absurd cc
 digits_sound fs out (text w) s before e b = absurd cc
 
@@ -145,6 +186,7 @@ type_sound l fs out (nullable w) s before e a le =
     along (state (mode.Have 8) fs (out ++ (typed w true ∷ []))) s (before ++ (nullable w ∷ [])) e
     (typed_is l fs out before w true a le)
 type_sound l fs out (sign u) s before e a le = absurd cc
+type_sound l fs out (function w) s before e a le = absurd cc
 type_sound l fs out (quoted w) s before e a le = absurd cc
 type_sound l fs out (number w) s before e a le = absurd cc
 type_sound l fs out (text w) s before e a le = absurd cc
@@ -244,6 +286,7 @@ pub is_follows : (l : ℕ) (fs : List Frame) (out : List Step) (t : Token) (s : 
 is_follows l fs out (sign u) s before e a le place = is_sign_sound l fs out u s before e a le place
 is_follows l fs out (name w) s before e a le place = absurd cc
 is_follows l fs out (nullable w) s before e a le place = absurd cc
+is_follows l fs out (function w) s before e a le place = absurd cc
 is_follows l fs out (quoted w) s before e a le place = absurd cc
 is_follows l fs out (number w) s before e a le place = absurd cc
 is_follows l fs out (text w) s before e a le place = absurd cc
@@ -256,6 +299,7 @@ is_not_follows l fs out (sign u) s before e a le place =
     null_sign_sound l fs out u s before e a le place
 is_not_follows l fs out (name w) s before e a le place = absurd cc
 is_not_follows l fs out (nullable w) s before e a le place = absurd cc
+is_not_follows l fs out (function w) s before e a le place = absurd cc
 is_not_follows l fs out (quoted w) s before e a le place = absurd cc
 is_not_follows l fs out (number w) s before e a le place = absurd cc
 is_not_follows l fs out (text w) s before e a le place = absurd cc
@@ -302,6 +346,7 @@ pub cast_follows : (fs : List Frame) (out : List Step) (t : Token) (s : State) (
 cast_follows fs out (sign u) s before e b = cast_sign_sound fs out u s before e b
 cast_follows fs out (name w) s before e b = absurd cc
 cast_follows fs out (nullable w) s before e b = absurd cc
+cast_follows fs out (function w) s before e b = absurd cc
 cast_follows fs out (quoted w) s before e b = absurd cc
 cast_follows fs out (number w) s before e b = absurd cc
 cast_follows fs out (text w) s before e b = absurd cc
@@ -337,6 +382,7 @@ cast_type_sound a fs out (nullable w) s before e f b =
     along (state mode.CastEnd fs (out ++ (cast w true ∷ []))) s (before ++ (nullable w ∷ [])) e
     (a, w, true, f, cast_typed a fs out before w true b)
 cast_type_sound a fs out (sign u) s before e f b = absurd cc
+cast_type_sound a fs out (function w) s before e f b = absurd cc
 cast_type_sound a fs out (quoted w) s before e f b = absurd cc
 cast_type_sound a fs out (number w) s before e f b = absurd cc
 cast_type_sound a fs out (text w) s before e f b = absurd cc
@@ -403,6 +449,7 @@ pub cast_end_sound : (a : Syntax) (v : List ℕ) (n : Bool) (fs : List Frame) (o
 cast_end_sound a v n fs out (sign u) s before e f b = cast_end_sign a v n fs out u s before e f b
 cast_end_sound a v n fs out (name w) s before e f b = absurd cc
 cast_end_sound a v n fs out (nullable w) s before e f b = absurd cc
+cast_end_sound a v n fs out (function w) s before e f b = absurd cc
 cast_end_sound a v n fs out (quoted w) s before e f b = absurd cc
 cast_end_sound a v n fs out (number w) s before e f b = absurd cc
 cast_end_sound a v n fs out (text w) s before e f b = absurd cc
@@ -445,5 +492,6 @@ escaping_sound k fs out (text c) s before e (a, p, ha, hp, fa, fp, place, b) =
 escaping_sound k fs out (sign u) s before e h = absurd cc
 escaping_sound k fs out (name w) s before e h = absurd cc
 escaping_sound k fs out (nullable w) s before e h = absurd cc
+escaping_sound k fs out (function w) s before e h = absurd cc
 escaping_sound k fs out (quoted w) s before e h = absurd cc
 escaping_sound k fs out (number w) s before e h = absurd cc

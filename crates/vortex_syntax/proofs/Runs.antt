@@ -3,7 +3,9 @@ use Rattle.std.specs.Prelude.{IfSome}
 use Rattle.std.specs.Borrow.{Bor}
 use Rattle.std.proofs.Common.{Option, Some, None, ◌≡◌, ℕ, zero, suc, ◌<◌, ◌≤◌, true, false, cond}
 use Rattle.std.proofs.Common.{◌==◌, List, [], ◌∷◌, length, get_or, take, drop, refl, ap, ◌||◌, Bool}
-use Rattle.std.proofs.Common.{arith}
+use Rattle.std.proofs.Common.{◌++◌, arith}
+use Rattle.std.specs.List.{list_all}
+use Rattle.std.proofs.lemmas.Bool.{and_parts, and_from}
 use Rattle.std.specs.Int.{is_in_range}
 use Rattle.vortex_syntax.specs.declared.pieces.Run.{Run}
 use Rattle.vortex_syntax.specs.declared.pieces.Run.TheVariants.{Word}
@@ -25,6 +27,48 @@ ends_at r (x ∷ xs) (suc i) le each stop =
     let s = ends_at r xs i (omega (arith, le)) (λ k lt. each (suc k) (omega (arith, lt)))
     (λ lt. stop (omega (arith, lt))) in
     record { front = rw h (ap (λ ys. x ∷ ys) s.front); behind = rw h s.behind }
+
+-- what ends a run
+abbrev pub EndsRun : Run → List ℕ → Type 0
+EndsRun r [] = Unit {0}
+EndsRun r (c ∷ cs) = is_in r c ≡ false
+
+front_step : (r : Run) (b : ℕ) (bs : List ℕ) → list_all (is_in r) (front r bs) ≡ true → (v : Bool)
+    → is_in r b ≡ v → list_all (is_in r) (cond v (b ∷ front r bs) []) ≡ true
+front_step r b bs ih true h = and_from (is_in r b) (list_all (is_in r) (front r bs)) h ih
+front_step r b bs ih false h = refl
+
+pub front_is : (r : Run) (bs : List ℕ) → list_all (is_in r) (front r bs) ≡ true
+front_is r [] = refl
+front_is r (b ∷ bs) = front_step r b bs (front_is r bs) (is_in r b) refl
+
+-- a run, and what follows it
+pub front_all : (r : Run) (xs rest : List ℕ) → list_all (is_in r) xs ≡ true → EndsRun r rest
+    → front r (xs ++ rest) ≡ xs
+front_all r [] [] h e = refl
+front_all r [] (c ∷ cs) h e = let other : is_in r c ≡ false = e in rw other refl
+front_all r (x ∷ xs) rest h e =
+    let p = and_parts (is_in r x) (list_all (is_in r) xs) h in
+    let first : is_in r x ≡ true = p.0 in
+    rw first (ap (λ ys. x ∷ ys) (front_all r xs rest p.1 e))
+
+pub behind_all : (r : Run) (xs rest : List ℕ) → list_all (is_in r) xs ≡ true → EndsRun r rest
+    → behind r (xs ++ rest) ≡ rest
+behind_all r [] [] h e = refl
+behind_all r [] (c ∷ cs) h e = let other : is_in r c ≡ false = e in rw other refl
+behind_all r (x ∷ xs) rest h e =
+    let p = and_parts (is_in r x) (list_all (is_in r) xs) h in
+    let first : is_in r x ≡ true = p.0 in
+    rw first (behind_all r xs rest p.1 e)
+
+joined_if : (r : Run) (x : ℕ) (xs : List ℕ) (v : Bool) → front r xs ++ behind r xs ≡ xs
+    → cond v (x ∷ front r xs) [] ++ cond v (behind r xs) (x ∷ xs) ≡ x ∷ xs
+joined_if r x xs true h = ap (λ ys. x ∷ ys) h
+joined_if r x xs false h = refl
+
+pub run_joined : (r : Run) (xs : List ℕ) → front r xs ++ behind r xs ≡ xs
+run_joined r [] = refl
+run_joined r (x ∷ xs) = joined_if r x xs (is_in r x) (run_joined r xs)
 
 pub behind_le : (r : Run) (xs : List ℕ) → length (behind r xs) ≤ length xs
 behind_le r [] = omega arith

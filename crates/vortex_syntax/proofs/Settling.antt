@@ -1,6 +1,6 @@
 -- What closes before a sign, and what stays.
 use Rattle.std.proofs.Common.{◌≡◌, ℕ, ◌<◌, ◌≤◌, List, [], ◌∷◌, ◌++◌, refl}
-use Rattle.vortex_syntax.specs.declared.frame.Frame.{Frame}
+use Rattle.vortex_syntax.specs.Frames.{Frame}
 use Rattle.vortex_syntax.specs.Postfix.{Step}
 use Rattle.vortex_syntax.specs.Reading.{guard, whole, closing, operand_of, settled}
 use Rattle.vortex_syntax.proofs.Tables.{lower, not_lower}

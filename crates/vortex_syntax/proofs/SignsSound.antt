@@ -1,5 +1,5 @@
 -- What a sign after an operand does to what was read.
-use Rattle.std.proofs.Common.{◌≡◌, ℕ, ◌≤◌, Bool, true, false, nat_le, ◌&&◌, cond, List, [], ◌∷◌}
+use Rattle.std.proofs.Common.{◌≡◌, ℕ, suc, ◌≤◌, Bool, true, false, nat_le, ◌&&◌, cond, List, [], ◌∷◌}
 use Rattle.std.proofs.Common.{◌++◌, Some, None, refl, ap, sym, subst, ◌∙◌, append_assoc}
 use Rattle.std.proofs.lemmas.List.{append-nil}
 use Rattle.vortex_syntax.specs.declared.step.WrittenOperator.{WrittenOperator}
@@ -7,26 +7,28 @@ use Rattle.vortex_syntax.specs.declared.step.WrittenOperator.TheVariants as oper
 use Rattle.vortex_syntax.specs.declared.step.LikeKind.{LikeKind}
 use Rattle.vortex_syntax.specs.declared.token.Sign.{Sign}
 use Rattle.vortex_syntax.specs.declared.token.Sign.TheVariants as sign
-use Rattle.vortex_syntax.specs.declared.frame.Frame.{Frame}
-use Rattle.vortex_syntax.specs.declared.frame.Frame.TheVariants as frame
+use Rattle.vortex_syntax.specs.Frames.{Frame}
+use Rattle.vortex_syntax.specs.Frames as frame
 use Rattle.vortex_syntax.specs.declared.frame.Mode.TheVariants as mode
-use Rattle.vortex_syntax.specs.Tokens.{Token, name, nullable, quoted, number, text, sign}
+use Rattle.vortex_syntax.specs.Tokens.{Token, name, nullable, function, quoted, number, text, sign}
 use Rattle.vortex_syntax.specs.Syntax as tree
-use Rattle.vortex_syntax.specs.Syntax.{Syntax}
-use Rattle.vortex_syntax.specs.Levels.{own, left, level, Fits}
-use Rattle.vortex_syntax.specs.Spelling.{spelling, operator_sign, with_not, like_sign}
-use Rattle.vortex_syntax.specs.Postfix.{Step, postfix}
+use Rattle.vortex_syntax.specs.Syntax.{Syntax, Arguments}
+use Rattle.vortex_syntax.specs.Levels.{own, left, level, Fits, AllFit}
+use Rattle.vortex_syntax.specs.Spelling.{spelling, all_spelled, operator_sign, with_not, like_sign}
+use Rattle.vortex_syntax.specs.Postfix.{Step, applied, argument_count, postfix, all_postfix}
 use Rattle.vortex_syntax.specs.Reading as specs
 use Rattle.vortex_syntax.specs.Reading.{State, state, hole, top_hole, guard, whole, closing}
 use Rattle.vortex_syntax.specs.Reading.{Operand, operand_of, settled, waiting, shifted, operator_of}
-use Rattle.vortex_syntax.specs.Reading.{and_behind, is_behind, not_behind, close_behind, as_behind}
-use Rattle.vortex_syntax.specs.Reading.{escape_behind, end_behind, predicate, word_after, behind}
+use Rattle.vortex_syntax.specs.Reading.{and_behind, is_behind, not_behind, close_behind}
+use Rattle.vortex_syntax.specs.Reading.{comma_behind, as_behind, escape_behind, end_behind, predicate, word_after, behind}
 use Rattle.vortex_syntax.specs.Reading.{next, finish, run, steps_of}
 use Rattle.vortex_syntax.proofs.Tables.{top_atom}
 use Rattle.vortex_syntax.proofs.Held.{Held, opened, casting, joining, lower, upper, matching}
+use Rattle.vortex_syntax.proofs.Held.{calling}
 use Rattle.vortex_syntax.proofs.Held.{frame_of, written, held, IsSound}
-use Rattle.vortex_syntax.proofs.Before.{Behind, more_tokens, as_tokens, as_steps, pushed, popped}
-use Rattle.vortex_syntax.proofs.Before.{open_is, cast_is, lower_is, like_is, HasOperand}
+use Rattle.vortex_syntax.proofs.Before.{Behind, more, more_tokens, as_tokens, as_steps, pushed}
+use Rattle.vortex_syntax.proofs.Before.{popped, open_is, cast_is, lower_is, like_is, call_is}
+use Rattle.vortex_syntax.proofs.Before.{HasOperand}
 use Rattle.vortex_syntax.proofs.Before.{settled_operand, Holds, HoldsIn, along, both, chosen}
 use Rattle.vortex_syntax.proofs.Before.{fits_below, operand_more, operand_is}
 
@@ -195,6 +197,8 @@ and_sound l (frame.Join o ∷ fs) out s before e a = and_joined l (frame.Join o 
 and_sound l (frame.Bounded n ∷ fs) out s before e a =
     and_joined l (frame.Bounded n ∷ fs) out s before e a
 and_sound l (frame.Like k ∷ fs) out s before e a = and_joined l (frame.Like k ∷ fs) out s before e a
+and_sound l (frame.Arguments w n ∷ fs) out s before e a =
+    and_joined l (frame.Arguments w n ∷ fs) out s before e a
 
 pub is_sound : (l : ℕ) (fs : List Frame) (out : List Step) (s : State) (before : List Token)
     → is_behind l fs out ≡ Some s → HasOperand l fs out before []
@@ -237,6 +241,84 @@ grouped_is a h fs out before f e r =
     (more_tokens fs out before (postfix a) (sign sign.Open ∷ (spelling a ++ []))
     (sign sign.Close ∷ []) b))
 
+-- a call with its operand
+pub in_call : (w : List ℕ) (args : Arguments) (a : Syntax) (u : Sign)
+    → (function w ∷ (all_spelled args ++ (spelling a ++ []))) ++ (sign u ∷ [])
+    ≡ function w ∷ (all_spelled args ++ (spelling a ++ (sign u ∷ [])))
+in_call w args a u =
+    ap (λ ts. function w ∷ ts) (append_assoc (all_spelled args) (spelling a ++ []) (sign u ∷ [])
+    ∙ ap (λ ts. all_spelled args ++ (ts ++ (sign u ∷ []))) (append-nil (spelling a)))
+
+abbrev pub Called : List ℕ → Arguments → Syntax → List Frame → List Step → List Token → Type 0
+Called w args a fs out before =
+    Behind fs out before (all_postfix args ++ postfix a)
+    (function w ∷ (all_spelled args ++ (spelling a ++ [])))
+
+pub called_is : (w : List ℕ) (args : Arguments) (a : Syntax) (h : Held) (fs : List Frame)
+    (out : List Step) (before : List Token) → h ≡ calling w args
+    → Behind fs out before (held h ++ postfix a) (written h ++ (spelling a ++ []))
+    → Called w args a fs out before
+called_is w args a h fs out before e r =
+    subst (λ (v : Held). Behind fs out before (held v ++ postfix a)
+    (written v ++ (spelling a ++ []))) e r
+
+pub all_fit_is : (w : List ℕ) (args : Arguments) (h : Held) → h ≡ calling w args → IsSound h
+    → AllFit args
+all_fit_is w args h e s = subst (λ (v : Held). IsSound v) e s
+
+pub applied_is : (w : List ℕ) (n : ℕ) (args : Arguments) (a : Syntax) (fs : List Frame)
+    (out : List Step) (before : List Token) → n ≡ argument_count args → AllFit args → Fits a
+    → Called w args a fs out before
+    → HasOperand 8 fs (out ++ (applied w (suc n) ∷ [])) (before ++ (sign sign.Close ∷ [])) []
+applied_is w n args a fs out before e s f b =
+    let last : List Step = applied w (suc n) ∷ [] in
+    let close : List Token = sign sign.Close ∷ [] in
+    let xs = (all_postfix args ++ postfix a) ++ last in
+    operand_is (tree.applied w args a) fs (out ++ last) (before ++ close) (s, f) (top_atom fs)
+    (as_steps fs (out ++ last) (before ++ close) xs (postfix (tree.applied w args a))
+    (spelling (tree.applied w args a))
+    (append_assoc (all_postfix args) (postfix a) last
+    ∙ ap (λ m. all_postfix args ++ (postfix a ++ (applied w (suc m) ∷ []))) e)
+    (as_tokens fs (out ++ last) (before ++ close) xs
+    ((function w ∷ (all_spelled args ++ (spelling a ++ []))) ++ close)
+    (spelling (tree.applied w args a)) (in_call w args a sign.Close)
+    (more fs out before (all_postfix args ++ postfix a)
+    (function w ∷ (all_spelled args ++ (spelling a ++ []))) last close b)))
+
+pub argument_is : (w : List ℕ) (n : ℕ) (args : Arguments) (a : Syntax) (fs : List Frame)
+    (out : List Step) (before : List Token) → n ≡ argument_count args → AllFit args → Fits a
+    → Called w args a fs out before
+    → Behind (frame.Arguments w (suc n) ∷ fs) out (before ++ (sign sign.Comma ∷ [])) [] []
+argument_is w n args a fs out before e s f b =
+    let comma : List Token = sign sign.Comma ∷ [] in
+    subst (λ (m : ℕ). Behind (frame.Arguments w (suc m) ∷ fs) out (before ++ comma) [] []) (sym e)
+    (pushed (calling w (tree.argument args a)) fs out (before ++ comma)
+    (as_tokens fs out (before ++ comma) (all_postfix args ++ postfix a)
+    ((function w ∷ (all_spelled args ++ (spelling a ++ []))) ++ comma)
+    (written (calling w (tree.argument args a))) (in_call w args a sign.Comma)
+    (more_tokens fs out before (all_postfix args ++ postfix a)
+    (function w ∷ (all_spelled args ++ (spelling a ++ []))) comma b)) (s, f) (top_atom fs))
+
+pub comma_sound : (l : ℕ) (fs : List Frame) (out : List Step) (s : State) (before : List Token)
+    → comma_behind fs out ≡ Some s → HasOperand l fs out before []
+    → HoldsIn s (before ++ (sign sign.Comma ∷ []))
+comma_sound l [] out s before e a = absurd cc
+comma_sound l (frame.Arguments w n ∷ fs) out s before e a =
+    let r = popped (frame.Arguments w n) fs out before (postfix a.tree) (spelling a.tree ++ [])
+    a.behind in
+    let i = call_is w n r.h r.is in
+    along (state mode.Want (frame.Arguments w (suc n) ∷ fs) out) s
+    (before ++ (sign sign.Comma ∷ [])) e
+    (argument_is w n i.0 a.tree fs out before i.2 (all_fit_is w i.0 r.h i.1 r.sound) a.fits
+    (called_is w i.0 a.tree r.h fs out before i.1 r.behind))
+comma_sound l (frame.Open ∷ fs) out s before e a = absurd cc
+comma_sound l (frame.Cast ∷ fs) out s before e a = absurd cc
+comma_sound l (frame.Not ∷ fs) out s before e a = absurd cc
+comma_sound l (frame.Join o ∷ fs) out s before e a = absurd cc
+comma_sound l (frame.Between n ∷ fs) out s before e a = absurd cc
+comma_sound l (frame.Bounded n ∷ fs) out s before e a = absurd cc
+comma_sound l (frame.Like k ∷ fs) out s before e a = absurd cc
+
 pub close_sound : (l : ℕ) (fs : List Frame) (out : List Step) (s : State) (before : List Token)
     → close_behind fs out ≡ Some s → HasOperand l fs out before []
     → HoldsIn s (before ++ (sign sign.Close ∷ []))
@@ -245,6 +327,14 @@ close_sound l (frame.Open ∷ fs) out s before e a =
     let r = popped frame.Open fs out before (postfix a.tree) (spelling a.tree ++ []) a.behind in
     along (state (mode.Have 8) fs out) s (before ++ (sign sign.Close ∷ [])) e
     (grouped_is a.tree r.h fs out before a.fits (open_is r.h r.is) r.behind)
+close_sound l (frame.Arguments w n ∷ fs) out s before e a =
+    let r = popped (frame.Arguments w n) fs out before (postfix a.tree) (spelling a.tree ++ [])
+    a.behind in
+    let i = call_is w n r.h r.is in
+    along (state (mode.Have 8) fs (out ++ (applied w (suc n) ∷ []))) s
+    (before ++ (sign sign.Close ∷ [])) e
+    (applied_is w n i.0 a.tree fs out before i.2 (all_fit_is w i.0 r.h i.1 r.sound) a.fits
+    (called_is w i.0 a.tree r.h fs out before i.1 r.behind))
 close_sound l (frame.Cast ∷ fs) out s before e a = absurd cc
 close_sound l (frame.Not ∷ fs) out s before e a = absurd cc
 close_sound l (frame.Join o ∷ fs) out s before e a = absurd cc
@@ -283,6 +373,7 @@ as_sound l (frame.Join o ∷ fs) out s before e a = absurd cc
 as_sound l (frame.Between n ∷ fs) out s before e a = absurd cc
 as_sound l (frame.Bounded n ∷ fs) out s before e a = absurd cc
 as_sound l (frame.Like k ∷ fs) out s before e a = absurd cc
+as_sound l (frame.Arguments w n ∷ fs) out s before e a = absurd cc
 
 pub pattern_written : (k : LikeKind) (a p : Syntax)
     → (written (matching k a) ++ (spelling p ++ [])) ++ (sign sign.Escape ∷ [])
@@ -333,6 +424,7 @@ escape_sound l (frame.Not ∷ fs) out s before e a = absurd cc
 escape_sound l (frame.Join o ∷ fs) out s before e a = absurd cc
 escape_sound l (frame.Between n ∷ fs) out s before e a = absurd cc
 escape_sound l (frame.Bounded n ∷ fs) out s before e a = absurd cc
+escape_sound l (frame.Arguments w n ∷ fs) out s before e a = absurd cc
 
 pub typed_sound : (l : ℕ) (fs : List Frame) (out : List Step) (s : State) (before : List Token)
     → cond (nat_le 9 l) (Some (state mode.Typing fs out)) None ≡ Some s
@@ -383,7 +475,8 @@ behind_sign l fs out sign.Divide s before e a = joining_sound operator.Div l fs 
 behind_sign l fs out sign.Open s before e a = absurd cc
 behind_sign l fs out sign.Close s before e a = let b = settled 0 l fs out in
     close_sound b.level b.frames b.steps s before e (settled_operand 0 l fs out before [] a)
-behind_sign l fs out sign.Comma s before e a = absurd cc
+behind_sign l fs out sign.Comma s before e a = let b = settled 0 l fs out in
+    comma_sound b.level b.frames b.steps s before e (settled_operand 0 l fs out before [] a)
 behind_sign l fs out sign.Typed s before e a = typed_sound l fs out s before e a
 
 pub behind_sound : (l : ℕ) (fs : List Frame) (out : List Step) (t : Token) (s : State)
@@ -392,6 +485,7 @@ pub behind_sound : (l : ℕ) (fs : List Frame) (out : List Step) (t : Token) (s 
 behind_sound l fs out (sign u) s before e a = behind_sign l fs out u s before e a
 behind_sound l fs out (name w) s before e a = absurd cc
 behind_sound l fs out (nullable w) s before e a = absurd cc
+behind_sound l fs out (function w) s before e a = absurd cc
 behind_sound l fs out (quoted w) s before e a = absurd cc
 behind_sound l fs out (number w) s before e a = absurd cc
 behind_sound l fs out (text w) s before e a = absurd cc
@@ -402,6 +496,7 @@ pub negating_sound : (l : ℕ) (fs : List Frame) (out : List Step) (t : Token) (
 negating_sound l fs out (sign u) s before e a = predicate_sound true l fs out u s before e a
 negating_sound l fs out (name w) s before e a = absurd cc
 negating_sound l fs out (nullable w) s before e a = absurd cc
+negating_sound l fs out (function w) s before e a = absurd cc
 negating_sound l fs out (quoted w) s before e a = absurd cc
 negating_sound l fs out (number w) s before e a = absurd cc
 negating_sound l fs out (text w) s before e a = absurd cc

@@ -3,7 +3,7 @@ use Rattle.std.proofs.Common.{◌≡◌, ℕ, ◌+◌, ◌<◌, ◌≤◌, List,
 use Rattle.std.proofs.Common.{Option, Some, None, refl, ap, ◌∙◌, add-one}
 use Rattle.std.proofs.Math.Seq.{drop-cons}
 use Rattle.std.proofs.lemmas.List.{drop_all}
-use Rattle.vortex_syntax.specs.declared.frame.Frame.{Frame}
+use Rattle.vortex_syntax.specs.Frames.{Frame}
 use Rattle.vortex_syntax.specs.declared.frame.Mode.TheVariants as mode
 use Rattle.vortex_syntax.specs.Tokens.{Token}
 use Rattle.vortex_syntax.specs.Postfix.{Step}

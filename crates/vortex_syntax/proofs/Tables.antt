@@ -6,9 +6,9 @@ use Rattle.vortex_syntax.specs.declared.step.WrittenOperator.{WrittenOperator}
 use Rattle.vortex_syntax.specs.declared.step.WrittenOperator.TheVariants as operator
 use Rattle.vortex_syntax.specs.declared.token.Sign.{Sign}
 use Rattle.vortex_syntax.specs.declared.token.Sign.TheVariants as sign
-use Rattle.vortex_syntax.specs.declared.frame.Frame.{Frame}
-use Rattle.vortex_syntax.specs.declared.frame.Frame.TheVariants as frame
-use Rattle.vortex_syntax.specs.Tokens.{Token, name, nullable, quoted, number, text, sign}
+use Rattle.vortex_syntax.specs.Frames.{Frame}
+use Rattle.vortex_syntax.specs.Frames as frame
+use Rattle.vortex_syntax.specs.Tokens.{Token, name, nullable, function, quoted, number, text, sign}
 use Rattle.vortex_syntax.specs.Levels.{own, left, right}
 use Rattle.vortex_syntax.specs.Reading.{hole, top_hole, guard, whole}
 
@@ -63,6 +63,7 @@ tight (frame.Join o) n h le ne = omega (arith, le, own_right o)
 tight (frame.Between m) n h le ne = absurd (let k : ⊥ = omega (arith, h) in k)
 tight (frame.Bounded m) n h le ne = omega (arith, le)
 tight (frame.Like k) n h le ne = omega (arith, le)
+tight (frame.Arguments w m) n h le ne = absurd (let k : ⊥ = omega (arith, h) in k)
 
 pub guard_hole : (f : Frame) → guard f ≤ hole f
 guard_hole frame.Open = lit≤ tt
@@ -72,6 +73,7 @@ guard_hole (frame.Join o) = omega arith
 guard_hole (frame.Between m) = lit≤ tt
 guard_hole (frame.Bounded m) = lit≤ tt
 guard_hole (frame.Like k) = lit≤ tt
+guard_hole (frame.Arguments w n) = lit≤ tt
 
 pub hole_atom : (f : Frame) → hole f ≤ 8
 hole_atom frame.Open = lit≤ tt
@@ -81,6 +83,7 @@ hole_atom (frame.Join o) = right_atom o
 hole_atom (frame.Between m) = lit≤ tt
 hole_atom (frame.Bounded m) = lit≤ tt
 hole_atom (frame.Like k) = lit≤ tt
+hole_atom (frame.Arguments w n) = lit≤ tt
 
 pub top_atom : (fs : List Frame) → top_hole fs ≤ 8
 top_atom [] = lit≤ tt
@@ -151,6 +154,7 @@ not_two [] h = absurd (let k : ⊥ = omega (arith, h) in k)
 not_two (sign s ∷ ts) h = sign_not_two s h
 not_two (name w ∷ ts) h = absurd (let k : ⊥ = omega (arith, h) in k)
 not_two (nullable w ∷ ts) h = absurd (let k : ⊥ = omega (arith, h) in k)
+not_two (function w ∷ ts) h = absurd (let k : ⊥ = omega (arith, h) in k)
 not_two (quoted w ∷ ts) h = absurd (let k : ⊥ = omega (arith, h) in k)
 not_two (number w ∷ ts) h = absurd (let k : ⊥ = omega (arith, h) in k)
 not_two (text w ∷ ts) h = absurd (let k : ⊥ = omega (arith, h) in k)

@@ -1,46 +1,30 @@
 -- The tokens of a text can be written.
-use Rattle.std.proofs.Common.{◌≡◌, ℕ, Bool, true, false, cond, ◌==◌, List, [], ◌∷◌, Option, Some}
+use Rattle.std.proofs.Common.{◌≡◌, ℕ, true, false, cond, ◌==◌, List, [], ◌∷◌, Option, Some}
 use Rattle.std.proofs.Common.{None, refl, ap, sym, subst, ◌∙◌}
 use Rattle.std.specs.Prelude.{is_none}
 use Rattle.std.specs.List.{list_all}
-use Rattle.std.specs.Char.{is_ascii_digit}
 use Rattle.std.proofs.lemmas.Bool.{and_from, eqb-true, cond_both}
 use Rattle.vortex_syntax.specs.declared.token.Sign.{Sign}
 use Rattle.vortex_syntax.specs.declared.token.Sign.TheVariants as sign
-use Rattle.vortex_syntax.specs.declared.pieces.Run.{Run}
-use Rattle.vortex_syntax.specs.declared.pieces.Run.TheVariants.{Word, Digits, Line}
-use Rattle.vortex_syntax.specs.Tokens.{Token, name, nullable, quoted, number, text, sign}
+use Rattle.vortex_syntax.specs.declared.pieces.Run.TheVariants.{Word, Line}
+use Rattle.vortex_syntax.specs.Tokens.{Token, name, nullable, function, quoted, number, text, sign}
 use Rattle.vortex_syntax.specs.Keywords.{keyword_of}
 use Rattle.vortex_syntax.specs.Pieces.{Piece, gap, token, Cut, is_blank, begins_word, is_in, front}
-use Rattle.vortex_syntax.specs.Pieces.{behind, keyword_or_name, word_before, number_before}
+use Rattle.vortex_syntax.specs.Pieces.{behind, name_before, keyword_or_name, word_before}
+use Rattle.vortex_syntax.specs.Pieces.{number_before, begins_number, behind_number, front_number}
 use Rattle.vortex_syntax.specs.Pieces.{with_front, closed, quoted_by, sign_of_two, sign_of_one}
 use Rattle.vortex_syntax.specs.Pieces.{sign_before, or_else, longest_sign, minus_or_comment}
 use Rattle.vortex_syntax.specs.Pieces.{first_piece}
 use Rattle.vortex_syntax.specs.Lexing.{Lexes, none, gap_first, token_first}
-use Rattle.vortex_syntax.specs.Writing.{doubled, is_word, are_digits, IsDoubled, IsWritable}
-use Rattle.vortex_syntax.specs.Writing.{AllWritable}
-use Rattle.vortex_syntax.proofs.Runs.{word_begun}
-
--- runs
-front_step : (r : Run) (b : ℕ) (bs : List ℕ) → list_all (is_in r) (front r bs) ≡ true → (v : Bool)
-    → is_in r b ≡ v → list_all (is_in r) (cond v (b ∷ front r bs) []) ≡ true
-front_step r b bs ih true h = and_from (is_in r b) (list_all (is_in r) (front r bs)) h ih
-front_step r b bs ih false h = refl
-
-front_is : (r : Run) (bs : List ℕ) → list_all (is_in r) (front r bs) ≡ true
-front_is r [] = refl
-front_is r (b ∷ bs) = front_step r b bs (front_is r bs) (is_in r b) refl
+use Rattle.vortex_syntax.specs.Writing.{doubled, is_word, is_bare, IsNumber, IsDoubled}
+use Rattle.vortex_syntax.specs.Writing.{IsWritable, AllWritable}
+use Rattle.vortex_syntax.proofs.Runs.{word_begun, front_is}
+use Rattle.vortex_syntax.proofs.Numbers.{front_is_number}
 
 word_is : (b : ℕ) (bs : List ℕ) → begins_word b ≡ true → is_word (front Word (b ∷ bs)) ≡ true
 word_is b bs h =
     let here = word_begun b h in
     rw here (and_from (begins_word b) (list_all (is_in Word) (front Word bs)) h (front_is Word bs))
-
-digits_are : (d : ℕ) (ds : List ℕ) → is_ascii_digit d ≡ true
-    → are_digits (front Digits (d ∷ ds)) ≡ true
-digits_are d ds h = let here : is_in Digits d ≡ true = h in
-    rw here (and_from (is_in Digits d) (list_all (is_in Digits) (front Digits ds)) h
-    (front_is Digits ds))
 
 -- texts between quotes
 abbrev Pair : Type 0
@@ -121,20 +105,26 @@ module _ (t : Token) (rest : List ℕ) where
       cond_both (c == 45) (Some (gap, behind Line cs)) (Some (token (sign sign.Minus), c ∷ cs)) Says
       (λ h. gap_says (behind Line cs)) (λ h. token_says (sign sign.Minus) (c ∷ cs) tt)
 
+  name_says : (w xs : List ℕ) → is_bare w ≡ true → Says (Some (name_before w xs))
+  name_says w [] h = token_says (name w) [] h
+  name_says w (b ∷ bs) h =
+      cond_both (b == 40) (token (function w), bs) (token (name w), b ∷ bs) (λ p. Says (Some p))
+      (λ k. token_says (function w) bs h) (λ k. token_says (name w) (b ∷ bs) h)
+
   keyword_says : (w xs : List ℕ) (o : Option Sign) → is_word w ≡ true → keyword_of w ≡ o
-      → Says (Some (token (keyword_or_name w o), xs))
+      → Says (Some (keyword_or_name w o xs))
   keyword_says w xs None h e =
-      token_says (name w) xs (and_from (is_word w) (is_none (keyword_of w)) h (ap is_none e))
+      name_says w xs (and_from (is_word w) (is_none (keyword_of w)) h (ap is_none e))
   keyword_says w xs (Some s) h e = token_says (sign s) xs tt
 
   word_says : (w xs : List ℕ) → is_word w ≡ true → Says (Some (word_before w xs))
   word_says w [] h = keyword_says w [] (keyword_of w) h refl
   word_says w (b ∷ bs) h =
       cond_both (b == 63) (token (nullable w), bs)
-      (token (keyword_or_name w (keyword_of w)), b ∷ bs) (λ p. Says (Some p))
+      (keyword_or_name w (keyword_of w) (b ∷ bs)) (λ p. Says (Some p))
       (λ k. token_says (nullable w) bs h) (λ k. keyword_says w (b ∷ bs) (keyword_of w) h refl)
 
-  number_says : (ds xs : List ℕ) → are_digits ds ≡ true → Says (number_before ds xs)
+  number_says : (ds xs : List ℕ) → IsNumber ds → Says (number_before ds xs)
   number_says ds [] h = token_says (number ds) [] h
   number_says ds (b ∷ bs) h =
       cond_both (is_in Word b) None (Some (token (number ds), b ∷ bs)) Says (λ k. none_says)
@@ -167,8 +157,8 @@ module _ (t : Token) (rest : List ℕ) where
       let names = cond (b == 34) (quoted_by quoted (closed 34 bs)) marks in
       let texts = cond (b == 39) (quoted_by text (closed 39 bs)) names in
       let numbers =
-      cond (is_ascii_digit b)
-      (number_before (front Digits (b ∷ bs)) (behind Digits (b ∷ bs))) texts in
+      cond (begins_number (b ∷ bs))
+      (number_before (front_number (b ∷ bs)) (behind_number (b ∷ bs))) texts in
       let words = cond (begins_word b)
       (Some (word_before (front Word (b ∷ bs)) (behind Word (b ∷ bs)))) numbers in
       let minus = cond (b == 45) (minus_or_comment bs) words in
@@ -177,9 +167,10 @@ module _ (t : Token) (rest : List ℕ) where
       (λ h. cond_both (begins_word b)
       (Some (word_before (front Word (b ∷ bs)) (behind Word (b ∷ bs)))) numbers Says
       (λ h. word_says (front Word (b ∷ bs)) (behind Word (b ∷ bs)) (word_is b bs h))
-      (λ h. cond_both (is_ascii_digit b)
-      (number_before (front Digits (b ∷ bs)) (behind Digits (b ∷ bs))) texts Says
-      (λ h. number_says (front Digits (b ∷ bs)) (behind Digits (b ∷ bs)) (digits_are b bs h))
+      (λ h. cond_both (begins_number (b ∷ bs))
+      (number_before (front_number (b ∷ bs)) (behind_number (b ∷ bs))) texts Says
+      (λ h. number_says (front_number (b ∷ bs)) (behind_number (b ∷ bs))
+      (front_is_number (b ∷ bs) h))
       (λ h. cond_both (b == 39) (quoted_by text (closed 39 bs)) names Says
       (λ h. quoted_says text (closed 39 bs) (closed_is 39 bs))
       (λ h. cond_both (b == 34) (quoted_by quoted (closed 34 bs)) marks Says

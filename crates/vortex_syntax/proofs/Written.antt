@@ -4,21 +4,20 @@ use Rattle.std.proofs.Common.{Option, Some, None, refl, ap, sym, ◌∙◌, appe
 use Rattle.std.specs.Prelude.{codes, is_none}
 use Rattle.std.specs.List.{list_all}
 use Rattle.std.specs.Int.{is_in_range}
-use Rattle.std.specs.Char.{is_ascii_digit}
 use Rattle.std.proofs.lemmas.List.{append-nil}
 use Rattle.std.proofs.lemmas.Bool.{and_parts, and_from, or_parts, eq-eqb, false≢true}
 use Rattle.std.proofs.lemmas.Bool.Decides.{nat_tests}
 use Rattle.vortex_syntax.specs.declared.token.Sign.{Sign}
 use Rattle.vortex_syntax.specs.declared.token.Sign.TheVariants as sign
-use Rattle.vortex_syntax.specs.declared.pieces.Run.{Run}
 use Rattle.vortex_syntax.specs.declared.pieces.Run.TheVariants.{Word, Digits}
 use Rattle.vortex_syntax.specs.declared.writing.Ending.{Ending}
 use Rattle.vortex_syntax.specs.declared.writing.Ending.TheVariants as at
 use Rattle.vortex_syntax.specs.declared.writing.Writer.{Writer}
-use Rattle.vortex_syntax.specs.Tokens.{Token, name, nullable, quoted, number, text, sign}
+use Rattle.vortex_syntax.specs.Tokens.{Token, name, nullable, function, quoted, number, text, sign}
 use Rattle.vortex_syntax.specs.Keywords.{keyword_of}
 use Rattle.vortex_syntax.specs.Pieces.{gap, token, is_blank, begins_word, is_in, front, behind}
-use Rattle.vortex_syntax.specs.Pieces.{keyword_or_name, word_before, number_before, with_front}
+use Rattle.vortex_syntax.specs.Pieces.{name_before, keyword_or_name, word_before, number_before}
+use Rattle.vortex_syntax.specs.Pieces.{begins_number, behind_number, front_number, with_front}
 use Rattle.vortex_syntax.specs.Pieces.{closed, quoted_by, first_piece}
 use Rattle.vortex_syntax.specs.Lexing.{Lexes, none, gap_first, token_first}
 use Rattle.vortex_syntax.specs.Syntax.{Syntax}
@@ -30,8 +29,10 @@ use Rattle.vortex_syntax.specs.Writing.{sign_text, doubled, in_quotes, token_tex
 use Rattle.vortex_syntax.specs.Writing.{joins_number, joins_bracket, joins_sign, joins}
 use Rattle.vortex_syntax.specs.Writing.{blank_unless, minus_ending, sign_ending, ending_behind}
 use Rattle.vortex_syntax.specs.Writing.{ending_of, written_behind, written, is_word, is_bare}
-use Rattle.vortex_syntax.specs.Writing.{are_digits, IsDoubled, IsWritable, AllWritable, Holds, Adds}
-use Rattle.vortex_syntax.proofs.Runs.{word_begun}
+use Rattle.vortex_syntax.specs.Writing.{IsNumber, IsDoubled, IsWritable, AllWritable, Holds, Adds}
+use Rattle.vortex_syntax.proofs.Runs.{EndsRun, word_begun, front_all, behind_all}
+use Rattle.vortex_syntax.proofs.Numbers.{NoPoint, NoMark, number_behind, number_front, number_begun}
+use Rattle.vortex_syntax.proofs.Numbers.{first_byte}
 use Rattle.vortex_syntax.proofs.Quotes.{closed_other, closed_twice}
 
 -- no token continues with these bytes
@@ -39,7 +40,7 @@ abbrev Stops : List ℕ → Type 0
 Stops [] = Unit {0}
 Stops (c ∷ cs) =
     (is_in Word c ≡ false) × ((c == 63) ≡ false) × ((c == 34) ≡ false) × ((c == 39) ≡ false)
-    × ((c == 61) ≡ false) × ((c == 62) ≡ false) × ((c == 45) ≡ false)
+    × ((c == 61) ≡ false) × ((c == 62) ≡ false) × ((c == 45) ≡ false) × ((c == 46) ≡ false)
 
 abbrev NoMinus : List ℕ → Type 0
 NoMinus [] = Unit {0}
@@ -49,14 +50,11 @@ no_minus_of : (bs : List ℕ) → Stops bs → NoMinus bs
 no_minus_of [] s = tt
 no_minus_of (c ∷ cs) s = s.6
 
-abbrev EndsRun : Run → List ℕ → Type 0
-EndsRun r [] = Unit {0}
-EndsRun r (c ∷ cs) = is_in r c ≡ false
-
 ends_word : (bs : List ℕ) → Stops bs → EndsRun Word bs
 ends_word [] s = tt
 ends_word (c ∷ cs) s = s.0
 
+-- letters and digits are bytes of words
 no_digit : (c : ℕ) → is_in Word c ≡ false → is_in Digits c ≡ false
 no_digit c h =
     let u = or_parts ((is_in_range 48 57 c || is_in_range 65 90 c) || is_in_range 97 122 c)
@@ -64,9 +62,25 @@ no_digit c h =
     let b = or_parts (is_in_range 48 57 c || is_in_range 65 90 c) (is_in_range 97 122 c) u.0 in
     (or_parts (is_in_range 48 57 c) (is_in_range 65 90 c) b.0).0
 
+is_letter : (b : ℕ) → ((b == 69) || (b == 101)) ≡ true → is_in Word b ≡ true
+is_letter b h = grind (arith, nat_tests)
+
+no_letter_if : (c : ℕ) (v : Bool) → ((c == 69) || (c == 101)) ≡ v → is_in Word c ≡ false
+    → ((c == 69) || (c == 101)) ≡ false
+no_letter_if c true k h = absurd (false≢true (sym h ∙ is_letter c k))
+no_letter_if c false k h = k
+
 ends_digits : (bs : List ℕ) → Stops bs → EndsRun Digits bs
 ends_digits [] s = tt
 ends_digits (c ∷ cs) s = no_digit c s.0
+
+ends_point : (bs : List ℕ) → Stops bs → NoPoint bs
+ends_point [] s = tt
+ends_point (c ∷ cs) s = s.7
+
+ends_mark : (bs : List ℕ) → Stops bs → NoMark bs
+ends_mark [] s = tt
+ends_mark (c ∷ cs) s = no_letter_if c ((c == 69) || (c == 101)) refl s.0
 
 abbrev EndsQuote : ℕ → List ℕ → Type 0
 EndsQuote q [] = Unit {0}
@@ -80,6 +94,9 @@ ends_single : (bs : List ℕ) → Stops bs → EndsQuote 39 bs
 ends_single [] s = tt
 ends_single (c ∷ cs) s = s.3
 
+abbrev NoBracket : List ℕ → Type 0
+NoBracket = EndsQuote 40
+
 -- bytes by their order
 above : (b q : ℕ) → q < b → (b == q) ≡ false
 above b q h = grind (arith, nat_tests)
@@ -89,31 +106,6 @@ not_blank b h = grind (arith, nat_tests)
 
 word_from : (b : ℕ) → begins_word b ≡ true → 64 < b
 word_from b h = grind (arith, nat_tests)
-
-digit_from : (b : ℕ) → is_ascii_digit b ≡ true → 47 < b
-digit_from b h = grind (arith, nat_tests)
-
-digit_no_word : (b : ℕ) → is_ascii_digit b ≡ true → begins_word b ≡ false
-digit_no_word b h = grind (arith, nat_tests)
-
--- a run, and what follows it
-front_all : (r : Run) (xs rest : List ℕ) → list_all (is_in r) xs ≡ true → EndsRun r rest
-    → front r (xs ++ rest) ≡ xs
-front_all r [] [] h e = refl
-front_all r [] (c ∷ cs) h e = let other : is_in r c ≡ false = e in rw other refl
-front_all r (x ∷ xs) rest h e =
-    let p = and_parts (is_in r x) (list_all (is_in r) xs) h in
-    let first : is_in r x ≡ true = p.0 in
-    rw first (ap (λ ys. x ∷ ys) (front_all r xs rest p.1 e))
-
-behind_all : (r : Run) (xs rest : List ℕ) → list_all (is_in r) xs ≡ true → EndsRun r rest
-    → behind r (xs ++ rest) ≡ rest
-behind_all r [] [] h e = refl
-behind_all r [] (c ∷ cs) h e = let other : is_in r c ≡ false = e in rw other refl
-behind_all r (x ∷ xs) rest h e =
-    let p = and_parts (is_in r x) (list_all (is_in r) xs) h in
-    let first : is_in r x ≡ true = p.0 in
-    rw first (behind_all r xs rest p.1 e)
 
 -- words
 word_begins : (b : ℕ) (xs : List ℕ) → is_blank b ≡ false → (b == 45) ≡ false → begins_word b ≡ true
@@ -135,25 +127,38 @@ word_piece (b ∷ bs) rest h e =
     ∙ ap (λ ys. Some (word_before (b ∷ bs) ys)) (behind_all Word (b ∷ bs) rest all e)
 
 word_ends : (w rest : List ℕ) → Stops rest
-    → word_before w rest ≡ (token (keyword_or_name w (keyword_of w)), rest)
+    → word_before w rest ≡ keyword_or_name w (keyword_of w) rest
 word_ends w [] s = refl
 word_ends w (c ∷ cs) s = let other : (c == 63) ≡ false = s.1 in rw other refl
 
 known_piece : (w rest : List ℕ) (o : Option Sign) → is_word w ≡ true → keyword_of w ≡ o → Stops rest
-    → first_piece (w ++ rest) ≡ Some (token (keyword_or_name w o), rest)
+    → first_piece (w ++ rest) ≡ Some (keyword_or_name w o rest)
 known_piece w rest o h k s =
     word_piece w rest h (ends_word rest s) ∙ ap (λ x. Some x) (word_ends w rest s)
-    ∙ ap (λ p. Some (token (keyword_or_name w p), rest)) k
+    ∙ ap (λ p. Some (keyword_or_name w p rest)) k
 
 none_is : (o : Option Sign) → is_none o ≡ true → o ≡ None
 none_is None h = refl
 none_is (Some s) h = absurd (false≢true h)
 
-name_piece : (w rest : List ℕ) → is_bare w ≡ true → Stops rest
+name_ends : (w rest : List ℕ) → NoBracket rest → name_before w rest ≡ (token (name w), rest)
+name_ends w [] b = refl
+name_ends w (c ∷ cs) b = let other : (c == 40) ≡ false = b in rw other refl
+
+name_piece : (w rest : List ℕ) → is_bare w ≡ true → Stops rest → NoBracket rest
     → first_piece (w ++ rest) ≡ Some (token (name w), rest)
-name_piece w rest h s =
+name_piece w rest h s b =
     let p = and_parts (is_word w) (is_none (keyword_of w)) h in
     known_piece w rest None p.0 (none_is (keyword_of w) p.1) s
+    ∙ ap (λ x. Some x) (name_ends w rest b)
+
+function_piece : (w rest : List ℕ) → is_bare w ≡ true
+    → first_piece ((w ++ codes "(") ++ rest) ≡ Some (token (function w), rest)
+function_piece w rest h =
+    let p = and_parts (is_word w) (is_none (keyword_of w)) h in
+    ap first_piece (append_assoc w (codes "(") rest)
+    ∙ word_piece w (40 ∷ rest) p.0 refl
+    ∙ ap (λ o. Some (keyword_or_name w o (40 ∷ rest))) (none_is (keyword_of w) p.1)
 
 nullable_piece : (w rest : List ℕ) → is_word w ≡ true
     → first_piece ((w ++ codes "?") ++ rest) ≡ Some (token (nullable w), rest)
@@ -162,8 +167,8 @@ nullable_piece w rest h = ap first_piece (append_assoc w (codes "?") rest)
 
 -- numbers
 number_begins : (d : ℕ) (xs : List ℕ) → is_blank d ≡ false → (d == 45) ≡ false
-    → begins_word d ≡ false → is_ascii_digit d ≡ true
-    → first_piece (d ∷ xs) ≡ number_before (front Digits (d ∷ xs)) (behind Digits (d ∷ xs))
+    → begins_word d ≡ false → begins_number (d ∷ xs) ≡ true
+    → first_piece (d ∷ xs) ≡ number_before (front_number (d ∷ xs)) (behind_number (d ∷ xs))
 unfolding first_piece
 number_begins d xs n m w h = rw (n, m, w, h) refl
 
@@ -172,18 +177,18 @@ number_ends : (ds rest : List ℕ) → Stops rest
 number_ends ds [] s = refl
 number_ends ds (c ∷ cs) s = let other : is_in Word c ≡ false = s.0 in rw other refl
 
-number_piece : (ds rest : List ℕ) → are_digits ds ≡ true → Stops rest
+number_piece : (ds rest : List ℕ) → IsNumber ds → Stops rest
     → first_piece (ds ++ rest) ≡ Some (token (number ds), rest)
-number_piece [] rest h s = absurd (false≢true h)
+number_piece [] rest h s = absurd (false≢true h.0)
 number_piece (d ∷ ds) rest h s =
-    let p = and_parts (is_in Digits d) (list_all (is_in Digits) ds) h in
-    let from = digit_from d p.0 in
-    number_begins d (ds ++ rest) (not_blank d (omega (arith, from)))
-    (above d 45 (omega (arith, from))) (digit_no_word d p.0) p.0
-    ∙ ap (λ ys. number_before ys (behind Digits (d ∷ (ds ++ rest))))
-    (front_all Digits (d ∷ ds) rest h (ends_digits rest s))
-    ∙ ap (number_before (d ∷ ds)) (behind_all Digits (d ∷ ds) rest h (ends_digits rest s))
-    ∙ number_ends (d ∷ ds) rest s
+    let first = first_byte d ds h.0 in
+    let rest_is = number_behind (d ∷ ds) rest h.1 (ends_digits rest s) (ends_point rest s)
+    (ends_mark rest s) in
+    number_begins d (ds ++ rest) (not_blank d (omega (arith, first.high))) (above d 45 first.high)
+    first.no_word (number_begun (d ∷ ds) rest h.0)
+    ∙ ap (λ ys. number_before ys (behind_number (d ∷ (ds ++ rest))))
+    (number_front (d ∷ ds) rest rest_is)
+    ∙ ap (number_before (d ∷ ds)) rest_is ∙ number_ends (d ∷ ds) rest s
 
 -- texts and names in quotes
 closed_end : (q : ℕ) (rest : List ℕ) → EndsQuote q rest → closed q (q ∷ rest) ≡ Some ([], rest)
@@ -234,7 +239,8 @@ quoted_piece w rest h s = double_opens ((w ++ (34 ∷ [])) ++ rest)
 abbrev Follows : Ending → List ℕ → Type 0
 Follows at.Tight bs = Unit {0}
 Follows at.Signed bs = NoMinus bs
-Follows e bs = Stops bs
+Follows at.Called bs = Stops bs
+Follows e bs = Stops bs × NoBracket bs
 
 open_piece : (rest : List ℕ) → first_piece (40 ∷ rest) ≡ Some (token (sign sign.Open), rest)
 unfolding first_piece
@@ -252,7 +258,7 @@ minus_piece [] n = refl
 minus_piece (c ∷ cs) n = let other : (c == 45) ≡ false = n in rw other refl
 
 minus_follows : (e : Ending) (rest : List ℕ) → Follows (minus_ending e) rest → NoMinus rest
-minus_follows at.Operand rest f = no_minus_of rest f
+minus_follows at.Operand rest f = no_minus_of rest f.0
 minus_follows at.Tight rest f = f
 minus_follows at.Signed rest f = f
 minus_follows at.Called rest f = f
@@ -314,30 +320,32 @@ sign_piece : (e : Ending) (s : Sign) (rest : List ℕ) → Follows (sign_ending 
 sign_piece e sign.Open rest f = open_piece rest
 sign_piece e sign.Typed rest f = typed_piece rest
 sign_piece e sign.Minus rest f = minus_piece rest (minus_follows e rest f)
-sign_piece e s rest f = plain_piece s rest f
+sign_piece e sign.Cast rest f = plain_piece sign.Cast rest f
+sign_piece e s rest f = plain_piece s rest f.0
 
 token_piece : (e : Ending) (t : Token) (rest : List ℕ) → IsWritable t
     → Follows (ending_behind e t) rest → first_piece (token_text t ++ rest) ≡ Some (token t, rest)
-token_piece e (name w) rest h f = name_piece w rest h f
+token_piece e (name w) rest h f = name_piece w rest h f.0 f.1
 token_piece e (nullable w) rest h f = nullable_piece w rest h
-token_piece e (quoted w) rest h f = quoted_piece w rest h f
-token_piece e (number ds) rest h f = number_piece ds rest h f
-token_piece e (text bs) rest h f = text_piece bs rest h f
+token_piece e (function w) rest h f = function_piece w rest h
+token_piece e (quoted w) rest h f = quoted_piece w rest h f.0
+token_piece e (number ds) rest h f = number_piece ds rest h f.0
+token_piece e (text bs) rest h f = text_piece bs rest h f.0
 token_piece e (sign s) rest h f = sign_piece e s rest f
 
 -- what is written next may follow
 blank_stops : (xs : List ℕ) → Stops (32 ∷ xs)
-blank_stops xs = (refl, refl, refl, refl, refl, refl, refl)
+blank_stops xs = (refl, refl, refl, refl, refl, refl, refl, refl)
 
 bracket_stops : (b : Bool) (xs : List ℕ) → Stops (blank_unless b ++ (40 ∷ xs))
-bracket_stops true xs = (refl, refl, refl, refl, refl, refl, refl)
+bracket_stops true xs = (refl, refl, refl, refl, refl, refl, refl, refl)
 bracket_stops false xs = blank_stops (40 ∷ xs)
 
 sign_stops : (e : Ending) (s : Sign) (xs : List ℕ) → is_tight e ≡ false
     → Stops (blank_unless (joins_sign e s) ++ (sign_text s ++ xs))
-sign_stops e sign.Close xs h = (refl, refl, refl, refl, refl, refl, refl)
-sign_stops e sign.Comma xs h = (refl, refl, refl, refl, refl, refl, refl)
-sign_stops e sign.Typed xs h = (refl, refl, refl, refl, refl, refl, refl)
+sign_stops e sign.Close xs h = (refl, refl, refl, refl, refl, refl, refl, refl)
+sign_stops e sign.Comma xs h = (refl, refl, refl, refl, refl, refl, refl, refl)
+sign_stops e sign.Typed xs h = (refl, refl, refl, refl, refl, refl, refl, refl)
 sign_stops e sign.Open xs h = bracket_stops (joins_bracket e) xs
 sign_stops e s xs h = rw h (blank_stops (sign_text s ++ xs))
 
@@ -347,12 +355,23 @@ token_stops e (sign s) xs h k = sign_stops e s xs h
 token_stops e (number ds) xs h k = rw k (blank_stops (ds ++ xs))
 token_stops e t xs h k = rw h (blank_stops (token_text t ++ xs))
 
-number_no_minus : (ds xs : List ℕ) → are_digits ds ≡ true → NoMinus (ds ++ xs)
-number_no_minus [] xs h = absurd (false≢true h)
-number_no_minus (d ∷ ds) xs h =
-    let p = and_parts (is_in Digits d) (list_all (is_in Digits) ds) h in
-    let from = digit_from d p.0 in
-    above d 45 (omega (arith, from))
+sign_no_bracket : (e : Ending) (s : Sign) (xs : List ℕ) → is_tight e ≡ false
+    → joins_bracket e ≡ false → NoBracket (blank_unless (joins_sign e s) ++ (sign_text s ++ xs))
+sign_no_bracket e sign.Close xs h k = refl
+sign_no_bracket e sign.Comma xs h k = refl
+sign_no_bracket e sign.Typed xs h k = refl
+sign_no_bracket e sign.Open xs h k = rw k refl
+sign_no_bracket e s xs h k = rw h refl
+
+no_bracket : (e : Ending) (t : Token) (xs : List ℕ) → is_tight e ≡ false → joins_number e ≡ false
+    → joins_bracket e ≡ false → NoBracket (blank_unless (joins e t) ++ (token_text t ++ xs))
+no_bracket e (sign s) xs h k j = sign_no_bracket e s xs h j
+no_bracket e (number ds) xs h k j = rw k refl
+no_bracket e t xs h k j = rw h refl
+
+number_no_minus : (ds xs : List ℕ) → IsNumber ds → NoMinus (ds ++ xs)
+number_no_minus [] xs h = absurd (false≢true h.0)
+number_no_minus (d ∷ ds) xs h = above d 45 (first_byte d ds h.0).high
 
 signed_no_minus : (t : Token) (xs : List ℕ) → IsWritable t
     → NoMinus (blank_unless (joins at.Signed t) ++ (token_text t ++ xs))
@@ -362,6 +381,7 @@ signed_no_minus (sign s) xs h =
 signed_no_minus (number ds) xs h = number_no_minus ds xs h
 signed_no_minus (name w) xs h = refl
 signed_no_minus (nullable w) xs h = refl
+signed_no_minus (function w) xs h = refl
 signed_no_minus (quoted w) xs h = refl
 signed_no_minus (text bs) xs h = refl
 
@@ -372,12 +392,16 @@ follows at.Signed (t ∷ ts) h = signed_no_minus t (written_behind (ending_behin
 follows at.Called [] h = tt
 follows at.Called (t ∷ ts) h =
     token_stops at.Called t (written_behind (ending_behind at.Called t) ts) refl refl
-follows at.Operand [] h = tt
-follows at.Operand (t ∷ ts) h =
-    token_stops at.Operand t (written_behind (ending_behind at.Operand t) ts) refl refl
-follows at.Loose [] h = tt
-follows at.Loose (t ∷ ts) h =
-    token_stops at.Loose t (written_behind (ending_behind at.Loose t) ts) refl refl
+follows at.Operand [] h = (tt, tt)
+follows at.Operand (t ∷ ts) h = (
+  token_stops at.Operand t (written_behind (ending_behind at.Operand t) ts) refl refl,
+  no_bracket at.Operand t (written_behind (ending_behind at.Operand t) ts) refl refl refl,
+)
+follows at.Loose [] h = (tt, tt)
+follows at.Loose (t ∷ ts) h = (
+  token_stops at.Loose t (written_behind (ending_behind at.Loose t) ts) refl refl,
+  no_bracket at.Loose t (written_behind (ending_behind at.Loose t) ts) refl refl refl,
+)
 
 -- all tokens
 blank_is : (xs : List ℕ) → first_piece (32 ∷ xs) ≡ Some (gap, xs)

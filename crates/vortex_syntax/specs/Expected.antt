@@ -5,11 +5,13 @@ use Rattle.vortex_syntax.specs.declared.expected.Expected.TheVariants as expecte
 
 abbrev pub words : Expected → List ℕ
 words expected.Operand = codes "a column, a literal, not, cast or ("
+words expected.ArgumentOrClose = codes "an expression or )"
 words expected.TightOperand = codes "a column, a literal, cast or ( (a not needs brackets here)"
 words expected.Digits = codes "digits"
 words expected.OperatorOrEnd = codes "an operator or the end"
 words expected.OperatorOrName = codes "an operator, as and a name, a comma or the end"
 words expected.OperatorOrClose = codes "an operator or )"
+words expected.OperatorOrComma = codes "an operator, a comma or )"
 words expected.OperatorOrAs = codes "an operator, or as and a type"
 words expected.OperatorOrAnd = codes "+, -, *, / or the and of between"
 words expected.Brackets = codes "brackets round the comparison, is null, between or like before it"

@@ -4,9 +4,10 @@ use Rattle.vortex_syntax.specs.declared.step.WrittenOperator.{WrittenOperator}
 use Rattle.vortex_syntax.specs.declared.step.WrittenOperator.TheVariants as operator
 use Rattle.vortex_syntax.specs.declared.token.Sign.{Sign}
 use Rattle.vortex_syntax.specs.declared.token.Sign.TheVariants as sign
-use Rattle.vortex_syntax.specs.Tokens.{Token, name, nullable, quoted, number, text, sign}
+use Rattle.vortex_syntax.specs.Tokens.{Token, name, nullable, function, quoted, number, text, sign}
 use Rattle.vortex_syntax.specs.Syntax.{Syntax, operand, negative, typed, grouped, negated, joined}
-use Rattle.vortex_syntax.specs.Syntax.{tested, between, matched, cast}
+use Rattle.vortex_syntax.specs.Syntax.{tested, between, matched, cast, nullary, applied, Arguments}
+use Rattle.vortex_syntax.specs.Syntax.{no_arguments, argument}
 
 abbrev pub or_level : ℕ
 or_level = 0
@@ -80,6 +81,7 @@ is_literal_sign _ = false
 abbrev pub is_operand : Token → Bool
 is_operand (name w) = true
 is_operand (nullable w) = false
+is_operand (function w) = false
 is_operand (quoted w) = true
 is_operand (number ds) = true
 is_operand (text bs) = true
@@ -101,18 +103,27 @@ level (tested n a) = is_level
 level (between n a low high) = predicate_level
 level (matched k a p e) = predicate_level
 level (cast a w n) = atom_level
+level (nullary w) = atom_level
+level (applied w args a) = atom_level
 
 -- each operand binds at least as tightly as required there
-abbrev pub Fits : Syntax → Type 0
-Fits (operand t) = is_operand t ≡ true
-Fits (negative ds) = Unit {0}
-Fits (typed a w n) = (literal_level ≤ level a) × Fits a
-Fits (grouped a) = Fits a
-Fits (negated a) = (not_level ≤ level a) × Fits a
-Fits (joined o a b) = (left o ≤ level a) × (right o ≤ level b) × Fits a × Fits b
-Fits (tested n a) = (is_level ≤ level a) × Fits a
-Fits (between n a low high) =
-    (sum_level ≤ level a) × (sum_level ≤ level low) × (sum_level ≤ level high) × Fits a × Fits low
-    × Fits high
-Fits (matched k a p e) = (sum_level ≤ level a) × (sum_level ≤ level p) × Fits a × Fits p
-Fits (cast a w n) = Fits a
+abbrev mutual
+  pub Fits : Syntax → Type 0
+  Fits (operand t) = is_operand t ≡ true
+  Fits (negative ds) = Unit {0}
+  Fits (typed a w n) = (literal_level ≤ level a) × Fits a
+  Fits (grouped a) = Fits a
+  Fits (negated a) = (not_level ≤ level a) × Fits a
+  Fits (joined o a b) = (left o ≤ level a) × (right o ≤ level b) × Fits a × Fits b
+  Fits (tested n a) = (is_level ≤ level a) × Fits a
+  Fits (between n a low high) =
+      (sum_level ≤ level a) × (sum_level ≤ level low) × (sum_level ≤ level high) × Fits a
+      × Fits low × Fits high
+  Fits (matched k a p e) = (sum_level ≤ level a) × (sum_level ≤ level p) × Fits a × Fits p
+  Fits (cast a w n) = Fits a
+  Fits (nullary w) = Unit {0}
+  Fits (applied w args a) = AllFit args × Fits a
+
+  pub AllFit : Arguments → Type 0
+  AllFit no_arguments = Unit {0}
+  AllFit (argument args a) = AllFit args × Fits a

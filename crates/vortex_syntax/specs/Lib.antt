@@ -10,6 +10,7 @@ pub mod Spelling
 pub mod Postfix
 pub mod Nesting
 pub mod Grammar
+pub mod Frames
 pub mod Reading
 pub mod AnswerLists
 pub mod AnswerParts

@@ -1,6 +1,6 @@
 -- The first piece of a text, a gap or a token, and what follows it.
-use Rattle.std.specs.Prelude.{◌==◌, ◌||◌, ℕ, Bool, true, false, List, [], ◌∷◌, Option, Some, None}
-use Rattle.std.specs.Prelude.{◌++◌, if◌then◌else◌}
+use Rattle.std.specs.Prelude.{◌==◌, ◌||◌, ◌&&◌, ◌-◌, ℕ, Bool, true, false, List, [], ◌∷◌, ◌++◌}
+use Rattle.std.specs.Prelude.{length, take, Option, Some, None, if◌then◌else◌}
 use Rattle.std.specs.Char.{is_ascii_alphabetic, is_ascii_alphanumeric, is_ascii_digit}
 use Rattle.vortex_syntax.specs.declared.token.Sign.{Sign}
 use Rattle.vortex_syntax.specs.declared.token.Sign.TheVariants as sign
@@ -8,7 +8,8 @@ use Rattle.vortex_syntax.specs.declared.pieces.Run.{Run}
 use Rattle.vortex_syntax.specs.declared.pieces.Run.TheVariants.{Word, Digits, Line}
 use Rattle.vortex_syntax.specs.declared.pieces.Piece as read
 use Rattle.vortex_syntax.specs.declared.pieces.Piece.TheVariants as variant
-use Rattle.vortex_syntax.specs.Tokens.{Token, name, nullable, quoted, number, text, sign, token_in}
+use Rattle.vortex_syntax.specs.Tokens.{Token, name, nullable, function, quoted, number, text, sign}
+use Rattle.vortex_syntax.specs.Tokens.{token_in}
 use Rattle.vortex_syntax.specs.Keywords.{keyword_of}
 
 -- white space or a comment, or a token
@@ -30,7 +31,7 @@ is_blank b = (b == 32) || (b == 9) || (b == 10) || (b == 13)
 abbrev pub begins_word : ℕ → Bool
 begins_word b = is_ascii_alphabetic b || (b == 95)
 
--- bytes of words, of numbers, and of lines
+-- bytes of words, digits, and bytes of lines
 abbrev pub is_in : Run → ℕ → Bool
 is_in Word b = is_ascii_alphanumeric b || (b == 95)
 is_in Digits b = is_ascii_digit b
@@ -45,16 +46,54 @@ abbrev pub behind : Run → List ℕ → List ℕ
 behind r [] = []
 behind r (b ∷ bs) = if is_in r b then behind r bs else b ∷ bs
 
+-- what follows a point and digits, where a point comes first
+abbrev pub behind_fraction : List ℕ → List ℕ
+behind_fraction [] = []
+behind_fraction (b ∷ bs) = if b == 46 then behind Digits bs else b ∷ bs
+
+abbrev pub behind_sign : List ℕ → List ℕ
+behind_sign [] = []
+behind_sign (b ∷ bs) = if (b == 43) || (b == 45) then bs else b ∷ bs
+
+abbrev pub begins_digits : List ℕ → Bool
+begins_digits [] = false
+begins_digits (b ∷ bs) = is_ascii_digit b
+
+-- what follows an exponent, where one comes first: `e`, a sign if there is one, and digits
+abbrev pub begins_exponent : ℕ → List ℕ → Bool
+begins_exponent b bs = ((b == 69) || (b == 101)) && begins_digits (behind_sign bs)
+
+abbrev pub behind_exponent : List ℕ → List ℕ
+behind_exponent [] = []
+behind_exponent (b ∷ bs) =
+    if begins_exponent b bs then behind Digits (behind_sign bs) else b ∷ bs
+
+-- a number is digits, a point and digits, and an exponent, each where it is there; a digit is in
+-- one of the first two
+abbrev pub begins_number : List ℕ → Bool
+begins_number [] = false
+begins_number (b ∷ bs) = if b == 46 then begins_digits bs else is_ascii_digit b
+
+abbrev pub behind_number : List ℕ → List ℕ
+behind_number bs = behind_exponent (behind_fraction (behind Digits bs))
+
+abbrev pub front_number : List ℕ → List ℕ
+front_number bs = take (length bs - length (behind_number bs)) bs
+
+-- an opening bracket right after a name belongs to it
+abbrev pub name_before : List ℕ → List ℕ → Piece × List ℕ
+name_before w [] = (token (name w), [])
+name_before w (b ∷ bs) = if b == 40 then (token (function w), bs) else (token (name w), b ∷ bs)
+
 -- a word is a keyword or a name
-abbrev pub keyword_or_name : List ℕ → Option Sign → Token
-keyword_or_name w None = name w
-keyword_or_name w (Some s) = sign s
+abbrev pub keyword_or_name : List ℕ → Option Sign → List ℕ → Piece × List ℕ
+keyword_or_name w None rest = name_before w rest
+keyword_or_name w (Some s) rest = (token (sign s), rest)
 
 abbrev pub word_before : List ℕ → List ℕ → Piece × List ℕ
-word_before w [] = (token (keyword_or_name w (keyword_of w)), [])
+word_before w [] = keyword_or_name w (keyword_of w) []
 word_before w (b ∷ bs) =
-    if b == 63 then (token (nullable w), bs)
-    else (token (keyword_or_name w (keyword_of w)), b ∷ bs)
+    if b == 63 then (token (nullable w), bs) else keyword_or_name w (keyword_of w) (b ∷ bs)
 
 -- no word begins right after a number
 abbrev pub number_before : List ℕ → List ℕ → Cut
@@ -125,7 +164,8 @@ first_piece (b ∷ bs) =
     if is_blank b then Some (gap, bs)
     else (if b == 45 then minus_or_comment bs
     else (if begins_word b then Some (word_before (front Word (b ∷ bs)) (behind Word (b ∷ bs)))
-    else (if is_ascii_digit b then number_before (front Digits (b ∷ bs)) (behind Digits (b ∷ bs))
+    else (if begins_number (b ∷ bs)
+    then number_before (front_number (b ∷ bs)) (behind_number (b ∷ bs))
     else (if b == 39 then quoted_by text (closed 39 bs)
     else (if b == 34 then quoted_by quoted (closed 34 bs)
     else longest_sign b bs)))))

@@ -1,5 +1,5 @@
 -- Reading from left to right, one token at a time, with the frames that wait for an operand.
-use Rattle.std.specs.Prelude.{map, reverse, ℕ, ◌&&◌, nat_lt, nat_le, List, [], ◌∷◌, ◌++◌, Bool}
+use Rattle.std.specs.Prelude.{map, reverse, ℕ, zero, suc, ◌&&◌, nat_lt, nat_le, List, [], ◌∷◌, ◌++◌, Bool}
 use Rattle.std.specs.Prelude.{true, false, Option, Some, None, if◌then◌else◌, Result, IfOk, ◌≡◌}
 use Rattle.std.specs.declared.alloc.AllocError.{AllocError}
 use Rattle.std.specs.Option.{option_and_then, option_map}
@@ -9,17 +9,17 @@ use Rattle.vortex_syntax.specs.declared.step.LikeKind.{LikeKind}
 use Rattle.vortex_syntax.specs.declared.step.Call.TheVariants as call
 use Rattle.vortex_syntax.specs.declared.token.Sign.{Sign}
 use Rattle.vortex_syntax.specs.declared.token.Sign.TheVariants as sign
-use Rattle.vortex_syntax.specs.declared.frame.Frame.{Frame}
-use Rattle.vortex_syntax.specs.declared.frame.Frame.TheVariants as frame
 use Rattle.vortex_syntax.specs.declared.frame.Mode.{Mode}
 use Rattle.vortex_syntax.specs.declared.frame.Mode.TheVariants as mode
-use Rattle.vortex_syntax.specs.Tokens.{Token, name, nullable, number, text, sign}
+use Rattle.vortex_syntax.specs.Tokens.{Token, name, nullable, function, number, text, sign}
 use Rattle.vortex_syntax.specs.Levels.{own, left, right, or_level, and_level, not_level, is_level}
 use Rattle.vortex_syntax.specs.Levels.{predicate_level, sum_level, atom_level, literal_level}
 use Rattle.vortex_syntax.specs.Levels.{is_operand, operand_level}
 use Rattle.vortex_syntax.specs.declared.reading.Reading.{Reading}
+use Rattle.vortex_syntax.specs.Frames as frame
+use Rattle.vortex_syntax.specs.Frames.{Frame, frame_in}
 use Rattle.vortex_syntax.specs.Postfix.{Step, step_in, operand, negative, typed, cast, escaped}
-use Rattle.vortex_syntax.specs.Postfix.{called, null_call}
+use Rattle.vortex_syntax.specs.Postfix.{applied, called, null_call}
 
 -- the last frame is first
 pub record State : Type 0 where
@@ -32,7 +32,7 @@ state m fs out = record { mode = m; frames = fs; steps = out }
 
 -- the view of a reading
 abbrev pub frames_in : Reading → List Frame
-frames_in r = reverse r.frames.items
+frames_in r = map frame_in (reverse r.frames.items)
 
 abbrev pub steps_in : Reading → List Step
 steps_in r = map step_in r.tree.steps.items
@@ -49,6 +49,7 @@ hole (frame.Join o) = right o
 hole (frame.Between n) = sum_level
 hole (frame.Bounded n) = sum_level
 hole (frame.Like k) = sum_level
+hole (frame.Arguments w n) = 0
 
 abbrev pub top_hole : List Frame → ℕ
 top_hole [] = 0
@@ -64,6 +65,7 @@ guard (frame.Join o) = right o
 guard (frame.Between n) = 0
 guard (frame.Bounded n) = sum_level
 guard (frame.Like k) = sum_level
+guard (frame.Arguments w n) = 0
 
 -- the level of a frame with its operand, and its step
 abbrev pub whole : Frame → ℕ
@@ -74,6 +76,7 @@ whole (frame.Join o) = own o
 whole (frame.Between n) = predicate_level
 whole (frame.Bounded n) = predicate_level
 whole (frame.Like k) = predicate_level
+whole (frame.Arguments w n) = atom_level
 
 abbrev pub closing : Frame → Step
 closing frame.Open = called call.Not
@@ -83,6 +86,7 @@ closing (frame.Join o) = called (call.Join o)
 closing (frame.Between n) = called (call.Between n)
 closing (frame.Bounded n) = called (call.Between n)
 closing (frame.Like k) = called (call.Like k)
+closing (frame.Arguments w n) = called call.Not
 
 -- an operand of a level, after pending frames
 pub record Operand : Type 0 where
@@ -156,7 +160,16 @@ not_behind l fs out =
 abbrev pub close_behind : List Frame → List Step → Option State
 close_behind [] out = None
 close_behind (frame.Open ∷ fs) out = Some (state (mode.Have atom_level) fs out)
+close_behind (frame.Arguments w n ∷ fs) out =
+    Some (state (mode.Have atom_level) fs (out ++ (applied w (suc n) ∷ [])))
 close_behind (f ∷ fs) out = None
+
+-- a comma ends an argument
+abbrev pub comma_behind : List Frame → List Step → Option State
+comma_behind [] out = None
+comma_behind (frame.Arguments w n ∷ fs) out =
+    Some (state mode.Want (frame.Arguments w (suc n) ∷ fs) out)
+comma_behind (f ∷ fs) out = None
 
 abbrev pub as_behind : List Frame → List Step → Option State
 as_behind [] out = None
@@ -194,6 +207,8 @@ word_after level fs out sign.Not =
     let a = settled predicate_level level fs out in not_behind a.level a.frames a.steps
 word_after level fs out sign.Close =
     let a = settled or_level level fs out in close_behind a.frames a.steps
+word_after level fs out sign.Comma =
+    let a = settled or_level level fs out in comma_behind a.frames a.steps
 word_after level fs out sign.As =
     let a = settled or_level level fs out in as_behind a.frames a.steps
 word_after level fs out sign.Escape =
@@ -215,6 +230,13 @@ abbrev pub negating : ℕ → List Frame → List Step → Token → Option Stat
 negating level fs out (sign s) = predicate true level fs out s
 negating level fs out t = None
 
+-- the bracket of a call without arguments
+abbrev pub close_expected : List Frame → List Step → Option State
+close_expected [] out = None
+close_expected (frame.Arguments w zero ∷ fs) out =
+    Some (state (mode.Have atom_level) fs (out ++ (applied w 0 ∷ [])))
+close_expected (f ∷ fs) out = None
+
 -- an operand's first token
 abbrev pub sign_expected : List Frame → List Step → Sign → Option State
 sign_expected fs out sign.Minus = Some (state mode.Signed fs out)
@@ -222,10 +244,12 @@ sign_expected fs out sign.Not =
     if nat_le (top_hole fs) not_level then Some (state mode.Want (frame.Not ∷ fs) out) else None
 sign_expected fs out sign.Open = Some (state mode.Want (frame.Open ∷ fs) out)
 sign_expected fs out sign.Cast = Some (state mode.Casting fs out)
+sign_expected fs out sign.Close = close_expected fs out
 sign_expected fs out s = None
 
 abbrev pub other_wanted : List Frame → List Step → Token → Option State
 other_wanted fs out (sign s) = sign_expected fs out s
+other_wanted fs out (function w) = Some (state mode.Want (frame.Arguments w 0 ∷ fs) out)
 other_wanted fs out t = None
 
 abbrev pub before_operand : List Frame → List Step → Token → Option State

@@ -1,7 +1,6 @@
 -- Why a text is no expression or no list of answers, and at which byte it fails.
 use Rattle.std.specs.Prelude.{◌≡◌, ◌≢◌, ℕ, ◌+◌, ◌<◌, ◌≤◌, true, false, List, [], ◌∷◌, ◌++◌, take}
 use Rattle.std.specs.Prelude.{length, Option, Some, None, slice_index_or}
-use Rattle.std.specs.List.{slice_split}
 use Rattle.vortex_syntax.specs.declared.error.SyntaxError.{SyntaxError}
 use Rattle.vortex_syntax.specs.declared.error.SyntaxError.TheVariants.{NoToken, Unexpected}
 use Rattle.vortex_syntax.specs.declared.error.SyntaxError.TheVariants.{TooDeep, OutOfMemory}
@@ -16,7 +15,7 @@ use Rattle.vortex_syntax.specs.Spelling.{spelling}
 use Rattle.vortex_syntax.specs.Nesting.{nests}
 use Rattle.vortex_syntax.specs.Grammar.{Spells}
 use Rattle.vortex_syntax.specs.AnswerLists.{SpellsAnswer, Answer}
-use Rattle.vortex_syntax.specs.AnswerParts.{is_comma, split_name}
+use Rattle.vortex_syntax.specs.AnswerParts.{answer_parts, split_name}
 
 -- From its first byte, the text has these tokens, then that rest.
 pub data Reaches : List ℕ → List Token → List ℕ → Type 0 where
@@ -68,7 +67,7 @@ unless_named ts (Some x) = x.0
 abbrev pub tree_tokens : List Token → List Token
 tree_tokens ts = unless_named ts (split_name ts)
 
--- The first part between commas that is no answer stops at the token of that number.
+-- The first part that is no answer stops at the token of that number.
 pub data PartsStopAt : List (List Token) → ℕ → Type 0 where
   first : {ts : List Token} {parts : List (List Token)} {n : ℕ} → TreeStopsAt (tree_tokens ts) n
       → PartsStopAt (ts ∷ parts) n
@@ -76,7 +75,7 @@ pub data PartsStopAt : List (List Token) → ℕ → Type 0 where
       → PartsStopAt parts n → PartsStopAt (ts ∷ parts) (length ts + 1 + n)
 
 abbrev pub ListStopsAt : List Token → ℕ → Type 0
-ListStopsAt ts n = PartsStopAt (slice_split is_comma ts) n
+ListStopsAt ts n = PartsStopAt (answer_parts ts) n
 
 -- Brackets nest too deep at the token of that number, and not before.
 pub record NestsTooDeepAt (ts : List Token) (number : ℕ) : Type 0 where

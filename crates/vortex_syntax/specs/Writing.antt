@@ -4,13 +4,13 @@ use Rattle.std.specs.Prelude.{is_none, string_bytes, if◌then◌else◌}
 use Rattle.std.specs.List.{list_all}
 use Rattle.vortex_syntax.specs.declared.token.Sign.{Sign}
 use Rattle.vortex_syntax.specs.declared.token.Sign.TheVariants as sign
-use Rattle.vortex_syntax.specs.declared.pieces.Run.TheVariants.{Word, Digits}
+use Rattle.vortex_syntax.specs.declared.pieces.Run.TheVariants.{Word}
 use Rattle.vortex_syntax.specs.declared.writing.Ending.{Ending}
 use Rattle.vortex_syntax.specs.declared.writing.Ending.TheVariants as at
 use Rattle.vortex_syntax.specs.declared.writing.Writer.{Writer}
-use Rattle.vortex_syntax.specs.Tokens.{Token, name, nullable, quoted, number, text, sign}
+use Rattle.vortex_syntax.specs.Tokens.{Token, name, nullable, function, quoted, number, text, sign}
 use Rattle.vortex_syntax.specs.Keywords.{keyword_of}
-use Rattle.vortex_syntax.specs.Pieces.{begins_word, is_in}
+use Rattle.vortex_syntax.specs.Pieces.{begins_word, is_in, begins_number, behind_number}
 
 abbrev pub sign_text : Sign → List ℕ
 sign_text sign.And = codes "and"
@@ -52,13 +52,14 @@ in_quotes q bs = q ∷ (bs ++ (q ∷ []))
 abbrev pub token_text : Token → List ℕ
 token_text (name w) = w
 token_text (nullable w) = w ++ codes "?"
+token_text (function w) = w ++ codes "("
 token_text (quoted w) = in_quotes 34 w
-token_text (number ds) = ds
+token_text (number w) = w
 token_text (text bs) = in_quotes 39 bs
 token_text (sign s) = sign_text s
 
--- A blank comes before each token, except: `)`, `,` and `::`; the first token; any token after `(`
--- or `::`; a number after its minus sign; and the bracket of `cast`.
+-- A blank comes before each token, except: `)`, `,` and `::`; the first token; any token after `(`,
+-- a name with its bracket, or `::`; a number after its minus sign; and the bracket of `cast`.
 abbrev pub is_tight : Ending → Bool
 is_tight at.Tight = true
 is_tight e = false
@@ -106,6 +107,7 @@ sign_ending e s = at.Loose
 
 abbrev pub ending_behind : Ending → Token → Ending
 ending_behind e (sign s) = sign_ending e s
+ending_behind e (function w) = at.Tight
 ending_behind e t = at.Operand
 
 abbrev pub ending_of : Ending → List Token → Ending
@@ -130,9 +132,9 @@ is_word (b ∷ bs) = begins_word b && list_all (is_in Word) bs
 abbrev pub is_bare : List ℕ → Bool
 is_bare w = is_word w && is_none (keyword_of w)
 
-abbrev pub are_digits : List ℕ → Bool
-are_digits [] = false
-are_digits (d ∷ ds) = list_all (is_in Digits) (d ∷ ds)
+-- the text of one number
+abbrev pub IsNumber : List ℕ → Type 0
+IsNumber w = (begins_number w ≡ true) × (behind_number w ≡ [])
 
 abbrev pub IsDoubled : ℕ → List ℕ → Type 0
 IsDoubled q bs = (raw : List ℕ) × (bs ≡ doubled q raw)
@@ -141,8 +143,9 @@ IsDoubled q bs = (raw : List ℕ) × (bs ≡ doubled q raw)
 abbrev pub IsWritable : Token → Type 0
 IsWritable (name w) = is_bare w ≡ true
 IsWritable (nullable w) = is_word w ≡ true
+IsWritable (function w) = is_bare w ≡ true
 IsWritable (quoted w) = IsDoubled 34 w
-IsWritable (number ds) = are_digits ds ≡ true
+IsWritable (number w) = IsNumber w
 IsWritable (text bs) = IsDoubled 39 bs
 IsWritable (sign s) = Unit {0}
 

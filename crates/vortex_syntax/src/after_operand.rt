@@ -1,5 +1,5 @@
 //! What a sign after an operand does to what is read.
-ghost use Rattle.std.specs.Prelude.{◌≡◌, option_map};
+ghost use Rattle.std.specs.Prelude.{◌≡◌, suc, option_map, IfOk};
 ghost use Rattle.vortex_syntax.specs.Tokens.{token_in};
 ghost use Rattle.vortex_syntax.specs.Reading as specs;
 ghost use Rattle.vortex_syntax.specs.Reading.{frames_in, steps_in, seen, Gives, and_behind};
@@ -7,7 +7,7 @@ ghost use Rattle.vortex_syntax.specs.Reading.{frames_in, steps_in, seen, Gives, 
 use crate::frame::{Frame, Mode};
 use crate::levels::{AND, ATOM, IS, LITERAL, OR, PREDICATE, SUM, left, own};
 use crate::reading::Reading;
-use crate::step::{LikeKind, WrittenOperator};
+use crate::step::{LikeKind, Step, WrittenOperator};
 use crate::token::{Sign, Token};
 use std::alloc::AllocError;
 
@@ -28,6 +28,16 @@ fn operator_of(sign: Sign) -> Option<WrittenOperator>
         Sign::Times => Some(WrittenOperator::Mul),
         Sign::Divide => Some(WrittenOperator::Div),
         _ => None,
+    }
+}
+
+/// The count after one more argument. Memory runs out before counts do.
+fn one_more(count: usize) -> Result<usize, AllocError>
+    ensures { IfOk result (λ n. n ≡ suc count) }
+{
+    match count.checked_add(1) {
+        Some(more) => Ok(more),
+        None => Err(AllocError),
     }
 }
 
@@ -69,16 +79,38 @@ impl<'a> Reading<'a> {
         }
     }
 
-    fn close_of(&mut self) -> Option<Mode>
-        ensures { option_map (seen self.new) result
-            ≡ specs.close_behind (frames_in self.old) (steps_in self.old) }
+    fn close_of(&mut self) -> Result<Option<Mode>, AllocError>
+        ensures { Gives result self.new
+            (specs.close_behind (frames_in self.old) (steps_in self.old)) }
     {
         match self.top() {
             Some(Frame::Open) => {
                 self.drop_top();
-                Some(Mode::Have(ATOM))
+                Ok(Some(Mode::Have(ATOM)))
             }
-            _ => None,
+            Some(Frame::Arguments(name, count)) => {
+                self.at = self.top_sign();
+                self.drop_top();
+                self.emit(Step::Apply(name, one_more(count)?))?;
+                Ok(Some(Mode::Have(ATOM)))
+            }
+            _ => Ok(None),
+        }
+    }
+
+    /// A comma, which ends an argument.
+    fn comma_of(&mut self) -> Result<Option<Mode>, AllocError>
+        ensures { Gives result self.new
+            (specs.comma_behind (frames_in self.old) (steps_in self.old)) }
+    {
+        match self.top() {
+            Some(Frame::Arguments(name, count)) => {
+                self.at = self.top_sign();
+                self.drop_top();
+                self.wait(Frame::Arguments(name, one_more(count)?))?;
+                Ok(Some(Mode::Want))
+            }
+            _ => Ok(None),
         }
     }
 
@@ -156,7 +188,11 @@ impl<'a> Reading<'a> {
             }
             Sign::Close => {
                 let _level = self.settle(OR, level)?;
-                Ok(self.close_of())
+                self.close_of()
+            }
+            Sign::Comma => {
+                let _level = self.settle(OR, level)?;
+                self.comma_of()
             }
             Sign::As => {
                 let _level = self.settle(OR, level)?;

@@ -2,14 +2,14 @@
 ghost use Rattle.std.specs.Prelude.{◌≡◌, ◌+◌, ◌<◌, ◌&&◌, ◌∷◌, [], map, take, drop, length};
 ghost use Rattle.std.specs.Prelude.{List, option_map, IfOk, IfErr, IfSome, MatchOption};
 ghost use Rattle.std.specs.Prelude.{MatchResult};
-ghost use Rattle.std.specs.List.{slice_split};
 ghost use Rattle.vortex_syntax.specs.Tokens.{token_in};
 ghost use Rattle.vortex_syntax.specs.Errors.{UnlessMemory, AnswersUnlessMemory};
 ghost use Rattle.vortex_syntax.specs.Reading.{steps_of};
 ghost use Rattle.vortex_syntax.specs.AnswerLists.{Answer, is_name, ReadsAnswers, told, answer_in};
 ghost use Rattle.vortex_syntax.specs.AnswerParts as specs;
-ghost use Rattle.vortex_syntax.specs.AnswerParts.{is_comma, is_as, told_as, answer_of};
-ghost use Rattle.vortex_syntax.specs.AnswerParts.{all_answers, Tells};
+ghost use Rattle.vortex_syntax.specs.AnswerParts.{is_comma, depth_behind, ends_answer, is_as};
+ghost use Rattle.vortex_syntax.specs.AnswerParts.{answer_parts, told_as, answer_of, all_answers};
+ghost use Rattle.vortex_syntax.specs.AnswerParts.{Tells};
 ghost use Rattle.vortex_syntax.specs.Refusals.{RefusesBy, TreeStopsAt, ListStopsAt, NamesPlace};
 ghost use Rattle.vortex_syntax.specs.Refusals.{tree_tokens};
 
@@ -105,18 +105,39 @@ fn read_answer<'a>(
     }
 }
 
-/// The number of the first comma.
+/// Whether the token is a comma outside of brackets, where that many are open.
+fn ends_answer(depth: usize, token: Token<'_>) -> bool
+    ensures { result ≡ ends_answer depth (token_in token.entry) }
+{
+    is_comma(token) && depth == 0
+}
+
+/// How many brackets are open after the token, with that many before it.
+fn depth_behind(depth: usize, token: Token<'_>) -> usize
+    ensures { depth < 18446744073709551615 → result ≡ depth_behind depth (token_in token.entry) }
+{
+    match token {
+        Token::Function(_) => depth.saturating_add(1),
+        Token::Sign(Sign::Open) => depth.saturating_add(1),
+        Token::Sign(Sign::Close) => depth.saturating_sub(1),
+        _ => depth,
+    }
+}
+
+/// The number of the first comma outside of brackets.
 fn first_comma(tokens: &[Token<'_>]) -> Option<usize>
     ensures parts { MatchOption result
-        (slice_split is_comma (map token_in tokens.now) ≡ map token_in tokens.now ∷ [])
-        (λ n. slice_split is_comma (map token_in tokens.now) ≡ map token_in (take n tokens.now)
-        ∷ slice_split is_comma (map token_in (drop (n + 1) tokens.now))) }
+        (answer_parts (map token_in tokens.now) ≡ map token_in tokens.now ∷ [])
+        (λ n. answer_parts (map token_in tokens.now) ≡ map token_in (take n tokens.now)
+        ∷ answer_parts (map token_in (drop (n + 1) tokens.now))) }
     ensures within { IfSome result (λ n. n < length tokens.now) }
 {
+    let mut depth = 0usize;
     for (i, token) in tokens.iter().enumerate() {
-        if is_comma(*token) {
+        if ends_answer(depth, *token) {
             return Some(i);
         }
+        depth = depth_behind(depth, *token);
     }
     None
 }

@@ -11,6 +11,22 @@ use crate::token::{Sign, Token};
 use std::alloc::AllocError;
 
 impl<'a> Reading<'a> {
+    /// The bracket of a call without arguments.
+    fn close_expected(&mut self) -> Result<Option<Mode>, AllocError>
+        ensures { Gives result self.new
+            (specs.close_expected (frames_in self.old) (steps_in self.old)) }
+    {
+        match self.top() {
+            Some(Frame::Arguments(name, 0)) => {
+                self.at = self.top_sign();
+                self.drop_top();
+                self.emit(Step::Apply(name, 0))?;
+                Ok(Some(Mode::Have(ATOM)))
+            }
+            _ => Ok(None),
+        }
+    }
+
     fn sign_expected(&mut self, sign: Sign) -> Result<Option<Mode>, AllocError>
         ensures { Gives result self.new
             (specs.sign_expected (frames_in self.old) (steps_in self.old) sign) }
@@ -29,6 +45,7 @@ impl<'a> Reading<'a> {
                 Ok(Some(Mode::Want))
             }
             Sign::Cast => Ok(Some(Mode::Casting)),
+            Sign::Close => self.close_expected(),
             _ => Ok(None),
         }
     }
@@ -44,6 +61,10 @@ impl<'a> Reading<'a> {
         }
         match token {
             Token::Sign(sign) => self.sign_expected(sign),
+            Token::Function(name) => {
+                self.wait(Frame::Arguments(name, 0))?;
+                Ok(Some(Mode::Want))
+            }
             _ => Ok(None),
         }
     }

@@ -9,6 +9,8 @@ use std::fmt;
 pub enum Expected {
     /// An operand, or `not`.
     Operand,
+    /// After the opening bracket of a call.
+    ArgumentOrClose,
     /// An operand that binds tighter than `not`.
     TightOperand,
     /// After a minus sign.
@@ -19,6 +21,8 @@ pub enum Expected {
     OperatorOrName,
     /// After an operand in brackets.
     OperatorOrClose,
+    /// After an operand in the brackets of a call.
+    OperatorOrComma,
     /// After an operand in the brackets of `cast`.
     OperatorOrAs,
     /// After an operand that follows `between`.
@@ -53,11 +57,13 @@ impl Expected {
     {
         match self {
             Expected::Operand => "a column, a literal, not, cast or (",
+            Expected::ArgumentOrClose => "an expression or )",
             Expected::TightOperand => "a column, a literal, cast or ( (a not needs brackets here)",
             Expected::Digits => "digits",
             Expected::OperatorOrEnd => "an operator or the end",
             Expected::OperatorOrName => "an operator, as and a name, a comma or the end",
             Expected::OperatorOrClose => "an operator or )",
+            Expected::OperatorOrComma => "an operator, a comma or )",
             Expected::OperatorOrAs => "an operator, or as and a type",
             Expected::OperatorOrAnd => "+, -, *, / or the and of between",
             Expected::Brackets =>

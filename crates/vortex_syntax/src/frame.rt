@@ -1,6 +1,7 @@
 //! Frames that wait for an operand while a text is read.
 ghost use Rattle.std.specs.Prelude.{◌≡◌};
 ghost use Rattle.vortex_syntax.specs.Postfix.{called};
+ghost use Rattle.vortex_syntax.specs.Frames.{frame_in};
 ghost use Rattle.vortex_syntax.specs.Reading as specs;
 
 use crate::levels::{ATOM, NOT, OR, PREDICATE, SUM, own, right};
@@ -8,7 +9,7 @@ use crate::step::{Call, LikeKind, WrittenOperator};
 
 /// A frame that waits for its last operand.
 #[derive(Clone, Copy, Debug, PartialEq, Eq)]
-pub enum Frame {
+pub enum Frame<'a> {
     /// An opening bracket.
     Open,
     /// The bracket after `cast`.
@@ -20,6 +21,8 @@ pub enum Frame {
     /// BETWEEN after its `and`, or NOT BETWEEN.
     Bounded(bool),
     Like(LikeKind),
+    /// A call of the function of that name, after as many arguments.
+    Arguments(&'a [u8], usize),
 }
 
 /// What may come next.
@@ -50,11 +53,11 @@ pub enum Mode {
 }
 
 /// The least level of an operand that the frame waits for.
-pub fn hole(frame: Frame) -> u8
-    ensures { result ≡ specs.hole frame }
+pub fn hole(frame: Frame<'_>) -> u8
+    ensures { result ≡ specs.hole (frame_in frame.entry) }
 {
     match frame {
-        Frame::Open | Frame::Cast => OR,
+        Frame::Open | Frame::Cast | Frame::Arguments(..) => OR,
         Frame::Not => NOT,
         Frame::Join(operator) => right(operator),
         Frame::Between(_) | Frame::Bounded(_) | Frame::Like(_) => SUM,
@@ -62,8 +65,8 @@ pub fn hole(frame: Frame) -> u8
 }
 
 /// The frame is closed before a sign of a lower level than this.
-pub fn guard(frame: Frame) -> u8
-    ensures { result ≡ specs.guard frame }
+pub fn guard(frame: Frame<'_>) -> u8
+    ensures { result ≡ specs.guard (frame_in frame.entry) }
 {
     match frame {
         Frame::Between(_) => OR,
@@ -72,22 +75,22 @@ pub fn guard(frame: Frame) -> u8
 }
 
 /// The level of the frame with its operand.
-pub fn whole(frame: Frame) -> u8
-    ensures { result ≡ specs.whole frame }
+pub fn whole(frame: Frame<'_>) -> u8
+    ensures { result ≡ specs.whole (frame_in frame.entry) }
 {
     match frame {
-        Frame::Open | Frame::Cast => ATOM,
+        Frame::Open | Frame::Cast | Frame::Arguments(..) => ATOM,
         Frame::Not => NOT,
         Frame::Join(operator) => own(operator),
         Frame::Between(_) | Frame::Bounded(_) | Frame::Like(_) => PREDICATE,
     }
 }
 
-pub fn closing(frame: Frame) -> Call
-    ensures { called result ≡ specs.closing frame }
+pub fn closing(frame: Frame<'_>) -> Call
+    ensures { called result ≡ specs.closing (frame_in frame.entry) }
 {
     match frame {
-        Frame::Open | Frame::Cast | Frame::Not => Call::Not,
+        Frame::Open | Frame::Cast | Frame::Not | Frame::Arguments(..) => Call::Not,
         Frame::Join(operator) => Call::Join(operator),
         Frame::Between(negated) | Frame::Bounded(negated) => Call::Between(negated),
         Frame::Like(kind) => Call::Like(kind),

@@ -72,7 +72,7 @@ pub fn is_operand(token: Token<'_>) -> bool
     ensures { result ≡ levels.is_operand (token_in token.entry) }
 {
     match token {
-        Token::Nullable(_) => false,
+        Token::Nullable(_) | Token::Function(_) => false,
         Token::Sign(sign) => is_literal_sign(sign),
         _ => true,
     }

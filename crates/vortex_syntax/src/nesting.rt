@@ -23,6 +23,12 @@ pub(crate) fn too_deep(tokens: &[Token<'_>]) -> Option<usize>
                 }
                 depth += 1;
             }
+            Token::Function(_) => {
+                if depth == DEPTH {
+                    return Some(i);
+                }
+                depth += 1;
+            }
             Token::Sign(Sign::Close) => {
                 if depth == 0 {
                     return None;

@@ -3,9 +3,12 @@ ghost use Rattle.std.specs.Prelude.{◌≡◌, ◌<◌, ◌≤◌, suc, length, 
 ghost use Rattle.vortex_syntax.specs.Keywords.{same_word, keyword_of};
 ghost use Rattle.vortex_syntax.specs.Tokens.{token_in};
 ghost use Rattle.vortex_syntax.specs.Pieces.{piece_in, is_blank, begins_word, is_in, front, behind};
-ghost use Rattle.vortex_syntax.specs.Pieces.{keyword_or_name, word_before, number_before, closed};
+ghost use Rattle.vortex_syntax.specs.Pieces.{name_before, keyword_or_name, word_before, number_before, closed};
 ghost use Rattle.vortex_syntax.specs.Pieces.{quoted_by, sign_of_two, sign_of_one, longest_sign};
-ghost use Rattle.vortex_syntax.specs.Pieces.{minus_or_comment, first_piece};
+ghost use Rattle.vortex_syntax.specs.Pieces.{minus_or_comment, first_piece, behind_fraction};
+ghost use Rattle.vortex_syntax.specs.Pieces.{behind_sign, begins_digits, begins_exponent};
+ghost use Rattle.vortex_syntax.specs.Pieces.{behind_exponent, begins_number, behind_number};
+ghost use Rattle.vortex_syntax.specs.Pieces.{front_number};
 
 use crate::token::{Sign, Token};
 
@@ -114,12 +117,25 @@ pub(crate) fn keyword_of(word: &[u8]) -> Option<Sign>
     }
 }
 
-fn keyword_or_name(word: &[u8]) -> Token<'_>
-    ensures { token_in result ≡ keyword_or_name word.now (keyword_of word.now) }
+/// The piece of a name, with an opening bracket if one follows directly.
+fn name_before<'a>(word: &'a [u8], rest: &'a [u8]) -> (Piece<'a>, &'a [u8])
+    ensures piece { (piece_in result.0, result.1.now) ≡ name_before word.now rest.now }
+    ensures shorter { length result.1.now ≤ length rest.now }
+{
+    match rest {
+        [b'(', rest @ ..] => (Piece::Token(Token::Function(word)), rest),
+        _ => (Piece::Token(Token::Name(word)), rest),
+    }
+}
+
+fn keyword_or_name<'a>(word: &'a [u8], rest: &'a [u8]) -> (Piece<'a>, &'a [u8])
+    ensures piece { (piece_in result.0, result.1.now)
+        ≡ keyword_or_name word.now (keyword_of word.now) rest.now }
+    ensures shorter { length result.1.now ≤ length rest.now }
 {
     match keyword_of(word) {
-        Some(sign) => Token::Sign(sign),
-        None => Token::Name(word),
+        Some(sign) => (Piece::Token(Token::Sign(sign)), rest),
+        None => name_before(word, rest),
     }
 }
 
@@ -130,14 +146,81 @@ fn word_before<'a>(word: &'a [u8], rest: &'a [u8]) -> (Piece<'a>, &'a [u8])
 {
     match rest {
         [b'?', rest @ ..] => (Piece::Token(Token::Nullable(word)), rest),
-        _ => (Piece::Token(keyword_or_name(word)), rest),
+        _ => keyword_or_name(word, rest),
     }
 }
 
-/// The piece of a number, by what follows its digits.
-fn number_before<'a>(digits: &'a [u8], rest: &'a [u8]) -> Option<(Piece<'a>, &'a [u8])>
+/// What follows a point and digits, where a point comes first.
+fn behind_fraction(text: &[u8]) -> &[u8]
+    ensures behind { result.now ≡ behind_fraction text.now }
+    ensures shorter { length result.now ≤ length text.now }
+{
+    match text {
+        [b'.', digits @ ..] => split_run(Run::Digits, digits).1,
+        _ => text,
+    }
+}
+
+fn behind_sign(text: &[u8]) -> &[u8]
+    ensures behind { result.now ≡ behind_sign text.now }
+    ensures shorter { length result.now ≤ length text.now }
+{
+    match text {
+        [byte, rest @ ..] if *byte == b'+' || *byte == b'-' => rest,
+        _ => text,
+    }
+}
+
+fn begins_digits(text: &[u8]) -> bool
+    ensures { result ≡ begins_digits text.now }
+{
+    match text {
+        [byte, ..] => byte.is_ascii_digit(),
+        _ => false,
+    }
+}
+
+fn begins_exponent(byte: u8, rest: &[u8]) -> bool
+    ensures { result ≡ begins_exponent byte rest.now }
+{
+    (byte == b'E' || byte == b'e') && begins_digits(behind_sign(rest))
+}
+
+/// What follows an exponent, where one comes first.
+fn behind_exponent(text: &[u8]) -> &[u8]
+    ensures behind { result.now ≡ behind_exponent text.now }
+    ensures shorter { length result.now ≤ length text.now }
+{
+    match text {
+        [byte, rest @ ..] if begins_exponent(*byte, rest) => {
+            split_run(Run::Digits, behind_sign(rest)).1
+        }
+        _ => text,
+    }
+}
+
+fn begins_number(text: &[u8]) -> bool
+    ensures { result ≡ begins_number text.now }
+{
+    match text {
+        [b'.', rest @ ..] => begins_digits(rest),
+        _ => begins_digits(text),
+    }
+}
+
+/// The number at the start of the text, and what follows it.
+fn split_number(text: &[u8]) -> (&[u8], &[u8])
+    ensures front { result.0.now ≡ front_number text.now }
+    ensures behind { result.1.now ≡ behind_number text.now }
+{
+    let behind = behind_exponent(behind_fraction(split_run(Run::Digits, text).1));
+    (&text[..text.len() - behind.len()], behind)
+}
+
+/// The piece of a number, by what follows it.
+fn number_before<'a>(number: &'a [u8], rest: &'a [u8]) -> Option<(Piece<'a>, &'a [u8])>
     ensures piece { option_map (λ x. (piece_in x.0, x.1.now)) result
-        ≡ number_before digits.now rest.now }
+        ≡ number_before number.now rest.now }
     ensures shorter { IfSome result (λ x. length x.1.now ≤ length rest.now) }
 {
     if let Some(byte) = rest.first()
@@ -145,7 +228,7 @@ fn number_before<'a>(digits: &'a [u8], rest: &'a [u8]) -> Option<(Piece<'a>, &'a
     {
         return None;
     }
-    Some((Piece::Token(Token::Number(digits)), rest))
+    Some((Piece::Token(Token::Number(number)), rest))
 }
 
 /// How many bytes come before the first quote that is not doubled.
@@ -248,9 +331,9 @@ pub(crate) fn first_piece(text: &[u8]) -> Option<(Piece<'_>, &[u8])>
     } else if begins_word(*first) {
         let (word, behind) = split_run(Run::Word, text);
         Some(word_before(word, behind))
-    } else if first.is_ascii_digit() {
-        let (digits, behind) = split_run(Run::Digits, text);
-        number_before(digits, behind)
+    } else if begins_number(text) {
+        let (number, behind) = split_number(text);
+        number_before(number, behind)
     } else if *first == b'\'' {
         let (text, behind) = split_quoted(b'\'', rest)?;
         Some((Piece::Token(Token::Text(text)), behind))

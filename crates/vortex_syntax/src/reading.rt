@@ -2,6 +2,8 @@
 ghost use Rattle.std.specs.Prelude.{◌≡◌, ◌++◌, ◌∷◌, [], ◌<◌, List, ℕ, vec_len};
 ghost use Rattle.std.specs.Prelude.{IfOk, OnOk, IfSome, MatchOption};
 ghost use Rattle.vortex_syntax.specs.Postfix.{step_in};
+ghost use Rattle.vortex_syntax.specs.Frames as seen;
+ghost use Rattle.vortex_syntax.specs.Frames.{frame_in};
 ghost use Rattle.vortex_syntax.specs.Reading as specs;
 ghost use Rattle.vortex_syntax.specs.Reading.{frames_in, steps_in, operand_of, settled};
 ghost use Rattle.vortex_syntax.specs.Reading.{closed_once, Gives, waiting, shifted};
@@ -15,7 +17,7 @@ use std::alloc::{AllocError, Global};
 /// What is read so far: the pending frames, each with the byte of its sign, and the steps.
 #[derive(Drop)]
 pub struct Reading<'a> {
-    pub frames: Vec<Frame>,
+    pub frames: Vec<Frame<'a>>,
     pub signs: Vec<usize>,
     pub tree: SyntaxTree<'a>,
     /// The byte at which the next step is reported.
@@ -35,8 +37,9 @@ impl<'a> Reading<'a> {
         }
     }
 
-    pub fn wait(&mut self, frame: Frame) -> Result<(), AllocError>
-        ensures frames { OnOk result (frames_in self.new ≡ frame ∷ frames_in self.old) }
+    pub fn wait(&mut self, frame: Frame<'a>) -> Result<(), AllocError>
+        ensures frames { OnOk result
+            (frames_in self.new ≡ frame_in frame.entry ∷ frames_in self.old) }
         ensures steps { steps_in self.new ≡ steps_in self.old }
     {
         let sign = self.at;
@@ -63,9 +66,9 @@ impl<'a> Reading<'a> {
     }
 
     /// The last frame, without taking it.
-    pub fn top(&self) -> Option<Frame>
+    pub fn top(&self) -> Option<Frame<'a>>
         ensures { MatchOption result (frames_in self.now ≡ [])
-            (λ f. (fs : List Frame) × (frames_in self.now ≡ f ∷ fs)) }
+            (λ f. (fs : List seen.Frame) × (frames_in self.now ≡ frame_in f ∷ fs)) }
     {
         self.frames.last().copied()
     }
@@ -80,10 +83,10 @@ impl<'a> Reading<'a> {
 
     /// Takes the last frame, if there is one.
     pub fn drop_top(&mut self)
-        ensures frames { (f : Frame) (fs : List Frame) → frames_in self.old ≡ f ∷ fs
+        ensures frames { (f : seen.Frame) (fs : List seen.Frame) → frames_in self.old ≡ f ∷ fs
             → frames_in self.new ≡ fs }
         ensures steps { steps_in self.new ≡ steps_in self.old }
-        ensures fewer { (f : Frame) (fs : List Frame) → frames_in self.old ≡ f ∷ fs
+        ensures fewer { (f : seen.Frame) (fs : List seen.Frame) → frames_in self.old ≡ f ∷ fs
             → vec_len self.new.frames < vec_len self.old.frames }
     {
         let _taken = self.frames.pop();
@@ -139,11 +142,11 @@ impl<'a> Reading<'a> {
         &mut self,
         reach: u8,
         least: u8,
-        frame: Frame,
+        frame: Frame<'a>,
         level: u8,
     ) -> Result<Option<Mode>, AllocError>
         ensures { Gives result self.new
-            (waiting reach least frame (operand_of level (frames_in self.old) (steps_in self.old))) }
+            (waiting reach least (frame_in frame.entry) (operand_of level (frames_in self.old) (steps_in self.old))) }
     {
         if level < least || reach < self.top_hole() {
             return Ok(None);
@@ -156,11 +159,11 @@ impl<'a> Reading<'a> {
         &mut self,
         reach: u8,
         least: u8,
-        frame: Frame,
+        frame: Frame<'a>,
         level: u8,
     ) -> Result<Option<Mode>, AllocError>
         ensures { Gives result self.new
-            (shifted reach least frame level (frames_in self.old) (steps_in self.old)) }
+            (shifted reach least (frame_in frame.entry) level (frames_in self.old) (steps_in self.old)) }
     {
         let level = self.settle(reach, level)?;
         self.wait_if(reach, least, frame, level)

@@ -1,6 +1,6 @@
 //! What was expected where reading stops.
 use crate::expected::Expected;
-use crate::frame::{Frame, Mode};
+use crate::frame::{Frame, Mode, hole};
 use crate::levels::NOT;
 use crate::reading::Reading;
 use crate::token::{Sign, Token};
@@ -45,6 +45,7 @@ impl<'a> Reading<'a> {
             match frame {
                 Frame::Open => return Expected::OperatorOrClose,
                 Frame::Cast => return Expected::OperatorOrAs,
+                Frame::Arguments(..) => return Expected::OperatorOrComma,
                 Frame::Between(_) => return Expected::OperatorOrAnd,
                 _ => {}
             }
@@ -53,10 +54,10 @@ impl<'a> Reading<'a> {
     }
 
     fn operand_expected(&self) -> Expected {
-        if NOT < self.top_hole() {
-            Expected::TightOperand
-        } else {
-            Expected::Operand
+        match self.top() {
+            Some(Frame::Arguments(_, 0)) => Expected::ArgumentOrClose,
+            Some(frame) if NOT < hole(frame) => Expected::TightOperand,
+            _ => Expected::Operand,
         }
     }
 

@@ -43,7 +43,7 @@ pub enum Call {
 pub enum Step<'a> {
     /// A column or a literal, by its token.
     Operand(Token<'a>),
-    /// The literal of these digits with a minus sign before them.
+    /// The literal of that number with a minus sign before it.
     Negative(&'a [u8]),
     /// The literal before it is of the type of that name, nullable if the flag is true.
     Typed(&'a [u8], bool),
@@ -51,5 +51,7 @@ pub enum Step<'a> {
     Cast(&'a [u8], bool),
     /// LIKE of the two trees before it, with the escape as written.
     Escaped(LikeKind, &'a [u8]),
+    /// The function of that name, of as many trees before it.
+    Apply(&'a [u8], usize),
     Call(Call),
 }

@@ -40,9 +40,11 @@ pub enum Token<'a> {
     Name(&'a [u8]),
     /// A word with a question mark after it, which the bytes leave out.
     Nullable(&'a [u8]),
+    /// A word that is no keyword, with an opening bracket after it, which the bytes leave out.
+    Function(&'a [u8]),
     /// The bytes in double quotes, as written.
     Quoted(&'a [u8]),
-    /// Digits.
+    /// Digits, a point and digits, and an exponent, each where it is there, as written.
     Number(&'a [u8]),
     /// The bytes in single quotes, as written.
     Text(&'a [u8]),

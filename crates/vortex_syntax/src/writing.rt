@@ -234,7 +234,16 @@ impl Writer {
         self.text.push_str("?")
     }
 
-    /// The digits of a number.
+    /// The name of a function, and its bracket. A blank may come before it, none after it.
+    pub fn push_function(&mut self, name: &str) -> Result<(), AllocError>
+        ensures { OnOk result (Adds (seen.function name.now) self.old self.new) }
+    {
+        self.begin(is_tight(self.ending), Ending::Tight)?;
+        self.text.push_str(name)?;
+        self.text.push_str("(")
+    }
+
+    /// A number, as it is written.
     pub fn push_number(&mut self, digits: &str) -> Result<(), AllocError>
         ensures { OnOk result (Adds (seen.number digits.now) self.old self.new) }
     {

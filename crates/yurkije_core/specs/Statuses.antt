@@ -20,6 +20,7 @@ refusal_status refusal.NotHeld = 114
 refusal_status refusal.UntypedNull = 115
 refusal_status refusal.NoEscape = 116
 refusal_status refusal.NoCast = 117
+refusal_status refusal.NoFunction = 118
 refusal_status (refusal.Binding e) = number_of e
 
 abbrev pub reason_status : Reason → ℕ

@@ -28,6 +28,7 @@ fn refusal_status(refusal: &Refusal) -> u32
         Refusal::UntypedNull => 115,
         Refusal::NoEscape => 116,
         Refusal::NoCast => 117,
+        Refusal::NoFunction => 118,
         Refusal::Binding(error) => error_status(error),
     }
 }

@@ -5,7 +5,7 @@ use Rattle.rowfn_lines.specs.Lines.{word_in}
 use Rattle.rowfn_lines.specs.Commands.{cell_of}
 use Rattle.vortex_cells.specs.Cells.{cell_in}
 use Rattle.vortex_cells.proofs.AllSome.{next_some, some_missing}
-use Rattle.rowfn_lines.proofs.said.cells_of.Goals as goal
+use Rattle.rowfn_lines.proofs.values.cells_of.Goals as goal
 
 pub returns-in_default : goal.returns-in_default
 returns-in_default c =

@@ -3,7 +3,7 @@ use Rattle.vortex_types.specs.TypeOf.{type_of}
 use Rattle.rowfn_lines.specs.Lines.{word_in}
 use Rattle.rowfn_lines.specs.Commands.{cells_of}
 use Rattle.vortex_cells.specs.Cells.{cell_in}
-use Rattle.rowfn_lines.proofs.said.cells_of.Given as goal
+use Rattle.rowfn_lines.proofs.values.cells_of.Given as goal
 
 -- the cells so far
 abbrev pub invariant-loop-word : goal.invariant-loop-word

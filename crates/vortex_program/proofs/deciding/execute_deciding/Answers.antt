@@ -3,22 +3,11 @@ use Rattle.std.specs.Cow.{cow_value}
 use Rattle.vortex_errors.proofs.Answering.{UnlessMemory-weaker}
 use Rattle.vortex_columns.specs.ColumnView.{ColumnView}
 use Rattle.vortex_interface.specs.Eval.{HasTreeRows, IsFirstFault}
-use Rattle.vortex_interface.specs.Execution.{Executes, RefusesColumns, RefusesExecution, misfit}
+use Rattle.vortex_interface.specs.Execution.{Executes, RefusesExecution}
 use Rattle.vortex_interface.specs.Execution.{faulty}
 use Rattle.vortex_functions.specs.Fixed.{fixed_meaning}
 use Rattle.vortex_program.proofs.Answered.{answers_refusal, owned_is}
 use Rattle.vortex_program.proofs.deciding.execute_deciding.Goals as goal
-
-pub returns-in_err-check_columns : goal.returns-in_err-check_columns
-returns-in_err-check_columns c =
-    let m = fixed_meaning in
-    let cs = c.args.columns.now in
-    let n = c.args.row_count in
-    let t = c.args.tree.now in
-    answers_refusal (Executes m cs n t) (RefusesExecution m cs n t) c.from_residual.result
-    c.in_err-check_columns.field-0.0 c.from_residual.ensures.1
-    (UnlessMemory-weaker (RefusesColumns cs n t) (RefusesExecution m cs n t) (λ e q. misfit q)
-    c.in_err-check_columns.field-0.0 c.in_err-check_columns.ensures.answer)
 
 pub returns-in_err-column : goal.returns-in_err-column
 returns-in_err-column c =
@@ -26,16 +15,16 @@ returns-in_err-column c =
     let cs = c.args.columns.now in
     let n = c.args.row_count in
     let t = c.args.tree.now in
-    let fit = c.in_ok-check_columns.ensures.answer in
+    let fit = c.requires in
     answers_refusal (Executes m cs n t) (RefusesExecution m cs n t)
-    c.from_residual-in_err-column.result c.in_err-column.field-0.0
-    c.from_residual-in_err-column.ensures.1
+    c.from_residual.result c.in_err-column.field-0.0
+    c.from_residual.ensures.1
     (UnlessMemory-weaker (IsFirstFault m cs n t) (RefusesExecution m cs n t)
     (λ e q. faulty fit.0 fit.1 q) c.in_err-column.field-0.0 c.in_err-column.ensures)
 
 pub returns : goal.returns
 returns c =
-    let fit = c.in_ok-check_columns.ensures.answer in
+    let fit = c.requires in
     let m = fixed_meaning in
     let cs = c.args.columns.now in
     let n = c.args.row_count in

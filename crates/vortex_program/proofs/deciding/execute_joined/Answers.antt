@@ -1,4 +1,5 @@
-use Rattle.std.proofs.Common.{◌≡◌, ◌∙◌, ap, subst}
+use Rattle.std.proofs.Common.{◌≡◌, ◌∙◌, ap, subst, sym, Option, length}
+use Rattle.std.specs.Prelude.{IfSome}
 use Rattle.std.specs.Cow.{cow_value}
 use Rattle.vortex_errors.proofs.Answering.{Answers-weaker}
 use Rattle.vortex_types.specs.ScalarView.{ScalarView}
@@ -6,7 +7,10 @@ use Rattle.vortex_types.specs.TypeOf.{type_of, allows_null}
 use Rattle.vortex_columns.specs.ColumnView.{ColumnView, constant_column}
 use Rattle.vortex_interface.specs.Eval.{HasTreeRows, IsFirstFault}
 use Rattle.vortex_functions.specs.Fixed.{fixed_meaning, fixed_lawful}
-use Rattle.vortex_program.specs.Deciding.{IsTruth}
+use Rattle.vortex_expressions.specs.Items.{meaning}
+use Rattle.vortex_program.specs.Coded.{AreCoded}
+use Rattle.vortex_program.specs.Deciding.{IsTruth, IsInfallible}
+use Rattle.vortex_program.specs.declared.coded.CodedRows.{CodedRows}
 use Rattle.vortex_program.proofs.Decided.{joins_right, right_fits, two_there, decided}
 use Rattle.vortex_program.proofs.Decided.{infallible_settles}
 use Rattle.vortex_program.proofs.deciding.execute_joined.Goals as goal
@@ -43,3 +47,37 @@ returns-then-branch c =
     c.nullability-nullability.ensures
     (is ∙ ap (λ (s : ScalarView). constant_column s n) c.bool.ensures))
     (λ e p. absurd p) c.constant.ensures
+
+pub execute_coded-requires-clause-left : goal.execute_coded-requires-clause-left
+execute_coded-requires-clause-left c =
+    let cs = c.args.columns.now in
+    let n = c.args.row_count in
+    let q = c.requires.left in
+    let node = c.args.joined.node.now in
+    let op = c.args.joined.operator in
+    let right = c.child-right.result.now in
+    let truth = c.decider-truth.result in
+    let rows = c.in-Some.rows in
+    let column = c.deref-in-Some.result.now in
+    let j = joins_right op node q.0 q.1 right q.2 c.child-right.ensures.tree in
+    let fit = right_fits cs n op node q.0 right j c.requires.fit in
+    let found =
+    subst
+    (λ (r : Option CodedRows).
+    IfSome r
+    (λ x. AreCoded truth c.deref-2.result.now x.numbers.items x.codes.items
+    (length c.deref-2.result.now.rows) × IsInfallible fixed_meaning right))
+    c.in-Some.is c.in_ok-rows.ensures in
+    record {
+      left = q.0;
+      right = right;
+      joins = j;
+      has = subst (λ (x : ColumnView). HasTreeRows meaning cs n q.0 x) (sym c.deref-in-Some.ensures) q.3;
+      truth = truth;
+      decides = c.decider-truth.ensures;
+      values = infallible_settles fixed_meaning fixed_lawful cs n right _ c.dtype-typed.ensures.dtype
+          c.dtype-typed.ensures.typed fit.0 fit.1 c.requires.typed found.1;
+      coded = subst
+          (λ (x : ColumnView). AreCoded truth x rows.numbers.items rows.codes.items (length x.rows))
+          (c.deref-2.ensures ∙ sym c.deref-in-Some.ensures) found.0;
+    }

@@ -4,8 +4,14 @@ use Rattle.vortex_interface.specs.Execution.{Executes, RefusesExecution}
 use Rattle.vortex_functions.specs.Walks.{AllMean}
 use Rattle.vortex_program.specs.Executing.{RefusesFirst}
 use Rattle.vortex_program.proofs.Answered.{all_more, answers_refusal, refuses_at}
+use Rattle.vortex_program.proofs.Faulty.{fit_at}
 use Rattle.vortex_functions.specs.Fixed.{fixed_meaning}
 use Rattle.vortex_program.proofs.executing.execute_all.Goals as goal
+
+pub execute_checking-requires : goal.execute_checking-requires
+execute_checking-requires c = λ known.
+    fit_at c.args.columns.now c.args.row_count c.args.answers.now c.loop-answer.answer-index
+    c.answer-item.result c.loop-answer-test.true c.answer-item.is (c.requires known)
 
 pub returns-in_err-column : goal.returns-in_err-column
 returns-in_err-column c =

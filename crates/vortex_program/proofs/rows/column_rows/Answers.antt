@@ -1,7 +1,7 @@
 use Rattle.std.proofs.Common.{ℕ, List, arith, length, subst, sym}
 use Rattle.vortex_errors.proofs.Answering.{AnswersUnlessMemory-weaker}
 use Rattle.vortex_columns.specs.Taken.{AreRowsOf, IsTaken}
-use Rattle.vortex_program.proofs.TakenRows.{numbered, numbers_within, taken_has}
+use Rattle.vortex_program.proofs.TakenRows.{several_numbered, numbers_within, taken_has}
 use Rattle.vortex_program.proofs.rows.column_rows.Goals as goal
 
 pub take-requires : goal.take-requires
@@ -10,7 +10,7 @@ take-requires c =
     let count = c.args.count in
     let column = c.args.column.now in
     let are =
-    numbered first count c.args.numbers.now c.requires.numbered
+    several_numbered first count c.args.numbers.now c.requires.numbered
     (λ one. grind (arith, c.if-count-eq1.false, one)) in
     subst (λ (ns : List ℕ). AreRowsOf column ns) (sym are)
     (numbers_within first count (length column.rows) c.requires.within)
@@ -21,7 +21,7 @@ returns c =
     let count = c.args.count in
     let column = c.args.column.now in
     let are =
-    numbered first count c.args.numbers.now c.requires.numbered
+    several_numbered first count c.args.numbers.now c.requires.numbered
     (λ one. grind (arith, c.if-count-eq1.false, one)) in
     AnswersUnlessMemory-weaker c.take.result _ _
     (λ d taken.

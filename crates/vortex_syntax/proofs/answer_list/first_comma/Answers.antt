@@ -1,21 +1,23 @@
-use Rattle.std.proofs.Common.{◌≡◌, ◌≤◌, ◌∙◌, sym, length, false, arith}
-use Rattle.std.proofs.lemmas.List.Elements.{All-more}
+use Rattle.std.proofs.Common.{◌≤◌, ◌+◌, ◌∙◌, sym, subst, length, map, take, arith}
 use Rattle.vortex_syntax.specs.Tokens.{token_in}
-use Rattle.vortex_syntax.specs.AnswerParts.{is_comma}
-use Rattle.vortex_syntax.proofs.AnswerSplits.{first_at, none_at}
+use Rattle.vortex_syntax.proofs.AnswerCommas.{Passes, deeper_by, passes_more, first_at, none_at}
 use Rattle.vortex_syntax.proofs.answer_list.first_comma.Goals as goal
 
-pub returns-then-is_comma-clause-parts : goal.returns-then-is_comma-clause-parts
-returns-then-is_comma-clause-parts c =
-    first_at token_in c.args.tokens.now c.loop-i.i _ c.loop-i-test.true c.loop-i.invariant
-    (sym c.is_comma.ensures ∙ c.if-is_comma.true)
+pub returns-then-ends_answer-clause-parts : goal.returns-then-ends_answer-clause-parts
+returns-then-ends_answer-clause-parts c =
+    first_at token_in c.args.tokens.now c.loop-i.i c.loop-i.depth _ c.loop-i-test.true
+    c.loop-i.invariant.1 (sym c.ends_answer.ensures ∙ c.if-ends_answer.true)
 
 pub loop-i-preserved : goal.loop-i-preserved
 loop-i-preserved c =
-    All-more (λ t. is_comma (token_in t) ≡ false) c.args.tokens.now c.loop-i.i _ c.loop-i-test.true
-    c.loop-i.invariant (sym c.is_comma.ensures ∙ c.if-is_comma.false)
+    let step = c.depth_behind-depth.ensures (omega (arith, c.loop-i.invariant.0)) in (
+      omega (arith, c.loop-i.invariant.0, deeper_by c.loop-i.depth _ _ step),
+      subst (λ n. Passes 0 n (map token_in (take (c.loop-i.i + 1) c.args.tokens.now))) (sym step)
+          (passes_more token_in c.args.tokens.now c.loop-i.i c.loop-i.depth _ c.loop-i-test.true
+          c.loop-i.invariant.1 (sym c.ends_answer.ensures ∙ c.if-ends_answer.false)),
+    )
 
 pub returns-clause-parts : goal.returns-clause-parts
 returns-clause-parts c =
-    none_at token_in c.args.tokens.now c.loop-i.i
-    (let k : length c.args.tokens.now ≤ c.loop-i.i = omega arith in k) c.loop-i.invariant
+    none_at token_in c.args.tokens.now c.loop-i.i c.loop-i.depth
+    (let k : length c.args.tokens.now ≤ c.loop-i.i = omega arith in k) c.loop-i.invariant.1

@@ -1,11 +1,10 @@
 use Rattle.std.proofs.Common.{◌≡◌, ◌+◌, ◌-◌, ◌∷◌, [], map, take, drop, length, None, Some, sym, ap}
 use Rattle.std.proofs.Common.{◌∙◌, arith, rules, length-drop}
-use Rattle.std.specs.List.{slice_split}
 use Rattle.std.proofs.lemmas.List.{map-append, take_rest}
 use Rattle.vortex_syntax.specs.Errors.{UnlessMemory}
 use Rattle.vortex_syntax.specs.Tokens.{token_in}
 use Rattle.vortex_syntax.specs.AnswerLists.{answer_in}
-use Rattle.vortex_syntax.specs.AnswerParts.{is_comma, all_answers}
+use Rattle.vortex_syntax.specs.AnswerParts.{answer_parts, all_answers}
 use Rattle.vortex_syntax.proofs.AnswerSplits.{after, part_is, last_is, goes_on, stops, finishes}
 use Rattle.vortex_syntax.proofs.AnswerSplits.{unless_weaker}
 use Rattle.vortex_syntax.specs.Refusals.{TreeStopsAt, tree_tokens, ListStopsAt, NamesPlace}
@@ -21,7 +20,7 @@ returns-in_err-answer-clause-read c =
     unless_weaker c.in_err-answer.field-0.0
     (stops (all_answers (map token_in ts)) (map answer_in c.loop-count.answers.items)
     (map token_in (drop i ts)) (map token_in (take (i + n - i) (drop i ts)))
-    (slice_split is_comma (map token_in (drop (i + (n + 1)) ts))) c.loop-count.invariant.1
+    (answer_parts (map token_in (drop (i + (n + 1)) ts))) c.loop-count.invariant.1
     (part_is token_in ts i n c.in-Some.ensures.parts))
     c.in_err-answer.ensures.told in
     search rules
@@ -36,7 +35,7 @@ returns-in_err-answer-clause-refused c =
     names_more (TreeStopsAt (tree_tokens p)) (ListStopsAt (map token_in ts)) c.after.result
     c.args.places i
     (stops_first (map token_in ts) i (map token_in (drop i ts)) p
-    (slice_split is_comma (map token_in (drop (i + (n + 1)) ts)))
+    (answer_parts (map token_in (drop (i + (n + 1)) ts)))
     (part_is token_in ts i n c.in-Some.ensures.parts) c.loop-count.invariant.2)
     c.after.ensures c.in_err-answer.field-0.0 c.in_err-answer.ensures.refused in
     search rules

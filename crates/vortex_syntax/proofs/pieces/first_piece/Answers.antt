@@ -1,6 +1,7 @@
-use Rattle.std.proofs.Common.{◌<◌, length, sym, ap, arith}
-use Rattle.vortex_syntax.specs.declared.pieces.Run.TheVariants.{Word, Digits}
+use Rattle.std.proofs.Common.{◌<◌, length, sym, ap, ◌∙◌, arith}
+use Rattle.vortex_syntax.specs.declared.pieces.Run.TheVariants.{Word}
 use Rattle.vortex_syntax.specs.Pieces.{behind}
+use Rattle.vortex_syntax.proofs.Numbers.{number_shorter}
 use Rattle.vortex_syntax.proofs.Runs.{behind_lt, word_begun, some_below}
 use Rattle.vortex_syntax.proofs.pieces.first_piece.Goals as goal
 
@@ -11,10 +12,11 @@ returns-then-begins_word-clause-shorter c =
     (word_begun c.in_ok-first.first.now (sym c.if-begins_word.ensures)) in
     omega (arith, c.word_before.ensures.shorter, ap length c.split_run.ensures.behind, h)
 
-pub returns-then-is_ascii_digit-clause-shorter : goal.returns-then-is_ascii_digit-clause-shorter
-returns-then-is_ascii_digit-clause-shorter c =
-    let h : length (behind Digits c.args.text.now) < length c.args.text.now =
-    behind_lt Digits c.args.text.now _ _ c.in_ok-first.ensures.cases.0
-    (sym c.if-is_ascii_digit.ensures.value) in
+pub returns-then-begins_number-clause-shorter : goal.returns-then-begins_number-clause-shorter
+returns-then-begins_number-clause-shorter c =
     some_below _ _ c.number_before.result c.number_before.ensures.shorter
-    (omega (arith, ap length c.split_run-then-is_ascii_digit.ensures.behind, h))
+    (omega (
+      arith,
+      ap length c.split_number.ensures.behind,
+      number_shorter c.args.text.now (sym c.begins_number.ensures ∙ c.if-begins_number.true),
+    ))

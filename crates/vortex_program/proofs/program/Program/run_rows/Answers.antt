@@ -1,4 +1,4 @@
-use Rattle.std.proofs.Common.{List, subst}
+use Rattle.std.proofs.Common.{List, subst, sym}
 use Rattle.std.specs.Prelude.{All}
 use Rattle.vortex_interface.specs.Execution.{Executes}
 use Rattle.vortex_functions.specs.Walks.{AllMean}
@@ -7,8 +7,19 @@ use Rattle.vortex_expressions.specs.Items.{meaning}
 use Rattle.vortex_program.specs.declared.answer.Answer as bound
 use Rattle.vortex_program.specs.Executing.{AllFit}
 use Rattle.vortex_program.specs.Programs.{trees_of}
+use Rattle.vortex_program.proofs.Fitting.{fit_rewrites}
 use Rattle.vortex_program.proofs.Keeping.{kept_answers}
 use Rattle.vortex_program.proofs.program.Program.run_rows.Goals as goal
+
+pub execute_all-requires : goal.execute_all-requires
+execute_all-requires c = λ known.
+    let cs = c.args.columns.now in
+    let n = c.args.rows in
+    let x = c.args.self.now in
+    subst (λ (xs : List bound.Answer). AllFit cs n (trees_of xs)) (sym c.deref-2.ensures.value)
+    (fit_rewrites cs n (trees_of x.written.items) (trees_of x.optimized.items) x.rewrites
+    (subst (λ (xs : List bound.Answer). AllFit cs n (trees_of xs)) c.deref.ensures.value
+    c.in_default.ensures.fit))
 
 pub returns-in-Ok-clause-answer : goal.returns-in-Ok-clause-answer
 returns-in-Ok-clause-answer c rewrites =

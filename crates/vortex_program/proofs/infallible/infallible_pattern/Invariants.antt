@@ -3,7 +3,7 @@ use Rattle.vortex_interface.specs.Trees.{trees_of, node_count, nodes_count}
 use Rattle.vortex_functions.specs.Fixed.{fixed_meaning}
 use Rattle.vortex_functions.proofs.Listed.{now_of}
 use Rattle.vortex_program.specs.Deciding.{IsInfallible, AllInfallible}
-use Rattle.vortex_program.proofs.infallible.is_infallible.Given as goal
+use Rattle.vortex_program.proofs.infallible.infallible_pattern.Given as goal
 
 -- the tree faults for no values where the node and the listed trees fault for none
 abbrev pub invariant-loop-node : goal.invariant-loop-node

@@ -4,7 +4,7 @@ use Rattle.vortex_functions.specs.Fixed.{fixed_meaning}
 use Rattle.vortex_functions.proofs.Listed.{now_of, relisted, nothing_listed, all_listed, none_left}
 use Rattle.vortex_functions.proofs.Listed.{listed_fewer}
 use Rattle.vortex_program.proofs.Faultless.{listed_free, last_free}
-use Rattle.vortex_program.proofs.infallible.is_infallible.Goals as goal
+use Rattle.vortex_program.proofs.infallible.infallible_pattern.Goals as goal
 
 pub loop-node-preserved : goal.loop-node-preserved
 loop-node-preserved c =
@@ -43,6 +43,6 @@ returns-in_default c =
     let none = none_left c.loop-child.list.items
     (λ h. true≢false
     (sym (c.in_default.ensures.variant.1 (omega (arith, h, c.loop-child.list.ok.0))))) in
-    λ h. last_free fixed_meaning c.args.tree.now c.loop-node.node.now before
+    last_free fixed_meaning c.args.tree.now c.loop-node.node.now before
     c.loop-node.invariant (c.is_node_infallible.ensures c.if-not-is_node_infallible.false)
     (nothing_listed before kids c.loop-child.list.items listed none)

@@ -1,0 +1,65 @@
+//! Literals and types in reports.
+use crate::item::Item;
+use crate::literal::Literal;
+use std::fmt::Write;
+use vortex_columns::VortexResult;
+
+/// A literal, as written.
+pub(crate) fn push_literal(out: &mut String, literal: &Literal) -> VortexResult<()> {
+    match literal {
+        Literal::Number(word) => out.push_str(word.as_str())?,
+        Literal::Text(text) => {
+            let text = text.as_str();
+            write!(out, "{text:?}")?
+        }
+        Literal::Truth(truth) => write!(out, "{truth}")?,
+        Literal::Null => out.push_str("null")?,
+    }
+    Ok(())
+}
+
+/// The type of an item, or that it is a null without one.
+fn push_type(out: &mut String, item: &Item) -> VortexResult<()> {
+    match item {
+        Item::Bound(tree) => tree.dtype().write_text(out),
+        Item::Literal(literal) => match literal.own_type() {
+            Some(dtype) => dtype.write_text(out),
+            None => push_literal(out, literal),
+        },
+    }
+}
+
+/// The types of items, with commas and an `and`.
+pub(crate) fn push_types(out: &mut String, items: &[Item]) -> VortexResult<()> {
+    for (place, item) in items.iter().enumerate() {
+        if place > 0 {
+            out.push_str(if place + 1 < items.len() {
+                ", "
+            } else {
+                " and "
+            })?;
+        }
+        push_type(out, item)?;
+    }
+    Ok(())
+}
+
+/// What is said before a number that is not written as a whole one.
+const NOT_WHOLE: &str = "numbers are whole, without a point or an exponent: ";
+
+/// Whether it is a number with a point or an exponent.
+pub(crate) fn is_fraction(literal: &Literal) -> bool {
+    match literal {
+        Literal::Number(word) => word
+            .as_str()
+            .bytes()
+            .any(|byte| byte == b'.' || byte == b'e' || byte == b'E'),
+        _ => false,
+    }
+}
+
+/// That the number is not written as a whole one.
+pub(crate) fn push_fraction(out: &mut String, literal: &Literal) -> VortexResult<()> {
+    out.push_str(NOT_WHOLE)?;
+    push_literal(out, literal)
+}

@@ -1,0 +1,20 @@
+use Rattle.std.proofs.Common.{add-one, arith, length}
+use Rattle.vortex_program.specs.Rows.{numbered}
+use Rattle.vortex_program.proofs.TakenRows.{all_parts, part_more}
+use Rattle.vortex_program.proofs.rows.numbered_rows.Goals as goal
+
+pub loop-k-preserved : goal.loop-k-preserved
+loop-k-preserved c =
+    let k = c.loop-k.k in
+    let numbers = c.args.numbers.now in
+    rw c.in_ok-push.ensures.items
+    (part_more (numbered numbers) (length numbers) c.args.read.now c.args.columns.now
+    c.loop-k.taken.items k _ c.index-columns-k.result _ (add-one k) c.loop-k-test.true
+    c.index-columns-k.is c.loop-k.invariant _ (omega (arith, c.loop-k-test.true, c.requires.read))
+    c.in_ok-numbered_part.ensures)
+
+pub returns : goal.returns
+returns c =
+    let numbers = c.args.numbers.now in
+    all_parts (numbered numbers) (length numbers) c.args.read.now c.args.columns.now
+    c.loop-k.taken.items c.loop-k.k c.loop-k-test.false c.loop-k.invariant

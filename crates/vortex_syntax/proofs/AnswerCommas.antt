@@ -1,0 +1,265 @@
+-- A tree's tokens are within one part of a list: its commas are inside of brackets.
+use Rattle.std.specs.Prelude.{IfSome}
+use Rattle.std.proofs.Common.{◌≡◌, ℕ, zero, suc, ◌==◌, ◌+◌, ◌<◌, ◌≤◌, Bool, true, false, List, [], ◌∷◌, ◌++◌}
+use Rattle.std.proofs.Common.{length, map, get_or, take, drop, Option, Some, None, refl, ap, sym, subst}
+use Rattle.std.proofs.Common.{◌∙◌, append_assoc, arith}
+use Rattle.std.specs.List.{onto_first}
+use Rattle.std.proofs.lemmas.Bool.{and_parts, eqb-true}
+use Rattle.std.proofs.lemmas.Bool.Decides.{nat_tests}
+use Rattle.std.proofs.lemmas.List.{append-nil, map-append, map_more, take-append-drop, drop_more}
+use Rattle.std.proofs.lemmas.List.{take_all}
+use Rattle.vortex_syntax.specs.declared.step.WrittenOperator.{WrittenOperator}
+use Rattle.vortex_syntax.specs.declared.step.WrittenOperator.TheVariants as operator
+use Rattle.vortex_syntax.specs.declared.token.Sign.TheVariants as sign
+use Rattle.vortex_syntax.specs.Tokens.{Token, name, nullable, function, quoted, number, text, sign}
+use Rattle.vortex_syntax.specs.Syntax as tree
+use Rattle.vortex_syntax.specs.Syntax.{Syntax, Arguments}
+use Rattle.vortex_syntax.specs.Levels.{Fits, AllFit, is_operand}
+use Rattle.vortex_syntax.specs.Spelling.{spelling, all_spelled, operator_sign, type_token, with_not}
+use Rattle.vortex_syntax.specs.Spelling.{null_test, like_sign, escape_tokens}
+use Rattle.vortex_syntax.specs.AnswerLists.{Answer, is_name, name_tokens, SpellsAnswer}
+use Rattle.vortex_syntax.specs.AnswerParts.{is_comma, depth_behind, ends_answer, parts_from}
+use Rattle.vortex_syntax.specs.AnswerParts.{answer_parts}
+
+-- tokens before the first part
+abbrev onto_all : List Token → List (List Token) → List (List Token)
+onto_all [] ps = ps
+onto_all (t ∷ ts) ps = onto_first t (onto_all ts ps)
+
+onto_append : (ts us : List Token) (ps : List (List Token))
+    → onto_all (ts ++ us) ps ≡ onto_all ts (onto_all us ps)
+onto_append [] us ps = refl
+onto_append (t ∷ ts) us ps = ap (onto_first t) (onto_append ts us ps)
+
+onto_part : (ts p : List Token) (ps : List (List Token)) → onto_all ts (p ∷ ps) ≡ (ts ++ p) ∷ ps
+onto_part [] p ps = refl
+onto_part (t ∷ ts) p ps = ap (onto_first t) (onto_part ts p ps)
+
+-- the tokens lead from that many open brackets to that many, without the end of a part
+abbrev pub Passes : ℕ → ℕ → List Token → Type 0
+Passes d e ts = (rest : List Token) → parts_from d (ts ++ rest) ≡ onto_all ts (parts_from e rest)
+
+abbrev pub Stays : List Token → Type 0
+Stays ts = (d : ℕ) → Passes d d ts
+
+pub passes_none : (d : ℕ) → Passes d d []
+passes_none d rest = refl
+
+both : (d e f : ℕ) (ts us : List Token) → Passes d e ts → Passes e f us → Passes d f (ts ++ us)
+both d e f ts us p q rest =
+    ap (parts_from d) (append_assoc ts us rest) ∙ p (us ++ rest) ∙ ap (onto_all ts) (q rest)
+    ∙ sym (onto_append ts us (parts_from f rest))
+
+first : (d e : ℕ) (t : Token) (ts : List Token) → ends_answer d t ≡ false
+    → Passes (depth_behind d t) e ts → Passes d e (t ∷ ts)
+first d e t ts h p rest = rw h (ap (onto_first t) (p rest))
+
+pub last : (d e : ℕ) (ts : List Token) (t : Token) → Passes d e ts → ends_answer e t ≡ false
+    → Passes d (depth_behind e t) (ts ++ (t ∷ []))
+last d e ts t p h =
+    both d e (depth_behind e t) ts (t ∷ []) p
+    (first e (depth_behind e t) t [] h (passes_none (depth_behind e t)))
+
+-- a tree
+operand_stays : (t : Token) → is_operand t ≡ true → Stays (t ∷ [])
+operand_stays (name w) h d = first d d (name w) [] refl (passes_none d)
+operand_stays (quoted w) h d = first d d (quoted w) [] refl (passes_none d)
+operand_stays (number w) h d = first d d (number w) [] refl (passes_none d)
+operand_stays (text w) h d = first d d (text w) [] refl (passes_none d)
+operand_stays (sign sign.True) h d = first d d (sign sign.True) [] refl (passes_none d)
+operand_stays (sign sign.False) h d = first d d (sign sign.False) [] refl (passes_none d)
+operand_stays (sign sign.Null) h d = first d d (sign sign.Null) [] refl (passes_none d)
+operand_stays t h d = absurd cc
+
+operator_stays : (o : WrittenOperator) → Stays (sign (operator_sign o) ∷ [])
+operator_stays operator.Or d = first d d (sign sign.Or) [] refl (passes_none d)
+operator_stays operator.And d = first d d (sign sign.And) [] refl (passes_none d)
+operator_stays operator.Equal d = first d d (sign sign.Equal) [] refl (passes_none d)
+operator_stays operator.NotEqual d = first d d (sign sign.NotEqual) [] refl (passes_none d)
+operator_stays operator.Less d = first d d (sign sign.Less) [] refl (passes_none d)
+operator_stays operator.LessOrEqual d = first d d (sign sign.LessOrEqual) [] refl (passes_none d)
+operator_stays operator.Greater d = first d d (sign sign.Greater) [] refl (passes_none d)
+operator_stays operator.GreaterOrEqual d =
+    first d d (sign sign.GreaterOrEqual) [] refl (passes_none d)
+operator_stays operator.Add d = first d d (sign sign.Plus) [] refl (passes_none d)
+operator_stays operator.Sub d = first d d (sign sign.Minus) [] refl (passes_none d)
+operator_stays operator.Mul d = first d d (sign sign.Times) [] refl (passes_none d)
+operator_stays operator.Div d = first d d (sign sign.Divide) [] refl (passes_none d)
+
+type_first : (d e : ℕ) (w : List ℕ) (n : Bool) (ts : List Token) → Passes d e ts
+    → Passes d e (type_token w n ∷ ts)
+type_first d e w true ts p = first d e (nullable w) ts refl p
+type_first d e w false ts p = first d e (name w) ts refl p
+
+null_stays : (n : Bool) → Stays (null_test n)
+null_stays true d =
+    first d d (sign sign.Is) (sign sign.Not ∷ sign sign.Null ∷ []) refl
+    (first d d (sign sign.Not) (sign sign.Null ∷ []) refl
+    (first d d (sign sign.Null) [] refl (passes_none d)))
+null_stays false d =
+    first d d (sign sign.Is) (sign sign.Null ∷ []) refl
+    (first d d (sign sign.Null) [] refl (passes_none d))
+
+between_stays : (n : Bool) → Stays (with_not n sign.Between)
+between_stays true d =
+    first d d (sign sign.Not) (sign sign.Between ∷ []) refl
+    (first d d (sign sign.Between) [] refl (passes_none d))
+between_stays false d = first d d (sign sign.Between) [] refl (passes_none d)
+
+like_stays : (n i : Bool)
+    → Stays (like_sign (record { negated = n; case_insensitive = i }))
+like_stays true true d =
+    first d d (sign sign.Not) (sign sign.Ilike ∷ []) refl
+    (first d d (sign sign.Ilike) [] refl (passes_none d))
+like_stays true false d =
+    first d d (sign sign.Not) (sign sign.Like ∷ []) refl
+    (first d d (sign sign.Like) [] refl (passes_none d))
+like_stays false true d = first d d (sign sign.Ilike) [] refl (passes_none d)
+like_stays false false d = first d d (sign sign.Like) [] refl (passes_none d)
+
+escape_stays : (e : Option (List ℕ)) → Stays (escape_tokens e)
+escape_stays None d = passes_none d
+escape_stays (Some e) d =
+    first d d (sign sign.Escape) (text e ∷ []) refl
+    (first d d (text e) [] refl (passes_none d))
+
+inner : (d : ℕ) → (suc d == 0) ≡ false
+inner d = grind (arith, nat_tests)
+
+mutual
+  pub tree_stays : (t : Syntax) → Fits t → Stays (spelling t)
+  tree_stays (tree.operand t) f d = operand_stays t f d
+  tree_stays (tree.negative ds) f d =
+      first d d (sign sign.Minus) (number ds ∷ []) refl
+      (first d d (number ds) [] refl (passes_none d))
+  tree_stays (tree.typed a w n) f d =
+      both d d d (spelling a) (sign sign.Typed ∷ type_token w n ∷ []) (tree_stays a f.1 d)
+      (first d d (sign sign.Typed) (type_token w n ∷ []) refl
+      (type_first d d w n [] (passes_none d)))
+  tree_stays (tree.grouped a) f d =
+      first d d (sign sign.Open) (spelling a ++ (sign sign.Close ∷ [])) refl
+      (last (suc d) (suc d) (spelling a) (sign sign.Close) (tree_stays a f (suc d)) refl)
+  tree_stays (tree.negated a) f d =
+      first d d (sign sign.Not) (spelling a) refl (tree_stays a f.1 d)
+  tree_stays (tree.joined o a b) f d =
+      both d d d (spelling a) (sign (operator_sign o) ∷ spelling b) (tree_stays a f.2 d)
+      (both d d d (sign (operator_sign o) ∷ []) (spelling b) (operator_stays o d)
+      (tree_stays b f.3 d))
+  tree_stays (tree.tested n a) f d =
+      both d d d (spelling a) (null_test n) (tree_stays a f.1 d) (null_stays n d)
+  tree_stays (tree.between n a b c) f d =
+      both d d d (spelling a)
+      (with_not n sign.Between ++ (spelling b ++ (sign sign.And ∷ spelling c)))
+      (tree_stays a f.3 d)
+      (both d d d (with_not n sign.Between) (spelling b ++ (sign sign.And ∷ spelling c))
+      (between_stays n d)
+      (both d d d (spelling b) (sign sign.And ∷ spelling c) (tree_stays b f.4 d)
+      (first d d (sign sign.And) (spelling c) refl (tree_stays c f.5 d))))
+  tree_stays (tree.matched k a p e) f d =
+      both d d d (spelling a) (like_sign k ++ (spelling p ++ escape_tokens e)) (tree_stays a f.2 d)
+      (both d d d (like_sign k) (spelling p ++ escape_tokens e)
+      (like_stays k.negated k.case_insensitive d)
+      (both d d d (spelling p) (escape_tokens e) (tree_stays p f.3 d) (escape_stays e d)))
+  tree_stays (tree.cast a w n) f d =
+      let last : List Token = sign sign.As ∷ type_token w n ∷ sign sign.Close ∷ [] in
+      first d d (sign sign.Cast) (sign sign.Open ∷ (spelling a ++ last)) refl
+      (first d d (sign sign.Open) (spelling a ++ last) refl
+      (both (suc d) (suc d) d (spelling a) last (tree_stays a f (suc d))
+      (first (suc d) d (sign sign.As) (type_token w n ∷ sign sign.Close ∷ []) refl
+      (type_first (suc d) d w n (sign sign.Close ∷ [])
+      (first (suc d) d (sign sign.Close) [] refl (passes_none d))))))
+  tree_stays (tree.nullary w) f d =
+      first d d (function w) (sign sign.Close ∷ []) refl
+      (first (suc d) d (sign sign.Close) [] refl (passes_none d))
+  tree_stays (tree.applied w args a) f d =
+      first d d (function w) (all_spelled args ++ (spelling a ++ (sign sign.Close ∷ []))) refl
+      (both (suc d) (suc d) d (all_spelled args) (spelling a ++ (sign sign.Close ∷ []))
+      (all_stay args f.0 d)
+      (last (suc d) (suc d) (spelling a) (sign sign.Close) (tree_stays a f.1 (suc d)) refl))
+
+  all_stay : (args : Arguments) → AllFit args → (d : ℕ) → Passes (suc d) (suc d) (all_spelled args)
+  all_stay tree.no_arguments f d = passes_none (suc d)
+  all_stay (tree.argument args a) f d =
+      both (suc d) (suc d) (suc d) (all_spelled args) (spelling a ++ (sign sign.Comma ∷ []))
+      (all_stay args f.0 d)
+      (last (suc d) (suc d) (spelling a) (sign sign.Comma) (tree_stays a f.1 (suc d)) (inner d))
+
+-- an answer
+name_stays : (n : Token) → is_name n ≡ true → Stays (n ∷ [])
+name_stays (name w) h d = first d d (name w) [] refl (passes_none d)
+name_stays (quoted w) h d = first d d (quoted w) [] refl (passes_none d)
+name_stays n h d = absurd cc
+
+named_stays : (o : Option Token) → IfSome o (λ n. is_name n ≡ true) → Stays (name_tokens o)
+named_stays None h d = passes_none d
+named_stays (Some n) h d = first d d (sign sign.As) (n ∷ []) refl (name_stays n h d)
+
+stays_as : (ts us : List Token) → ts ≡ us → Stays us → Stays ts
+stays_as ts us e s d rest =
+    ap (λ vs. parts_from d (vs ++ rest)) e ∙ s d rest
+    ∙ ap (λ vs. onto_all vs (parts_from d rest)) (sym e)
+
+pub answer_stays : (ts : List Token) (a : Answer) → SpellsAnswer ts a → Stays ts
+answer_stays ts a s =
+    stays_as ts (spelling a.tree ++ name_tokens a.name) s.tokens
+    (λ d. both d d d (spelling a.tree) (name_tokens a.name) (tree_stays a.tree s.levels d)
+    (named_stays a.name s.named d))
+
+-- tokens up to the end of a list, and up to a comma outside of brackets
+ends_at : (d : ℕ) (ts : List Token) → Passes 0 d ts → answer_parts ts ≡ ts ∷ []
+ends_at d ts p =
+    ap (parts_from 0) (sym (append-nil ts)) ∙ p [] ∙ onto_part ts [] []
+    ∙ ap (λ us. us ∷ []) (append-nil ts)
+
+cut_at : (d : ℕ) (ts : List Token) (t : Token) (us : List Token) → Passes 0 d ts
+    → ends_answer d t ≡ true → answer_parts (ts ++ (t ∷ us)) ≡ ts ∷ answer_parts us
+cut_at d ts t us p h =
+    let none : d ≡ 0 = eqb-true d 0 (and_parts (is_comma t) (d == 0) h).1 in
+    let cut : parts_from d (t ∷ us) ≡ [] ∷ parts_from d us = rw h refl in
+    p (t ∷ us) ∙ ap (onto_all ts) (cut ∙ ap (λ n. [] ∷ parts_from n us) none)
+    ∙ onto_part ts [] (answer_parts us) ∙ ap (λ vs. vs ∷ answer_parts us) (append-nil ts)
+
+pub whole_part : (ts : List Token) → Stays ts → answer_parts ts ≡ ts ∷ []
+whole_part ts s = ends_at 0 ts (s 0)
+
+pub part_before : (ts us : List Token) → Stays ts
+    → answer_parts (ts ++ (sign sign.Comma ∷ us)) ≡ ts ∷ answer_parts us
+part_before ts us s = cut_at 0 ts (sign sign.Comma) us (s 0) refl
+
+deeper : (d : ℕ) (t : Token) → depth_behind d t ≤ suc d
+deeper d (function w) = omega arith
+deeper d (sign sign.Open) = omega arith
+deeper zero (sign sign.Close) = omega arith
+deeper (suc d) (sign sign.Close) = omega arith
+deeper d t = omega arith
+
+pub deeper_by : (d n : ℕ) (t : Token) → n ≡ depth_behind d t → n ≤ suc d
+deeper_by d n t e = subst (λ m. m ≤ suc d) (sym e) (deeper d t)
+
+-- the same by the code's tokens, with the brackets that are open after the first ones
+module _ {A : Type 0} (f : A → Token) (xs : List A) (n d : ℕ) where
+  pub passes_more : (x : A) → n < length xs → Passes 0 d (map f (take n xs))
+      → ends_answer d (f (get_or xs n x)) ≡ false
+      → Passes 0 (depth_behind d (f (get_or xs n x))) (map f (take (n + 1) xs))
+  passes_more x lt p h rest =
+      ap (λ ts. parts_from 0 (ts ++ rest)) (map_more f xs n x lt)
+      ∙ last 0 d (map f (take n xs)) (f (get_or xs n x)) p h rest
+      ∙ ap (λ ts. onto_all ts (parts_from (depth_behind d (f (get_or xs n x))) rest))
+      (sym (map_more f xs n x lt))
+
+  pub first_at : (x : A) → n < length xs → Passes 0 d (map f (take n xs))
+      → ends_answer d (f (get_or xs n x)) ≡ true
+      → answer_parts (map f xs)
+      ≡ map f (take n xs) ∷ answer_parts (map f (drop (n + 1) xs))
+  first_at x lt p h =
+      ap (λ ys. answer_parts (map f ys))
+      (sym (take-append-drop n xs) ∙ ap (λ ys. take n xs ++ ys) (drop_more xs n x lt))
+      ∙ ap answer_parts (map-append f (take n xs) (get_or xs n x ∷ drop (n + 1) xs))
+      ∙ cut_at d (map f (take n xs)) (f (get_or xs n x)) (map f (drop (n + 1) xs)) p h
+
+  pub none_at : length xs ≤ n → Passes 0 d (map f (take n xs))
+      → answer_parts (map f xs) ≡ map f xs ∷ []
+  none_at le p =
+      ap (λ ys. answer_parts (map f ys)) (sym (take_all n xs le))
+      ∙ ends_at d (map f (take n xs)) p
+      ∙ ap (λ ys. map f ys ∷ []) (take_all n xs le)
