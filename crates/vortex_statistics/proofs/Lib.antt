@@ -1,0 +1,4 @@
+pub mod ValueOrder
+pub mod AllNull
+pub mod JoinedRows
+pub mod JoinedParts

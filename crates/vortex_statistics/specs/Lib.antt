@@ -1,0 +1,5 @@
+pub mod StatisticsView
+pub mod Describes
+pub mod Parts
+pub mod Joined
+pub mod Unknown
