@@ -33,7 +33,7 @@ each_null (v ∷ vs) e (suc k) d lt =
 none_there : (vs : List Value) → length vs ≡ 0 → AreNull vs
 none_there vs e = record { each = λ k d lt. absurd (omega (arith, e, lt)) }
 
-counted : (rows nulls : Option ℕ) (vs : List Value) → is_all_null rows nulls ≡ true
+pub counted : (rows nulls : Option ℕ) (vs : List Value) → is_all_null rows nulls ≡ true
     → IfSome rows (λ n. length vs ≡ n) → IfSome nulls (λ n. count_by is_null vs ≡ n) → AreNull vs
 counted (Some n) (Some k) vs h rows nulls =
     record {

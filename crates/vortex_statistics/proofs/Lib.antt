@@ -2,3 +2,7 @@ pub mod ValueOrder
 pub mod AllNull
 pub mod JoinedRows
 pub mod JoinedParts
+pub mod Widening
+pub mod Told
+pub mod Counting
+pub mod MeasuredRows

@@ -41,3 +41,11 @@ at_most_back v w h =
 
 pub at_most_greater : (v w : Value) → compare_values v w ≡ Greater → is_at_most w v ≡ true
 at_most_greater v w h = at_most_back v w (ap is_le h)
+
+above_of_gt : (o : Ordering) → is_gt o ≡ true → is_le o ≡ false
+above_of_gt Less h = cc
+above_of_gt Equal h = cc
+above_of_gt Greater h = refl
+
+pub at_most_above : (v w : Value) → is_gt (compare_values v w) ≡ true → is_at_most w v ≡ true
+at_most_above v w h = at_most_back v w (above_of_gt (compare_values v w) h)

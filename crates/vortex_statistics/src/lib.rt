@@ -3,6 +3,8 @@
 
 mod checks;
 pub mod end;
+mod extremes;
+mod kinds;
 pub mod parts;
 pub mod statistics;
 

@@ -6,6 +6,7 @@ ghost use Rattle.vortex_statistics.specs.Parts.{end_view, parts_view};
 ghost use Rattle.vortex_statistics.specs.Unknown.{unknown, DescribesAny};
 
 mod joined;
+mod measured;
 
 use crate::checks::are_consistent;
 use crate::end::End;
