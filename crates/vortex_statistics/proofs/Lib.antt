@@ -3,6 +3,6 @@ pub mod AllNull
 pub mod JoinedRows
 pub mod JoinedParts
 pub mod Widening
-pub mod Told
+pub mod SameRows
 pub mod Counting
 pub mod MeasuredRows

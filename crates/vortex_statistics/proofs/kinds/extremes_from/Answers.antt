@@ -1,4 +1,4 @@
-use Rattle.vortex_statistics.proofs.Told.{same_rows, constant_rows}
+use Rattle.vortex_statistics.proofs.SameRows.{same_rows, constant_rows}
 use Rattle.vortex_statistics.proofs.kinds.extremes_from.Goals as goal
 
 pub returns-in-Some : goal.returns-in-Some
