@@ -15,9 +15,11 @@ fn measures_ints(
 ) -> VortexResult<bool> {
     let column = Column::of_ints(alloc, rows)?;
     let statistics = Statistics::of(&column, alloc)?;
-    Ok(has_counts(&statistics, rows.len() as u64, nulls)
-        && is_number(statistics.low(), i128::from(low), true)
-        && is_number(statistics.high(), i128::from(high), true))
+    Ok(
+        has_counts(&statistics, rows.len() as u64, nulls)
+            && is_number(statistics.low(), i128::from(low), true)
+            && is_number(statistics.high(), i128::from(high), true),
+    )
 }
 
 #[test]
@@ -36,9 +38,11 @@ fn measures_texts(alloc: Global) -> VortexResult<bool> {
     let rows = [None, Some(long), Some("pear"), Some("apple"), None];
     let column = Column::of_texts(alloc, &rows)?;
     let statistics = Statistics::of(&column, alloc)?;
-    Ok(has_counts(&statistics, 5, 2)
-        && is_text(statistics.low(), "apple", true)
-        && is_text(statistics.high(), long, true))
+    Ok(
+        has_counts(&statistics, 5, 2)
+            && is_text(statistics.low(), "apple", true)
+            && is_text(statistics.high(), long, true),
+    )
 }
 
 /// Whether the ends of truth values are these.
@@ -66,9 +70,7 @@ fn texts_and_truth_values_are_measured(rt: HostRuntime) {
 fn nulls_have_no_ends(alloc: Global) -> VortexResult<bool> {
     let column = Column::of_ints::<i32>(alloc, &[None, None])?;
     let statistics = Statistics::of(&column, alloc)?;
-    Ok(has_counts(&statistics, 2, 2)
-        && statistics.low().is_none()
-        && statistics.high().is_none())
+    Ok(has_counts(&statistics, 2, 2) && statistics.low().is_none() && statistics.high().is_none())
 }
 
 /// Whether a constant column has its value for both ends.
@@ -78,9 +80,11 @@ fn constants_are_measured(alloc: Global) -> VortexResult<bool> {
     let scalar = Scalar::try_new(dtype, Some(value))?;
     let column = Column::constant(alloc, scalar, 100)?;
     let statistics = Statistics::of(&column, alloc)?;
-    Ok(has_counts(&statistics, 100, 0)
-        && is_text(statistics.low(), "k1", true)
-        && is_text(statistics.high(), "k1", true))
+    Ok(
+        has_counts(&statistics, 100, 0)
+            && is_text(statistics.low(), "k1", true)
+            && is_text(statistics.high(), "k1", true),
+    )
 }
 
 #[test]

@@ -22,9 +22,11 @@ fn ends_are_chosen(alloc: Global) -> VortexResult<bool> {
     let left = ten(number(3, false), number(9, false))?;
     let right = ten(number(5, true), number(9, true))?;
     let both = left.joined(&right, alloc)?;
-    Ok(has_counts(&both, 20, 0)
-        && is_number(both.low(), 3, false)
-        && is_number(both.high(), 9, true))
+    Ok(
+        has_counts(&both, 20, 0)
+            && is_number(both.low(), 3, false)
+            && is_number(both.high(), 9, true),
+    )
 }
 
 /// Whether a column of nulls leaves the ends of the other, and an unknown one none.
@@ -34,11 +36,13 @@ fn sides_without_ends(alloc: Global) -> VortexResult<bool> {
     let both = nulls.joined(&known, alloc)?;
     let dtype = DType::Primitive(PType::I64, Nullability::Nullable);
     let unknown = Statistics::unknown(dtype).joined(&known, alloc)?;
-    Ok(has_counts(&both, 11, 1)
-        && is_number(both.low(), 3, true)
-        && is_number(both.high(), 9, true)
-        && unknown.rows().is_none()
-        && unknown.low().is_none())
+    Ok(
+        has_counts(&both, 11, 1)
+            && is_number(both.low(), 3, true)
+            && is_number(both.high(), 9, true)
+            && unknown.rows().is_none()
+            && unknown.low().is_none(),
+    )
 }
 
 /// Whether statistics of different types are refused.

@@ -46,10 +46,12 @@ fn keeps_cut_ends(alloc: Global) -> VortexResult<bool> {
         high: text(alloc, "k1a", false)?,
         skips_nan: true,
     })?;
-    Ok(statistics.rows().is_none()
-        && statistics.skips_nan()
-        && is_text(statistics.low(), "k00", false)
-        && is_text(statistics.high(), "k1a", false))
+    Ok(
+        statistics.rows().is_none()
+            && statistics.skips_nan()
+            && is_text(statistics.low(), "k00", false)
+            && is_text(statistics.high(), "k1a", false),
+    )
 }
 
 #[test]
