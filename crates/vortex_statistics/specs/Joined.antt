@@ -52,4 +52,5 @@ joined a b =
 
 -- s describes each column that a describes, followed by one that b describes
 abbrev pub DescribesBoth : StatisticsView → StatisticsView → StatisticsView → Type 0
-DescribesBoth a b s = (xs ys : List Value) → Describes a xs → Describes b ys → Describes s (xs ++ ys)
+DescribesBoth a b s =
+    (xs ys : List Value) → Describes a xs → Describes b ys → Describes s (xs ++ ys)

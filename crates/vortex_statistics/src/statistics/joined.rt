@@ -1,8 +1,8 @@
 //! Statistics of the rows of one column followed by those of another.
 ghost use Rattle.std.specs.Prelude.{◌≡◌, IfOk, option_map};
 ghost use Rattle.vortex_columns.specs.Words.{AnswersUnlessMemory, AnswersWhere, InvalidColumn};
-ghost use Rattle.vortex_statistics.specs.Joined.{sum_of, lower_end, higher_end, joined_end, lower_by};
-ghost use Rattle.vortex_statistics.specs.Joined.{joined};
+ghost use Rattle.vortex_statistics.specs.Joined.{sum_of, lower_by, lower_end, higher_end};
+ghost use Rattle.vortex_statistics.specs.Joined.{joined_end, joined};
 ghost use Rattle.vortex_statistics.specs.Joined.{DescribesBoth};
 ghost use Rattle.vortex_statistics.specs.Parts.{end_view, parts_view};
 
