@@ -1,0 +1,4 @@
+mod FloatEquality
+mod FloatKeyOrder
+mod FloatPatterns
+mod FloatValueOrder
