@@ -2,3 +2,4 @@ mod FloatEquality
 mod FloatKeyOrder
 mod FloatPatterns
 mod FloatValueOrder
+mod KindNames

@@ -5,8 +5,9 @@ ghost use Rattle.std.specs.Float.{binary32, binary64};
 ghost use Rattle.vortex_logical.specs.FloatKeys.{key_of_float, float_of_key, KeysAreOrdered};
 ghost use Rattle.vortex_logical.specs.FloatKeys.{KeysAreReadBack};
 
-use std::num::{f32_from_bits_with_nan, f32_to_bits_with_nan};
-use std::num::{f64_from_bits_with_nan, f64_to_bits_with_nan};
+use std::num::{
+    f32_from_bits_with_nan, f32_to_bits_with_nan, f64_from_bits_with_nan, f64_to_bits_with_nan,
+};
 
 /// The integer that stands for a float.
 pub fn key_of_f64(float: f64) -> i64
