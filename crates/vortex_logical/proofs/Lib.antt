@@ -1,3 +1,7 @@
+mod DecimalLaws
+mod DecimalReadBack
+mod DecimalReading
+mod DecimalWriting
 mod FloatEquality
 mod FloatKeyOrder
 mod FloatPatterns

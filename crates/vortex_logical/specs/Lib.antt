@@ -1,3 +1,5 @@
 pub mod Digits
 pub mod Kinds
 pub mod FloatKeys
+pub mod Decimals
+pub mod DecimalTexts
