@@ -1,3 +1,4 @@
+mod DateLemmas
 mod DecimalLaws
 mod DecimalReadBack
 mod DecimalReading
@@ -6,4 +7,5 @@ mod FloatEquality
 mod FloatKeyOrder
 mod FloatPatterns
 mod FloatValueOrder
+mod FractionLemmas
 mod KindNames

@@ -24,7 +24,7 @@ fn power(k: u32) -> i64
 
 /// The same without a sign.
 #[tactic(auto, using(crate::proofs::DecimalLaws::ten_between))]
-fn power_u64(k: u32) -> u64
+pub(crate) fn power_u64(k: u32) -> u64
     requires { k ≤ 18 }
     ensures value { result ≡ 10 ^ k }
     ensures range { IsInRange 1 1000000000000000000 result }
@@ -174,7 +174,7 @@ fn write_magnitude(scale: u32, number: u64, out: &mut Vec<u8>) -> Result<(), All
 }
 
 /// Appends a number below 10 to the power `scale` as so many digits.
-fn write_fraction(scale: u32, number: u64, out: &mut Vec<u8>) -> Result<(), AllocError>
+pub(crate) fn write_fraction(scale: u32, number: u64, out: &mut Vec<u8>) -> Result<(), AllocError>
     requires few { scale ≤ 18 }
     requires small { number < 10 ^ scale }
     ensures { IfOk result (λ _. out.new.items ≡ out.old.items ++ last_digits scale number) }

@@ -1,7 +1,9 @@
-//! Logical types over stored columns: dates, timestamps, decimals and floats as integers.
+//! Dates, timestamps, decimals and floats: logical types over columns of integers.
 #![tactic(auto)]
 
+pub mod dates;
 pub mod decimals;
 pub mod digits;
 pub mod keys;
 pub mod kind;
+pub mod timestamps;
