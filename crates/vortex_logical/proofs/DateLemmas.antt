@@ -1,13 +1,16 @@
 -- Days of the calendar by the tests of their parts, and their texts read back.
-use Rattle.std.proofs.Common.{◌≡◌, ◌∙◌, ℕ, ℤ, pos, negsuc, ◌+◌, ◌-◌, ◌*◌, ◌/◌, ◌%◌, ◌<◌, ◌≤◌, Bool, true, false, List, [], ◌∷◌}
+use Rattle.std.proofs.Common.{◌≡◌, ◌∙◌, ℕ, ℤ, pos, negsuc, zero, suc, ◌+◌, ◌-◌, ◌*◌, ◌/◌, ◌%◌, ◌<◌, ◌≤◌, Bool, true, false, List, [], ◌∷◌}
 use Rattle.std.proofs.Common.{Option, Some, None, arith, ap, sym, subst, refl}
 use Rattle.std.specs.Prelude.{if◌then◌else◌, ◌&&◌, nat_le, neg_ℤ, ◌≤ℤ◌}
 use Rattle.std.specs.Char.{is_ascii_digit}
 use Rattle.jiff_core.specs.declared.civil.date.Date.{Date}
-use Rattle.jiff_core.specs.Calendar.{days_from_civil, days_in_month, IsCivilDate, IsEpochDay}
+use Rattle.jiff_core.specs.Calendar.{days_from_civil, days_in_month, day_count, IsCivilDate, IsEpochDay}
 use Rattle.jiff_core.specs.Date.{epoch_day}
 use Rattle.jiff_core.proofs.SignedLemmas.{signed_arith}
-use Rattle.jiff_core.proofs.CalendarLemmas.{days_in_month_bounds}
+use Rattle.jiff_core.proofs.CalendarLemmas.{days_in_month_bounds, days_from_civil-day_count, day_count-later_year}
+use Rattle.jiff_core.proofs.CalendarLemmas.{day_count-day_of_year}
+use Rattle.jiff_core.proofs.MarchLemmas.{day_count-early}
+use borrow.Author.Differences.{up, down}
 use Rattle.jiff_core.proofs.DateLemmas.{epoch_day_range, epoch_day_injective}
 use Rattle.vortex_logical.specs.DateTexts.{is_civil, two_digits, day_number, date_text, date_of_text}
 use Rattle.vortex_logical.specs.DateTexts.{IsDay, IsDated, IsDateText, DatesAreReadBack}
@@ -48,7 +51,7 @@ digits_back n h =
 year_parts : (y : ℕ) → y / 100 * 100 + y % 100 ≡ y
 year_parts y = omega arith
 
-day_back : (z : ℤ) (y m d : ℕ) → IsDay z y m d → date_of_text (date_text y m d) ≡ Some z
+pub day_back : (z : ℤ) (y m d : ℕ) → IsDay z y m d → date_of_text (date_text y m d) ≡ Some z
 day_back z y m d h =
     let c = h.calendar in
     let years : y ≤ 9999 = omega (arith, signed_arith, c.0.1) in
@@ -61,3 +64,23 @@ day_back z y m d h =
 
 pub dates_are_read_back : DatesAreReadBack
 dates_are_read_back z text h = ap date_of_text h.4 ∙ day_back z h.0 h.1 h.2 h.3
+
+-- ---- the first day and the last one
+
+first_count : day_count (pos 0) 1 1 ≡ 3652425
+first_count = day_count-early (pos 0) 9999 1 1 refl (omega arith) (omega arith) (omega arith)
+
+year_count : (y : ℕ) → 3652425 ≤ day_count (pos y) 1 1
+year_count zero = omega (arith, first_count)
+year_count (suc y) =
+    omega (arith, first_count, day_count-later_year (pos 0) (pos (suc y)) (omega (arith, signed_arith)) (omega (arith, signed_arith)))
+
+pub dated_between : (z : ℤ) → IsDated z → (neg_ℤ (pos 719528) ≤ℤ z) × (z ≤ℤ pos 2932896)
+dated_between z h =
+    let day = h.3 in
+    let from : up z + 4371953 ≡ down z + day_count (pos h.0) h.1 h.2 =
+    subst (λ n. up n + 4371953 ≡ down n + day_count (pos h.0) h.1 h.2) day.number (days_from_civil-day_count (pos h.0) h.1 h.2) in
+    let within = dated_in_range z h in
+    let first : day_count (pos h.0) 1 1 ≤ day_count (pos h.0) h.1 h.2 =
+    omega (arith, day_count-day_of_year (pos h.0) h.1 h.2 day.calendar.2.0, day.calendar.2.0) in
+    (omega (arith, signed_arith, from, first, year_count h.0), omega (arith, signed_arith, within.1))

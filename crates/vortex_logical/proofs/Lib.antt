@@ -9,3 +9,4 @@ mod FloatPatterns
 mod FloatValueOrder
 mod FractionLemmas
 mod KindNames
+mod TimestampLemmas
