@@ -156,7 +156,7 @@ same fmt x y s n m p q e nx =
 
 -- ---- the integers
 
-abbrev keyed : Bool → ℕ → ℤ
+abbrev pub keyed : Bool → ℕ → ℤ
 keyed s n = cond s (neg_ℤ (pos n)) (pos n)
 
 less : (u v : ℤ) → u <ℤ v → int_cmp u v ≡ Less
@@ -270,7 +270,7 @@ key_is fmt b h = by (leb (sign_weight fmt) b) refl
     by true e = ap (λ n. neg_ℤ (pos n)) (size_is fmt b h e)
     by false e = ap (λ n. pos n) (unsigned_is fmt b e)
 
-key_of : (fmt : Format) (x : Float) → T (fits fmt x)
+pub key_of : (fmt : Format) (x : Float) → T (fits fmt x)
     → key_of_float fmt x ≡ keyed (leb (sign_weight fmt) (bits_of fmt x)) (bits_of fmt x % sign_weight fmt)
 key_of fmt x f = key_is fmt (bits_of fmt x) (bits_lt fmt x f)
 

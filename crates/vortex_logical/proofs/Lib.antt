@@ -1,3 +1,4 @@
+mod CellLemmas
 mod DateLemmas
 mod DecimalLaws
 mod DecimalReadBack

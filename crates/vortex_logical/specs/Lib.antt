@@ -6,3 +6,4 @@ pub mod DecimalTexts
 pub mod Written
 pub mod DateTexts
 pub mod TimestampTexts
+pub mod Cells

@@ -72,7 +72,7 @@ pub(crate) fn push_padded(number: u8, out: &mut Vec<u8>) -> Result<(), AllocErro
     Ok(())
 }
 
-fn widened(day: i32) -> i64
+pub(crate) fn widened(day: i32) -> i64
     ensures { result ≡ day }
 {
     day as i64

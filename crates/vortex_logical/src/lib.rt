@@ -1,6 +1,7 @@
 //! Dates, timestamps, decimals and floats: logical types over columns of integers.
 #![tactic(auto)]
 
+pub mod cells;
 pub mod dates;
 pub mod decimals;
 pub mod digits;
