@@ -33,14 +33,14 @@ key_fits z h =
     subst (FitsSigned w32) (sym (h.2 ∙ key_of binary32 h.0 h.1))
     (keyed_fits _ (to_bits binary32 h.0 % sign_weight binary32) (omega arith))
 
-equal_is : (u v : ℤ) → int_cmp u v ≡ Equal → u ≡ v
+pub equal_is : (u v : ℤ) → int_cmp u v ≡ Equal → u ≡ v
 equal_is u v e = grind (arith, ints, e)
 
-float_fits : (f : Format) (z : ℤ) → T (fits f (float_of_key f z))
+pub float_fits : (f : Format) (z : ℤ) → T (fits f (float_of_key f z))
 float_fits f (pos n) = of_bits-fits f n
 float_fits f (negsuc n) = of_bits-fits f _
 
-key_back : (f : Format) (z : ℤ) → IsKey f z → key_of_float f (float_of_key f z) ≡ z
+pub key_back : (f : Format) (z : ℤ) → IsKey f z → key_of_float f (float_of_key f z) ≡ z
 key_back f z h =
     let x = h.0 in
     let y = float_of_key f (key_of_float f x) in

@@ -15,7 +15,7 @@ pub ten_pos : (k : ℕ) → 0 < 10 ^ k
 ten_pos zero = omega arith
 ten_pos (suc k) = omega (arith, ten_pos k, pow-add 10 k 1)
 
-ten_more : (k j : ℕ) → 10 ^ k ≤ 10 ^ (k + j)
+pub ten_more : (k j : ℕ) → 10 ^ k ≤ 10 ^ (k + j)
 ten_more k j = omega (arith, pow-add 10 k j, mul-le-mul (le_refl (10 ^ k)) (ten_pos j))
 
 ten_bound : (k : ℕ) → k ≤ 18 → 10 ^ k ≤ 1000000000000000000

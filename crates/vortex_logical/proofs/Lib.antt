@@ -10,4 +10,5 @@ mod FloatPatterns
 mod FloatValueOrder
 mod FractionLemmas
 mod KindNames
+mod MeetingLemmas
 mod TimestampLemmas

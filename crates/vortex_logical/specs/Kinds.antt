@@ -11,7 +11,7 @@ use Rattle.vortex_types.specs.declared.dtype.PType.TheVariants.{I32, I64}
 use Rattle.vortex_logical.specs.declared.kind.Kind.{Kind}
 use Rattle.vortex_logical.specs.declared.kind.Kind.TheVariants.{Plain, Date, Timestamp, Decimal}
 use Rattle.vortex_logical.specs.declared.kind.Kind.TheVariants.{F64, F32}
-use Rattle.vortex_logical.specs.Digits.{AreDigits, digits_of}
+use Rattle.vortex_logical.specs.Digits.{Digits, AreDigits, digits_of}
 
 -- the integer type of a kind's stored values; a plain column has a type of its own
 abbrev pub stored_ptype : Kind → Option PType
@@ -25,6 +25,10 @@ stored_ptype F32 = Some I32
 -- that type, with null or without
 abbrev pub stored_type : Kind → Bool → Option LogicalType
 stored_type k n = option_map (λ p. integer_type p n) (stored_ptype k)
+
+abbrev pub decimal_digits : Kind → Option Digits
+decimal_digits (Decimal d) = Some d
+decimal_digits k = None
 
 abbrev pub kind_name : Kind → List ℕ
 kind_name Plain = codes "plain"

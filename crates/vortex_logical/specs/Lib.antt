@@ -7,3 +7,6 @@ pub mod Written
 pub mod DateTexts
 pub mod TimestampTexts
 pub mod Cells
+pub mod CommonKinds
+pub mod MeetingLaws
+pub mod StandsFor

@@ -15,7 +15,7 @@ use crate::kind::Kind;
 use crate::timestamps::{read_timestamp, write_timestamp};
 use std::alloc::AllocError;
 
-fn read_f64(text: &[u8]) -> Option<i64>
+pub(crate) fn read_f64(text: &[u8]) -> Option<i64>
     ensures { result ≡ key_of_text binary64 text.now }
 {
     match fast_float::parse::<f64, &[u8]>(text) {
@@ -74,11 +74,7 @@ fn write_day(number: i64, out: &mut Vec<u8>) -> Result<bool, AllocError>
     }
 }
 
-fn write_digits(
-    digits: DecimalDigits,
-    number: i64,
-    out: &mut Vec<u8>,
-) -> Result<bool, AllocError>
+fn write_digits(digits: DecimalDigits, number: i64, out: &mut Vec<u8>) -> Result<bool, AllocError>
     ensures { IfOk result (λ written. MatchBool written
         (Appends (IsCellText (Kind.Decimal digits) number) out.old.items out.new.items)
         (¬ (IsStored (Kind.Decimal digits) number) × (out.new.items ≡ out.old.items))) }

@@ -27,7 +27,7 @@ pub enum Kind {
 impl Kind {
     ghost use Rattle.std.specs.Option.{option_map};
     ghost use Rattle.vortex_types.specs.TypeOf.{allows_null, type_of};
-    ghost use Rattle.vortex_logical.specs.Kinds.{stored_ptype, stored_type};
+    ghost use Rattle.vortex_logical.specs.Kinds.{stored_ptype, stored_type, decimal_digits};
 
     /// The integer type of the stored values; none of a plain column, which has a type of its own.
     pub fn stored_ptype(&self) -> Option<PType>
@@ -37,6 +37,16 @@ impl Kind {
             Kind::Plain => None,
             Kind::Date | Kind::F32 => Some(PType::I32),
             Kind::Timestamp | Kind::Decimal(_) | Kind::F64 => Some(PType::I64),
+        }
+    }
+
+    /// The digits of a decimal.
+    pub fn decimal_digits(&self) -> Option<DecimalDigits>
+        ensures { result ≡ decimal_digits self.now }
+    {
+        match self {
+            Kind::Decimal(digits) => Some(*digits),
+            _ => None,
         }
     }
 

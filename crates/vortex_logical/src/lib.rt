@@ -2,9 +2,12 @@
 #![tactic(auto)]
 
 pub mod cells;
+pub mod common;
+pub mod conversions;
 pub mod dates;
 pub mod decimals;
 pub mod digits;
 pub mod keys;
 pub mod kind;
+pub mod operand;
 pub mod timestamps;

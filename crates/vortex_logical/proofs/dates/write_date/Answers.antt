@@ -17,7 +17,9 @@ returns-in_default c =
 
 pub returns-in_default-2 : goal.returns-in_default-2
 returns-in_default-2 c =
-    let same = wide_back c.widened.result c.args.day c.ranges.day c.widened.ensures in
-    (λ h.
-    let e : false ≡ true = c.in_default.ensures.succeeds.1 (subst IsEpochDay (sym same) (dated_in_range c.args.day h)) in
-    absurd cc, refl)
+    let same = wide_back c.widened.result c.args.day c.ranges.day c.widened.ensures in (
+      λ h.
+          let e : false ≡ true = c.in_default.ensures.succeeds.1 (subst IsEpochDay (sym same) (dated_in_range c.args.day h)) in
+          absurd cc,
+      refl,
+    )

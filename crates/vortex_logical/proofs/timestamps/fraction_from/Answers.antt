@@ -16,5 +16,5 @@ loop-i-preserved c =
       places = omega arith;
       few = number_small (c.loop-i.left - 1) _ less;
       small = less;
-      same = grind (arith, common_steps)
+      same = grind (arith, common_steps);
     }
