@@ -22,7 +22,7 @@ civil_is y m d a b c e = grind (arith, a, b, c, e)
 
 -- ---- days with a text
 
-abbrev date_of : (y m d : ℕ) → IsCivilDate (pos y) m d → Date
+abbrev pub date_of : (y m d : ℕ) → IsCivilDate (pos y) m d → Date
 date_of y m d h = record { year = pos y; month = m; day = d; year_in = h.0; month_in = h.1; day_in = h.2 }
 
 pub dated_in_range : (z : ℤ) → IsDated z → IsEpochDay z

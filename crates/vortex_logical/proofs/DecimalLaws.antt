@@ -68,7 +68,7 @@ greater x y h u v k = grind (arith, ints)
 level : (x y u v : ℤ) → x ≡ y → u ≡ v → int_cmp u v ≡ int_cmp x y
 level x y u v h k = grind (arith, ints)
 
-scaled_cmp : (x y : ℤ) (p : ℕ) → 0 < p → int_cmp (x *ℤ pos p) (y *ℤ pos p) ≡ int_cmp x y
+pub scaled_cmp : (x y : ℤ) (p : ℕ) → 0 < p → int_cmp (x *ℤ pos p) (y *ℤ pos p) ≡ int_cmp x y
 scaled_cmp x y p P = by (cases x y)
   where
     by : (x <ℤ y) ⊎ ((x ≡ y) ⊎ (y <ℤ x)) → int_cmp (x *ℤ pos p) (y *ℤ pos p) ≡ int_cmp x y

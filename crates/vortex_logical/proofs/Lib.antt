@@ -11,4 +11,5 @@ mod FloatValueOrder
 mod FractionLemmas
 mod KindNames
 mod MeetingLemmas
+mod StoredOrder
 mod TimestampLemmas

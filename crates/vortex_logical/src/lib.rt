@@ -9,5 +9,6 @@ pub mod decimals;
 pub mod digits;
 pub mod keys;
 pub mod kind;
+pub mod laws;
 pub mod operand;
 pub mod timestamps;
