@@ -1,11 +1,10 @@
 -- What is written of a stored value is read back.
-use Rattle.std.proofs.Common.{◌≡◌, ◌∙◌, ℕ, ℤ, pos, negsuc, ◌%◌, ◌<◌, Bool, true, false, cond, T, arith, ap, sym, subst, FitsSigned, w32, List, Some}
-use Rattle.std.specs.Prelude.{neg_ℤ}
+use Rattle.std.proofs.Common.{◌≡◌, ◌∙◌, ℕ, ℤ, pos, negsuc, ◌%◌, ◌<◌, Bool, true, false, T, arith, ap, sym, subst, FitsSigned, w32, List, Some}
 use Rattle.std.specs.Option.{option_map}
 use Rattle.std.specs.Ordering.{int_cmp}
 use Rattle.std.specs.declared.cmp.Ordering.TheVariants.{Equal}
 use Rattle.std.proofs.lemmas.Int.{ints}
-use lib.Ieee.{Float, Format, binary32, binary64, fits, to_bits}
+use lib.Ieee.{Format, binary32, binary64, fits, to_bits}
 use lib.Ieee.Bits.{of_bits-fits}
 use Rattle.jiff_core.proofs.SignedLemmas.{signed_arith, fits_between}
 use Rattle.fast_float.specs.Parse.{parse_float}

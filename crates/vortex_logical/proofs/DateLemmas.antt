@@ -1,7 +1,7 @@
 -- Days of the calendar by the tests of their parts, and their texts read back.
-use Rattle.std.proofs.Common.{◌≡◌, ◌∙◌, ℕ, ℤ, pos, negsuc, zero, suc, ◌+◌, ◌-◌, ◌*◌, ◌/◌, ◌%◌, ◌<◌, ◌≤◌, Bool, true, false, List, [], ◌∷◌}
-use Rattle.std.proofs.Common.{Option, Some, None, arith, ap, sym, subst, refl}
-use Rattle.std.specs.Prelude.{if◌then◌else◌, ◌&&◌, nat_le, neg_ℤ, ◌≤ℤ◌}
+use Rattle.std.proofs.Common.{◌≡◌, ◌∙◌, ℕ, ℤ, pos, zero, suc, ◌+◌, ◌-◌, ◌*◌, ◌/◌, ◌%◌, ◌<◌, ◌≤◌, true}
+use Rattle.std.proofs.Common.{Some, None, arith, ap, sym, subst, refl}
+use Rattle.std.specs.Prelude.{if◌then◌else◌, ◌&&◌, neg_ℤ, ◌≤ℤ◌}
 use Rattle.std.specs.Char.{is_ascii_digit}
 use Rattle.jiff_core.specs.declared.civil.date.Date.{Date}
 use Rattle.jiff_core.specs.Calendar.{days_from_civil, days_in_month, day_count, IsCivilDate, IsEpochDay}
@@ -13,7 +13,7 @@ use Rattle.jiff_core.proofs.MarchLemmas.{day_count-early}
 use borrow.Author.Differences.{up, down}
 use Rattle.jiff_core.proofs.DateLemmas.{epoch_day_range, epoch_day_injective}
 use Rattle.vortex_logical.specs.DateTexts.{is_civil, two_digits, day_number, date_text, date_of_text}
-use Rattle.vortex_logical.specs.DateTexts.{IsDay, IsDated, IsDateText, DatesAreReadBack}
+use Rattle.vortex_logical.specs.DateTexts.{IsDay, IsDated, DatesAreReadBack}
 
 -- ---- whether the calendar has a day
 

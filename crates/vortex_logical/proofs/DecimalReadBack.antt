@@ -1,6 +1,6 @@
 -- What is written of a decimal is read back.
-use Rattle.std.proofs.Common.{◌≡◌, ℕ, ℤ, pos, negsuc, zero, suc, ◌+◌, ◌-◌, ◌*◌, ◌/◌, ◌%◌, ◌^◌, ◌<◌, ◌≤◌, true, false}
-use Rattle.std.proofs.Common.{List, [], ◌∷◌, ◌++◌, Option, Some, None, sym, ap, ◌∙◌, arith, subst, refl}
+use Rattle.std.proofs.Common.{◌≡◌, ℕ, pos, negsuc, zero, suc, ◌+◌, ◌-◌, ◌*◌, ◌/◌, ◌%◌, ◌^◌, ◌<◌, ◌≤◌, true, false}
+use Rattle.std.proofs.Common.{List, [], ◌∷◌, ◌++◌, Some, None, sym, ap, ◌∙◌, arith, subst, refl}
 use Rattle.std.proofs.Common.{append_assoc, append-nil}
 use Rattle.std.specs.Prelude.{if◌then◌else◌, ◌==◌, neg_ℤ, nat_lt, codes}
 use Rattle.std.specs.Char.{is_ascii_digit}
@@ -10,7 +10,6 @@ use Rattle.std.specs.Str.{bytes_eq}
 use Rattle.std.proofs.lemmas.Fmt.{decimal_by_steps}
 use Rattle.std.proofs.Math.Nat.{div-div-eq-div-mul, div-le_self, lt_of_le_of_lt}
 use Rattle.vortex_logical.specs.Digits.{Digits, AreDigits}
-use Rattle.vortex_logical.specs.Decimals.{HasDigits}
 use Rattle.vortex_logical.specs.DecimalTexts.{value_from, last_digits, below_limit, magnitude_of_text}
 use Rattle.vortex_logical.specs.DecimalTexts.{magnitude_text, decimal_of_text, DecimalsAreReadBack}
 use Rattle.vortex_logical.proofs.DecimalLaws.{ten_between}

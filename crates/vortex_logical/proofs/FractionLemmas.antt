@@ -1,5 +1,5 @@
 -- A digit more, and a place less.
-use Rattle.std.proofs.Common.{◌≡◌, ℕ, zero, suc, ◌+◌, ◌-◌, ◌*◌, ◌^◌, ◌≤◌, ◌<◌, arith, ap}
+use Rattle.std.proofs.Common.{◌≡◌, ℕ, zero, suc, ◌+◌, ◌-◌, ◌*◌, ◌^◌, ◌≤◌, arith, ap}
 use Rattle.std.proofs.Math.Nat.{mul-le-mul, le_refl}
 use Rattle.vortex_logical.proofs.DecimalLaws.{ten_pos}
 use Rattle.vortex_logical.proofs.DecimalWriting.{ten_times}

@@ -1,13 +1,13 @@
 -- The name of a kind is read back as the kind.
-use Rattle.std.proofs.Common.{◌≡◌, ◌⊎◌, inl, inr, ℕ, ◌+◌, ◌-◌, ◌<◌, ◌≤◌, ◌^◌, ◌/◌, ◌%◌, true, refl, sym, ap, ◌∙◌, arith}
-use Rattle.std.proofs.Common.{List, [], ◌∷◌, ◌++◌, Some, subst}
+use Rattle.std.proofs.Common.{◌≡◌, ◌⊎◌, inl, inr, ℕ, ◌+◌, ◌-◌, ◌<◌, ◌≤◌, ◌/◌, ◌%◌, true, refl, ap, ◌∙◌, arith}
+use Rattle.std.proofs.Common.{List, [], ◌∷◌, ◌++◌, Some}
 use Rattle.std.specs.Prelude.{codes, nat_le, if◌then◌else◌, None, ◌&&◌}
 use Rattle.std.specs.Char.{is_ascii_digit}
 use Rattle.std.specs.Fmt.{decimal}
 use Rattle.std.specs.Option.{option_map}
 use Rattle.std.proofs.lemmas.Fmt.{decimal_digit, decimal_step}
 use Rattle.vortex_logical.specs.declared.kind.Kind.TheVariants.{Plain, Date, Timestamp, Decimal, F64, F32}
-use Rattle.vortex_logical.specs.Digits.{Digits, AreDigits, digits_of}
+use Rattle.vortex_logical.specs.Digits.{AreDigits, digits_of}
 use Rattle.vortex_logical.specs.Kinds.{kind_named, decimal_kind, decimal_of, digit_of, teen_of, NamesAreReadBack}
 
 is_digit : (n : ℕ) → n < 10 → is_ascii_digit (48 + n) ≡ true

@@ -1,18 +1,16 @@
 -- Values that are converted to the kind in which they meet are in the order of the values.
-use Rattle.std.proofs.Common.{◌≡◌, ◌∙◌, ℕ, ℤ, ◌+◌, ◌-◌, ◌*◌, ◌^◌, ◌<◌, ◌≤◌, Bool, true, false, Some, None, arith, ap, sym, subst, refl, pos, T}
-use Rattle.std.specs.Prelude.{if◌then◌else◌, nat_lt, unsigned_abs, min, max, ◌*ℤ◌, not}
+use Rattle.std.proofs.Common.{◌≡◌, ◌∙◌, ℕ, ℤ, ◌+◌, ◌-◌, ◌^◌, ◌<◌, ◌≤◌, Bool, true, false, Some, None, arith, ap, sym, subst, pos}
+use Rattle.std.specs.Prelude.{if◌then◌else◌, nat_lt, unsigned_abs, min, max}
 use Rattle.std.specs.Ordering.{int_cmp}
 use Rattle.std.proofs.Math.Nat.{mul-lt-mul_of_pos_right, lt_of_lt_of_le}
 use lib.Pow.{pow-add}
-use lib.Ieee.{Float, nan, inf, fin, binary32, binary64, fits, is_nan, eq, of_bits}
+use lib.Ieee.{binary32, binary64}
 use lib.Ieee.Fits.{fits_widens}
 use Rattle.jiff_core.proofs.SignedLemmas.{unsigned_abs-product}
-use Rattle.vortex_logical.specs.Digits.{Digits, AreDigits}
-use Rattle.vortex_logical.specs.Decimals.{decimal_cmp, shifted, HasDigits, within_digits, rescaled}
+use Rattle.vortex_logical.specs.Decimals.{shifted, HasDigits, within_digits}
 use Rattle.vortex_logical.specs.CommonKinds.{common_digits}
-use Rattle.vortex_logical.specs.FloatKeys.{key_of_float, float_of_key}
-use Rattle.vortex_logical.specs.Cells.{IsKey}
-use Rattle.vortex_logical.specs.MeetingLaws.{CommonDigitsOrder, CommonDigitsHold, wide_key, WideKeysAreOrdered}
+use Rattle.vortex_logical.specs.FloatKeys.{float_of_key}
+use Rattle.vortex_logical.specs.MeetingLaws.{CommonDigitsOrder, CommonDigitsHold, WideKeysAreOrdered}
 use Rattle.vortex_logical.proofs.DecimalLaws.{ten_pos, ten_more, orders}
 use Rattle.vortex_logical.proofs.FloatKeyOrder.{keys_are_ordered}
 use Rattle.vortex_logical.proofs.CellLemmas.{float_fits, key_back}

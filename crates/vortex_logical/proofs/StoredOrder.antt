@@ -1,5 +1,5 @@
 -- Stored integers are in the order of what they mean.
-use Rattle.std.proofs.Common.{◌≡◌, ◌∙◌, ◌⊎◌, inl, inr, ℕ, ℤ, ◌+◌, ◌*◌, ◌<◌, ◌≤◌, ◌^◌, arith, ap, sym, subst, refl, pos, T}
+use Rattle.std.proofs.Common.{◌≡◌, ◌∙◌, ◌⊎◌, inl, inr, ℕ, ℤ, ◌<◌, ◌^◌, arith, ap, sym, subst, pos, T}
 use Rattle.std.specs.Prelude.{◌<ℤ◌, ◌*ℤ◌, ◌+ℤ◌}
 use Rattle.std.specs.Ordering.{int_cmp, nan_last_cmp}
 use Rattle.std.specs.declared.cmp.Ordering.TheVariants.{Less, Equal}

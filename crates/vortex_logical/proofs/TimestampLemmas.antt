@@ -1,17 +1,17 @@
 -- What is written of an instant is read back.
-use Rattle.std.proofs.Common.{◌≡◌, ◌∙◌, ℕ, ℤ, pos, zero, suc, ◌+◌, ◌-◌, ◌*◌, ◌/◌, ◌%◌, ◌^◌, ◌<◌, ◌≤◌, Bool, true, false, List, [], ◌∷◌, ◌++◌}
-use Rattle.std.proofs.Common.{Option, Some, None, arith, ap, sym, subst, refl}
+use Rattle.std.proofs.Common.{◌≡◌, ◌∙◌, ℕ, ℤ, pos, zero, suc, ◌+◌, ◌-◌, ◌*◌, ◌/◌, ◌%◌, ◌^◌, ◌<◌, ◌≤◌, true, false, List, [], ◌∷◌, ◌++◌}
+use Rattle.std.proofs.Common.{Some, None, arith, ap, sym}
 use Rattle.std.specs.Prelude.{if◌then◌else◌, ◌&&◌, ◌==◌, nat_le, int_le, neg_ℤ, ◌≤ℤ◌, ◌+ℤ◌, ◌-ℤ◌, ◌*ℤ◌}
 use Rattle.std.specs.Char.{is_ascii_digit}
 use Rattle.std.proofs.Math.Nat.{div-div-eq-div-mul}
 use Rattle.std.proofs.lemmas.Int.{ints}
 use Rattle.jiff_core.proofs.SignedLemmas.{signed_arith}
 use Rattle.vortex_logical.specs.DecimalTexts.{last_digits}
-use Rattle.vortex_logical.specs.DateTexts.{two_digits, date_of_text, date_text, padded, IsDated, IsDateText}
+use Rattle.vortex_logical.specs.DateTexts.{IsDateText}
 use Rattle.vortex_logical.specs.TimestampTexts.{fraction_from, fraction_of_text, after_seconds, clock_seconds}
-use Rattle.vortex_logical.specs.TimestampTexts.{with_seconds, with_fraction, zoned, time_of_text, time_text}
+use Rattle.vortex_logical.specs.TimestampTexts.{with_seconds, with_fraction, time_of_text, time_text}
 use Rattle.vortex_logical.specs.TimestampTexts.{fraction_text, in_years, instant_at, timestamp_of_text}
-use Rattle.vortex_logical.specs.TimestampTexts.{IsTimestampText, TimestampsAreReadBack}
+use Rattle.vortex_logical.specs.TimestampTexts.{TimestampsAreReadBack}
 use Rattle.vortex_logical.proofs.DateLemmas.{day_back, digits_back, dated_between}
 
 -- ---- the digits after the point

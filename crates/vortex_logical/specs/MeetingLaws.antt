@@ -1,5 +1,5 @@
 -- Values that are converted to the kind in which they meet are in the order of the values.
-use Rattle.std.specs.Prelude.{◌≡◌, ◌+◌, ◌-◌, ◌≤◌, max, ℤ, Some, T}
+use Rattle.std.specs.Prelude.{◌≡◌, ◌+◌, ◌-◌, ◌≤◌, max, ℤ, Some}
 use Rattle.std.specs.Ordering.{int_cmp}
 use Rattle.std.specs.Float.{binary32, binary64}
 use Rattle.vortex_logical.specs.Digits.{Digits, AreDigits}

@@ -5,7 +5,7 @@ use Rattle.std.specs.Ordering.{nan_last_cmp}
 use Rattle.std.specs.declared.cmp.Ordering.TheVariants.{Less, Equal}
 use lib.Ieee.{fits}
 use Rattle.vortex_logical.specs.declared.kind.Kind.{Kind}
-use Rattle.vortex_logical.specs.declared.kind.Kind.TheVariants.{Plain, Date, Timestamp, Decimal}
+use Rattle.vortex_logical.specs.declared.kind.Kind.TheVariants.{Date, Timestamp, Decimal}
 use Rattle.vortex_logical.specs.declared.kind.Kind.TheVariants.{F64, F32}
 use Rattle.vortex_logical.specs.Decimals.{decimal_cmp, SameDecimal}
 use Rattle.vortex_logical.specs.DateTexts.{IsDay}

@@ -1,7 +1,7 @@
 -- Microseconds since 1970-01-01T00:00:00, as they are written: a date, T or a blank, hours, minutes
 -- and seconds, and if need be a point with up to six digits, and a zone's offset.
 use Rattle.std.specs.Prelude.{◌≡◌, ◌+◌, ◌-◌, ◌*◌, ◌/◌, ◌%◌, ◌^◌, ◌<◌, ℕ, zero, suc, ℤ, pos, neg_ℤ, ◌+ℤ◌, ◌-ℤ◌}
-use Rattle.std.specs.Prelude.{◌*ℤ◌, List, [], ◌∷◌, ◌++◌, Option, Some, None, take, drop, Bool}
+use Rattle.std.specs.Prelude.{◌*ℤ◌, List, [], ◌∷◌, ◌++◌, Option, Some, None, take, drop}
 use Rattle.std.specs.Prelude.{if◌then◌else◌, ◌==◌, ◌&&◌, ◌||◌, nat_le, int_le}
 use Rattle.std.specs.Char.{is_ascii_digit}
 use Rattle.std.specs.Option.{option_map}

@@ -1,4 +1,4 @@
-use Rattle.std.proofs.Common.{◌≡◌, ◌∙◌, refl, sym, subst, false, true, T}
+use Rattle.std.proofs.Common.{◌≡◌, ◌∙◌, refl, sym, subst, false, T}
 use Rattle.std.specs.Prelude.{not}
 use lib.Ieee.{Float, nan, inf, fin, binary64, fits, is_nan, ne, of_bits}
 use lib.Ieee.Fits.{and_i, fits_widens}

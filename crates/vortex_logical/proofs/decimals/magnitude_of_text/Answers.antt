@@ -1,4 +1,4 @@
-use Rattle.std.proofs.Common.{◌≡◌, ◌+◌, ◌*◌, ◌-◌, ◌^◌, subst, ap, drop, false, get_or, arith, rules}
+use Rattle.std.proofs.Common.{◌≡◌, ◌+◌, ◌*◌, ◌-◌, ◌^◌, subst, ap, drop, false, get_or, arith}
 use Rattle.std.proofs.lemmas.Grind.{common_steps}
 use Rattle.vortex_logical.specs.DecimalTexts.{value_from}
 use Rattle.vortex_logical.proofs.DecimalReading.{too_great, past, PastLimit}

@@ -1,4 +1,4 @@
-use Rattle.std.proofs.Common.{◌≡◌, ◌≤◌, ◌<◌, ◌^◌, drop, false}
+use Rattle.std.proofs.Common.{◌≡◌, ◌≤◌, ◌<◌, drop, false}
 use Rattle.vortex_logical.specs.DecimalTexts.{value_from}
 use Rattle.vortex_logical.proofs.decimals.magnitude_of_text.Given as goal
 
