@@ -67,7 +67,7 @@ dates_are_read_back z text h = ap date_of_text h.4 ∙ day_back z h.0 h.1 h.2 h.
 
 -- ---- the first day and the last one
 
-first_count : day_count (pos 0) 1 1 ≡ 3652425
+pub first_count : day_count (pos 0) 1 1 ≡ 3652425
 first_count = day_count-early (pos 0) 9999 1 1 refl (omega arith) (omega arith) (omega arith)
 
 year_count : (y : ℕ) → 3652425 ≤ day_count (pos y) 1 1

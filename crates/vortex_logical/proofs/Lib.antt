@@ -1,5 +1,6 @@
 mod CellLemmas
 mod DateLemmas
+mod DatedDays
 mod DecimalLaws
 mod DecimalReadBack
 mod DecimalReading

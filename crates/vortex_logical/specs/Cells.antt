@@ -1,6 +1,5 @@
 -- Texts of each kind, and the integers that stand for them.
-use Rattle.std.specs.Prelude.{◌≡◌, ℕ, ℤ, pos, List, Option, Some, None, T}
-use Rattle.std.specs.Int.{int_div_euclid}
+use Rattle.std.specs.Prelude.{◌≡◌, ℕ, ℤ, List, Option, Some, None, T}
 use Rattle.std.specs.Option.{option_map}
 use Rattle.std.specs.Float.{Float, Format, binary32, binary64}
 use lib.Ieee.{fits}
@@ -12,7 +11,7 @@ use Rattle.vortex_logical.specs.Digits.{AreDigits}
 use Rattle.vortex_logical.specs.Decimals.{HasDigits}
 use Rattle.vortex_logical.specs.DecimalTexts.{decimal_of_text, decimal_text}
 use Rattle.vortex_logical.specs.DateTexts.{date_of_text, IsDated, IsDateText}
-use Rattle.vortex_logical.specs.TimestampTexts.{timestamp_of_text, IsTimestampText}
+use Rattle.vortex_logical.specs.TimestampTexts.{timestamp_of_text, IsTimed, IsTimestampText}
 use Rattle.vortex_logical.specs.FloatKeys.{key_of_float, float_of_key}
 
 -- the integer of the float that a text means, rounded once
@@ -36,7 +35,7 @@ IsKey f z = (x : Float) × T (fits f x) × (z ≡ key_of_float f x)
 abbrev pub IsStored : Kind → ℤ → Type 0
 IsStored Plain z = ⊥
 IsStored Date z = IsDated z
-IsStored Timestamp z = IsDated (int_div_euclid z (pos 86400000000))
+IsStored Timestamp z = IsTimed z
 IsStored (Decimal d) z = HasDigits d.precision z
 IsStored F64 z = IsKey binary64 z
 IsStored F32 z = IsKey binary32 z

@@ -1,6 +1,7 @@
 -- Days since 1970-01-01, as they are written: YYYY-MM-DD, in the years 0000 to 9999.
-use Rattle.std.specs.Prelude.{◌≡◌, ◌+◌, ◌-◌, ◌*◌, ◌/◌, ◌%◌, ℕ, ℤ, pos, List, [], ◌∷◌, Option, Some, None}
-use Rattle.std.specs.Prelude.{if◌then◌else◌, ◌==◌, ◌&&◌, nat_le, Bool}
+use Rattle.std.specs.Prelude.{◌≡◌, ◌+◌, ◌-◌, ◌*◌, ◌/◌, ◌%◌, ℕ, ℤ, pos, List, [], ◌∷◌, Option, Some}
+use Rattle.std.specs.Prelude.{None}
+use Rattle.std.specs.Prelude.{if◌then◌else◌, ◌==◌, ◌&&◌, nat_le, Bool, neg_ℤ, ◌≤ℤ◌, ◌↔◌}
 use Rattle.std.specs.Char.{is_ascii_digit}
 use Rattle.jiff_core.specs.Calendar.{days_from_civil, days_in_month, IsCivilDate}
 
@@ -50,3 +51,8 @@ IsDateText z text = (y : ℕ) × (m : ℕ) × (d : ℕ) × IsDay z y m d × (tex
 -- what is written of a day is read back
 abbrev pub DatesAreReadBack : Type 0
 DatesAreReadBack = (z : ℤ) (text : List ℕ) → IsDateText z text → date_of_text text ≡ Some z
+
+-- the days with a text are those from 0000-01-01 to 9999-12-31
+abbrev pub DatedDays : Type 0
+DatedDays =
+    (z : ℤ) → IsDated z ↔ ((neg_ℤ (pos 719528) ≤ℤ z) × (z ≤ℤ pos 2932896))

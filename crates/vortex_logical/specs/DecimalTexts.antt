@@ -1,4 +1,5 @@
--- Decimals as they are written: a sign, digits, a point, and at most so many digits as the scale says.
+-- Decimals as they are written: a sign, digits, a point, and at most so many digits as the scale
+-- says.
 use Rattle.std.specs.Prelude.{◌≡◌, ◌-◌, ◌+◌, ◌*◌, ◌/◌, ◌%◌, ◌^◌, ℕ, zero, suc, ℤ, pos, negsuc}
 use Rattle.std.specs.Prelude.{neg_ℤ, Bool, true, false, if◌then◌else◌, ◌==◌, nat_lt, codes}
 use Rattle.std.specs.Prelude.{List, [], ◌∷◌, ◌++◌, Option, Some, None}

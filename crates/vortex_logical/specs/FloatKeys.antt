@@ -1,5 +1,5 @@
--- Floats as stored integers: the pattern of the size, with the float's sign. Both zeros are 0, and a
--- NaN is above the infinity.
+-- Floats as stored integers: the pattern of the size, with the float's sign. Both zeros are 0, and
+-- a NaN is above the infinity.
 use Rattle.std.specs.Prelude.{◌≡◌, ◌-◌, ◌+◌, ◌*◌, ◌%◌, ℕ, ℤ, pos, negsuc, suc, neg_ℤ, T, nat_le}
 use Rattle.std.specs.Prelude.{if◌then◌else◌, to_bits, from_bits}
 use Rattle.std.specs.Float.{Float, Format, binary32, binary64}
@@ -25,8 +25,8 @@ abbrev pub float_of_key : Format → ℤ → Float
 float_of_key f (pos n) = from_bits f n
 float_of_key f (negsuc n) = from_bits f ((suc n + sign_weight f) % (2 * sign_weight f))
 
--- the order of the integers is PostgreSQL's order of the floats: a NaN equals a NaN and is greatest,
--- and -0 equals 0
+-- the order of the integers is PostgreSQL's order of the floats: a NaN equals a NaN and is
+-- greatest, and -0 equals 0
 abbrev pub KeysAreOrdered : Type 0
 KeysAreOrdered =
     (f : Format) (x y : Float) → T (fits f x) → T (fits f y)

@@ -1,12 +1,15 @@
 -- Microseconds since 1970-01-01T00:00:00, as they are written: a date, T or a blank, hours, minutes
 -- and seconds, and if need be a point with up to six digits, and a zone's offset.
-use Rattle.std.specs.Prelude.{◌≡◌, ◌+◌, ◌-◌, ◌*◌, ◌/◌, ◌%◌, ◌^◌, ◌<◌, ℕ, zero, suc, ℤ, pos, neg_ℤ, ◌+ℤ◌, ◌-ℤ◌}
+use Rattle.std.specs.Prelude.{◌≡◌, ◌+◌, ◌-◌, ◌*◌, ◌/◌, ◌%◌, ◌^◌, ◌<◌, ℕ, zero, suc, ℤ, pos, neg_ℤ}
+use Rattle.std.specs.Prelude.{◌+ℤ◌, ◌-ℤ◌}
 use Rattle.std.specs.Prelude.{◌*ℤ◌, List, [], ◌∷◌, ◌++◌, Option, Some, None, take, drop}
 use Rattle.std.specs.Prelude.{if◌then◌else◌, ◌==◌, ◌&&◌, ◌||◌, nat_le, int_le}
 use Rattle.std.specs.Char.{is_ascii_digit}
+use Rattle.std.specs.Int.{int_div_euclid}
 use Rattle.std.specs.Option.{option_map}
 use Rattle.vortex_logical.specs.DecimalTexts.{last_digits}
-use Rattle.vortex_logical.specs.DateTexts.{two_digits, date_of_text, padded, IsDateText}
+use Rattle.vortex_logical.specs.DateTexts.{two_digits, date_of_text, padded}
+use Rattle.vortex_logical.specs.DateTexts.{IsDated, IsDateText}
 
 -- the minutes that a zone is ahead: hours and minutes after a sign
 abbrev pub signed_offset : ℕ → Option ℕ → Option ℕ → Option ℤ
@@ -68,7 +71,8 @@ with_seconds (Some seconds) bs = after_seconds seconds bs
 abbrev pub time_of_text : List ℕ → Option ℤ
 time_of_text (t ∷ h ∷ i ∷ c ∷ m ∷ n ∷ d ∷ s ∷ u ∷ bs) =
     if ((t == 84) || (t == 32)) && (c == 58) && (d == 58)
-    then with_seconds (clock_seconds (two_digits h i) (two_digits m n) (two_digits s u)) bs else None
+    then with_seconds (clock_seconds (two_digits h i) (two_digits m n) (two_digits s u)) bs
+    else None
 time_of_text bs = None
 
 -- the instant, if it is in the years 0000 to 9999
@@ -93,6 +97,10 @@ abbrev pub time_text : ℕ → List ℕ
 time_text t =
     84 ∷ padded (t / 3600000000) (58 ∷ padded (t / 60000000 % 60)
     (58 ∷ padded (t / 1000000 % 60) (fraction_text (t % 1000000))))
+
+-- the instant is in the years 0000 to 9999
+abbrev pub IsTimed : ℤ → Type 0
+IsTimed z = IsDated (int_div_euclid z (pos 86400000000))
 
 -- the text of the instant z: that of its day and of its time
 pub record IsTimestampText (z : ℤ) (text : List ℕ) : Type 0 where

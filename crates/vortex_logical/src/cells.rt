@@ -1,11 +1,11 @@
 //! Cells: texts of each kind, read as the integers that stand for them, and written.
-ghost use Rattle.std.specs.Prelude.{◌≡◌, IfOk, MatchOption, FitsSigned};
+ghost use Rattle.std.specs.Prelude.{◌≡◌, IfOk, IfSome, MatchOption, FitsSigned};
 ghost use Rattle.std.specs.Bool.{MatchBool};
 ghost use Rattle.std.specs.Int.{w32};
 ghost use Rattle.std.specs.Float.{binary32, binary64};
 ghost use Rattle.vortex_logical.specs.Written.{Appends};
 ghost use Rattle.vortex_logical.specs.Cells.{key_of_text, stored_of_text, IsStored, IsCellText};
-ghost use Rattle.vortex_logical.specs.Cells.{CellsAreReadBack};
+ghost use Rattle.vortex_logical.specs.Cells.{IsKey, CellsAreReadBack};
 
 use crate::dates::{read_date, widened, write_date};
 use crate::decimals::{read_decimal, within_digits, write_decimal};
@@ -16,7 +16,8 @@ use crate::timestamps::{read_timestamp, write_timestamp};
 use std::alloc::AllocError;
 
 pub(crate) fn read_f64(text: &[u8]) -> Option<i64>
-    ensures { result ≡ key_of_text binary64 text.now }
+    ensures value { result ≡ key_of_text binary64 text.now }
+    ensures key { IfSome result (IsKey binary64) }
 {
     match fast_float::parse::<f64, &[u8]>(text) {
         Ok(float) => Some(key_of_f64(float)),
@@ -25,7 +26,8 @@ pub(crate) fn read_f64(text: &[u8]) -> Option<i64>
 }
 
 fn read_f32(text: &[u8]) -> Option<i32>
-    ensures { result ≡ key_of_text binary32 text.now }
+    ensures value { result ≡ key_of_text binary32 text.now }
+    ensures key { IfSome result (IsKey binary32) }
 {
     match fast_float::parse::<f32, &[u8]>(text) {
         Ok(float) => Some(key_of_f32(float)),
@@ -33,15 +35,16 @@ fn read_f32(text: &[u8]) -> Option<i32>
     }
 }
 
-/// The integer that a column of the kind stores for a text. None of a text that is none of the kind,
-/// and of every text for a plain column, which has its own.
+/// The integer that a column of the kind stores for a text. None of a text that is none of the
+/// kind, and of every text for a plain column, which has its own.
 ///
-/// A date is `YYYY-MM-DD`. A timestamp is a date, `T` or a blank, `HH:MM:SS`, up to six digits after a
-/// point if it has one, and `Z` or an offset if it has one. A decimal is digits with a sign and a
-/// point or without, with no more after the point than its scale, and no more in all than its
+/// A date is `YYYY-MM-DD`. A timestamp is a date, `T` or a blank, `HH:MM:SS`, up to six digits
+/// after a point if it has one, and `Z` or an offset if it has one. A decimal is digits with a sign
+/// and a point or without, with no more after the point than its scale, and no more in all than its
 /// precision. A float is a decimal number with an exponent or without, `nan`, `inf` or `infinity`.
 pub fn read_cell(kind: Kind, text: &[u8]) -> Option<i64>
-    ensures { result ≡ stored_of_text kind text.now }
+    ensures value { result ≡ stored_of_text kind text.now }
+    ensures stored { IfSome result (IsStored kind) }
 {
     match kind {
         Kind::Plain => None,
@@ -118,9 +121,10 @@ fn write_narrow(key: i64, out: &mut Vec<u8>) -> Result<bool, AllocError>
     }
 }
 
-/// Appends the text of a stored integer, which is read back as the same integer; false, and nothing,
-/// where it stands for no value of the kind that has a text. A float is written in digits that are
-/// read back as the float. Refused only for want of memory, and then part of the text may stand.
+/// Appends the text of a stored integer, which is read back as the same integer; false, and
+/// nothing, where it stands for no value of the kind that has a text. A float is written in digits
+/// that are read back as the float. Refused only for want of memory, and then part of the text may
+/// stand.
 pub fn write_cell(kind: Kind, number: i64, out: &mut Vec<u8>) -> Result<bool, AllocError>
     ensures { IfOk result (λ written. MatchBool written
         (Appends (IsCellText kind number) out.old.items out.new.items)

@@ -4,8 +4,10 @@ ghost use Rattle.vortex_types.specs.TypeEquality.{ptype_eq};
 ghost use Rattle.vortex_logical.specs.Digits.{AreDigits, digits_of};
 ghost use Rattle.vortex_logical.specs.CommonKinds.{whole_digits, operand_digits, common_digits};
 ghost use Rattle.vortex_logical.specs.CommonKinds.{met_digits, product_digits, is_float};
-ghost use Rattle.vortex_logical.specs.CommonKinds.{float_if, numbers_met, met_numbers, common_operand};
-ghost use Rattle.vortex_logical.specs.CommonKinds.{sum_operand, difference_operand, product_operand};
+ghost use Rattle.vortex_logical.specs.CommonKinds.{float_if, numbers_met, met_numbers};
+ghost use Rattle.vortex_logical.specs.CommonKinds.{common_operand};
+ghost use Rattle.vortex_logical.specs.CommonKinds.{sum_operand, difference_operand};
+ghost use Rattle.vortex_logical.specs.CommonKinds.{product_operand};
 
 use crate::digits::DecimalDigits;
 use crate::kind::Kind;
@@ -168,7 +170,8 @@ pub fn difference_operand(left: &Operand, right: &Operand) -> Option<Operand>
     }
 }
 
-/// The kind of a product: of decimals the scales add, and it is none past 18 digits after the point.
+/// The kind of a product: of decimals the scales add, and it is none past 18 digits after the
+/// point.
 pub fn product_operand(left: &Operand, right: &Operand) -> Option<Operand>
     ensures { result ≡ product_operand left.now right.now }
 {

@@ -4,7 +4,8 @@ ghost use Rattle.std.specs.Bool.{MatchBool};
 ghost use Rattle.jiff_core.specs.Calendar.{IsCivilDate, IsEpochDay};
 ghost use Rattle.vortex_logical.specs.Written.{Appends};
 ghost use Rattle.vortex_logical.specs.DateTexts.{two_digits, day_number, date_of_text, padded};
-ghost use Rattle.vortex_logical.specs.DateTexts.{date_text, IsDated, IsDateText, DatesAreReadBack};
+ghost use Rattle.vortex_logical.specs.DateTexts.{date_text, IsDated, IsDateText};
+ghost use Rattle.vortex_logical.specs.DateTexts.{DatesAreReadBack, DatedDays};
 
 use jiff_core::civil::Date;
 use std::alloc::AllocError;
@@ -40,6 +41,7 @@ fn civil_day(century: u8, year: u8, month: u8, day: u8) -> Option<i32>
     requires days { (month ≤ 99) × (day ≤ 99) }
     ensures value { result ≡ day_number (Some century) (Some year) (Some month) (Some day) }
     ensures range { IfSome result IsEpochDay }
+    ensures dated { IfSome result IsDated }
 {
     match Date::new(year_of(century, year), signed(month), signed(day)) {
         Ok(date) => Some(date.to_unix_epoch_day()),
@@ -51,6 +53,7 @@ fn civil_day(century: u8, year: u8, month: u8, day: u8) -> Option<i32>
 pub fn read_date(text: &[u8]) -> Option<i32>
     ensures value { result ≡ date_of_text text.now }
     ensures range { IfSome result IsEpochDay }
+    ensures dated { IfSome result IsDated }
 {
     match text {
         [c, d, y, z, b'-', m, n, b'-', e, f] => civil_day(
@@ -110,4 +113,9 @@ pub(crate) fn push_date(year: u16, month: u8, day: u8, out: &mut Vec<u8>) -> Res
 /// What is written of a day is read back.
 pub fn dates_are_read_back()
     ensures { DatesAreReadBack }
+{}
+
+/// The days with a text are those from 0000-01-01 to 9999-12-31.
+pub fn dated_days()
+    ensures { DatedDays }
 {}

@@ -2,7 +2,8 @@
 ghost use Rattle.std.specs.Prelude.{◌≡◌, ◌≤◌, ◌<◌, ◌^◌, ◌++◌, IfOk, IfSome, pos, neg_ℤ};
 ghost use Rattle.std.specs.Prelude.{drop, length};
 ghost use Rattle.std.specs.Int.{IsInRange};
-ghost use Rattle.vortex_logical.specs.Decimals.{shifted, decimal_cmp, within_digits, rescaled};
+ghost use Rattle.vortex_logical.specs.Decimals.{shifted, decimal_cmp, HasDigits, within_digits};
+ghost use Rattle.vortex_logical.specs.Decimals.{rescaled};
 ghost use Rattle.vortex_logical.specs.Decimals.{RescalingKeeps, RescalingOrders};
 ghost use Rattle.vortex_logical.specs.DecimalTexts.{magnitude_of_text, decimal_of_text};
 ghost use Rattle.vortex_logical.specs.DecimalTexts.{magnitude_text, last_digits, decimal_text};
@@ -86,6 +87,7 @@ pub fn rescaling_orders()
 fn magnitude_of_text(digits: DecimalDigits, text: &[u8]) -> Option<u64>
     ensures value { result ≡ magnitude_of_text digits text.now }
     ensures small { IfSome result (λ n. n < 1000000000000000000) }
+    ensures within { IfSome result (λ n. n < 10 ^ digits.precision) }
 {
     if text.is_empty() || text == b".".as_slice() {
         return None;
@@ -133,7 +135,8 @@ fn without_sign(number: u64) -> i64
 /// behind it at most so many digits as stand after the point. None of any other text, and of one
 /// with too many digits.
 pub fn read_decimal(digits: DecimalDigits, text: &[u8]) -> Option<i64>
-    ensures { result ≡ decimal_of_text digits text.now }
+    ensures value { result ≡ decimal_of_text digits text.now }
+    ensures within { IfSome result (HasDigits digits.precision) }
 {
     match text {
         [b'-', rest @ ..] => Some(negated(magnitude_of_text(digits, rest)?)),

@@ -27,7 +27,8 @@ impl DecimalDigits {
 
     /// None unless there are 1 to 18 digits, and no more after the point.
     pub fn try_new(precision: u32, scale: u32) -> Option<DecimalDigits>
-        ensures { SomeIff result (AreDigits (digits_of precision scale)) (digits_of precision scale) }
+        ensures { SomeIff result
+            (AreDigits (digits_of precision scale)) (digits_of precision scale) }
     {
         if 1 <= precision && precision <= 18 && scale <= precision {
             Some(DecimalDigits { precision, scale })

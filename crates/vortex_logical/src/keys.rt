@@ -1,5 +1,5 @@
-//! Floats as stored integers in the order of PostgreSQL: a NaN equals a NaN and is the greatest, and
-//! -0 equals 0. So what compares, sorts and looks up integers serves floats.
+//! Floats as stored integers in the order of PostgreSQL: a NaN equals a NaN and is the greatest,
+//! and -0 equals 0. So what compares, sorts and looks up integers serves floats.
 ghost use Rattle.std.specs.Prelude.{◌≡◌};
 ghost use Rattle.std.specs.Float.{binary32, binary64};
 ghost use Rattle.vortex_logical.specs.FloatKeys.{key_of_float, float_of_key, KeysAreOrdered};

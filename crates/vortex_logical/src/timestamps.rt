@@ -1,5 +1,6 @@
 //! Microseconds since 1970-01-01T00:00:00, from texts of ISO 8601 and back.
-ghost use Rattle.std.specs.Prelude.{◌≡◌, ◌≤◌, ◌+◌, ◌*◌, ◌<◌, ◌^◌, ℕ, ℤ, IfSome, IfOk, Some, None, pos, neg_ℤ};
+ghost use Rattle.std.specs.Prelude.{◌≡◌, ◌≤◌, ◌+◌, ◌*◌, ◌<◌, ◌^◌, ℕ, ℤ, IfSome, IfOk, Some, None};
+ghost use Rattle.std.specs.Prelude.{pos, neg_ℤ};
 ghost use Rattle.std.specs.Prelude.{◌+ℤ◌, ◌*ℤ◌, ◌++◌, List, [], ◌∷◌};
 ghost use Rattle.std.specs.Bool.{MatchBool};
 ghost use Rattle.std.specs.Option.{option_map};
@@ -9,8 +10,8 @@ ghost use Rattle.vortex_logical.specs.TimestampTexts.{signed_offset, offset_of_t
 ghost use Rattle.vortex_logical.specs.TimestampTexts.{fraction_of_text, zoned, after_seconds};
 ghost use Rattle.vortex_logical.specs.TimestampTexts.{clock_seconds, time_of_text, in_years};
 ghost use Rattle.vortex_logical.specs.TimestampTexts.{timestamp_of_text, fraction_text, time_text};
-ghost use Rattle.vortex_logical.specs.TimestampTexts.{IsTimestampText, TimestampsAreReadBack};
-ghost use Rattle.vortex_logical.specs.DateTexts.{IsDated};
+ghost use Rattle.vortex_logical.specs.TimestampTexts.{instant_at, IsTimed, IsTimestampText};
+ghost use Rattle.vortex_logical.specs.TimestampTexts.{TimestampsAreReadBack};
 ghost use Rattle.vortex_logical.specs.Written.{Appends};
 
 use crate::dates::{push_padded, read_date, two_digits, write_date};
@@ -137,8 +138,10 @@ fn read_time(text: &[u8]) -> Option<i64>
     }
 }
 
+#[tactic(auto, using(crate::proofs::DatedDays::instant_timed))]
 fn in_years(micros: i64) -> Option<i64>
-    ensures { result ≡ in_years micros }
+    ensures value { result ≡ in_years micros }
+    ensures dated { IfSome result IsTimed }
 {
     if -62167219200000000 <= micros && micros <= 253402300799999999 {
         Some(micros)
@@ -155,18 +158,28 @@ fn instant(day: i32, time: i64) -> i64
     day as i64 * 86400000000 + time
 }
 
+fn instant_in_years(day: i32, time: i64) -> Option<i64>
+    requires day { IsEpochDay day }
+    requires time { IsWithin 172800000000 time }
+    ensures value { result ≡ instant_at (Some day) (Some time) }
+    ensures dated { IfSome result IsTimed }
+{
+    in_years(instant(day, time))
+}
+
 /// The instant of a text: `YYYY-MM-DD`, `T` or a blank, `HH:MM:SS`, or that with a point and one to
-/// six digits, and then nothing, `Z`, or the offset of a zone, as `+05:30`, `+0530` or `+05`, which is
-/// read to UTC. None of any other text, and of an instant outside the years 0000 to 9999.
+/// six digits, and then nothing, `Z`, or the offset of a zone, as `+05:30`, `+0530` or `+05`, which
+/// is read to UTC. None of any other text, and of an instant outside the years 0000 to 9999.
 pub fn read_timestamp(text: &[u8]) -> Option<i64>
-    ensures { result ≡ timestamp_of_text text.now }
+    ensures value { result ≡ timestamp_of_text text.now }
+    ensures dated { IfSome result IsTimed }
 {
     if text.len() < 10 {
         return None;
     }
-    let day = read_date(&text[..10])?;
-    let time = read_time(&text[10..])?;
-    in_years(instant(day, time))
+    let (date, time) = text.split_at(10);
+    let day = read_date(date)?;
+    instant_in_years(day, read_time(time)?)
 }
 
 fn day_of(micros: i64) -> i32
@@ -210,13 +223,12 @@ fn push_time(time: u64, out: &mut Vec<u8>) -> Result<(), AllocError>
 }
 
 /// Appends the text of an instant as `2024-02-29T12:34:56`, or with six digits after the point if
-/// some is not 0; false, and nothing, for an instant outside the years 0000 to 9999. Refused only for
-/// want of memory, and then part of the text may stand.
+/// some is not 0; false, and nothing, for an instant outside the years 0000 to 9999. Refused only
+/// for want of memory, and then part of the text may stand.
 pub fn write_timestamp(micros: i64, out: &mut Vec<u8>) -> Result<bool, AllocError>
     ensures { IfOk result (λ written. MatchBool written
         (Appends (IsTimestampText micros) out.old.items out.new.items)
-        (¬ (IsDated (int_div_euclid micros (pos 86400000000)))
-        × (out.new.items ≡ out.old.items))) }
+        (¬ (IsTimed micros) × (out.new.items ≡ out.old.items))) }
 {
     if !write_date(day_of(micros), out)? {
         return Ok(false);
