@@ -1,0 +1,16 @@
+mod CellLemmas
+mod DateLemmas
+mod DatedDays
+mod DecimalLaws
+mod DecimalReadBack
+mod DecimalReading
+mod DecimalWriting
+mod FloatEquality
+mod FloatKeyOrder
+mod FloatPatterns
+mod FloatValueOrder
+mod FractionLemmas
+mod KindNames
+mod MeetingLemmas
+mod StoredOrder
+mod TimestampLemmas

@@ -1,0 +1,12 @@
+pub mod Digits
+pub mod Kinds
+pub mod FloatKeys
+pub mod Decimals
+pub mod DecimalTexts
+pub mod Written
+pub mod DateTexts
+pub mod TimestampTexts
+pub mod Cells
+pub mod CommonKinds
+pub mod MeetingLaws
+pub mod StandsFor
