@@ -6,14 +6,14 @@ use Rattle.std.proofs.Common.{cond}
 use Rattle.vortex_errors.specs.declared.arity.Arity.TheVariants.{Variadic}
 use Rattle.vortex_types.specs.LogicalTypes.{LogicalType}
 use Rattle.vortex_types.specs.Values.{Value, null, truth, is_null}
-use Rattle.vortex_interface.specs.Outcomes.{Outcome, gives}
+use Rattle.vortex_interface.specs.Outcomes.{gives}
 use Rattle.vortex_standard.specs.declared.types.Gives.TheVariants as answer
 use Rattle.vortex_standard.specs.declared.types.Kind.TheVariants.{Any}
 use Rattle.vortex_standard.specs.declared.types.Nulls.TheVariants as nulls_in
 use Rattle.vortex_standard.specs.declared.types.Takes.TheVariants.{Cases}
-use Rattle.vortex_standard.specs.Types.{is_kind, lacks_last}
-use Rattle.vortex_standard.specs.Laws.{null_of, kind_single, or_left, or_right}
-use Rattle.vortex_standard.specs.Row.{Row, LawfulRow, AreCases, AreGiven, IsOf, IsOfKind, NullOnlyBy}
+use Rattle.vortex_standard.specs.Types.{lacks_last}
+use Rattle.vortex_standard.specs.Laws.{null_of, kind_single, or_left}
+use Rattle.vortex_standard.specs.Row.{Row, LawfulRow, AreCases, AreGiven, IsOf, NullOnlyBy}
 
 abbrev pub is_true : Value → Bool
 is_true (truth b) = b

@@ -9,9 +9,9 @@ use Rattle.std.proofs.lemmas.Str.{IsUtf8-from_ascii}
 use Rattle.vortex_types.specs.declared.dtype.PType.{PType}
 use Rattle.vortex_types.specs.declared.dtype.PType.TheVariants.{I8, I16, I32, I64, U8, U16, U32}
 use Rattle.vortex_types.specs.declared.dtype.PType.TheVariants.{U64}
-use Rattle.vortex_types.specs.LogicalTypes.{integer_type, text_type}
+use Rattle.vortex_types.specs.LogicalTypes.{integer_type}
 use Rattle.vortex_types.specs.Typing.{HasType}
-use Rattle.vortex_types.specs.Values.{Value, number, text, truth}
+use Rattle.vortex_types.specs.Values.{number, text, truth}
 use Rattle.vortex_interface.specs.Outcomes.{Outcome, gives}
 use Rattle.vortex_standard.specs.declared.faults.RowFault.TheVariants.{OutOfRange}
 use Rattle.vortex_standard.specs.declared.types.Gives.TheVariants as answer

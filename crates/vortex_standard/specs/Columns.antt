@@ -1,8 +1,8 @@
 -- A column of cells.
-use Rattle.std.specs.Prelude.{◌≡◌, ℕ, ◌<◌, List, Bool, false, length, slice_index_or, ℤ, pos, []}
+use Rattle.std.specs.Prelude.{◌≡◌, ℕ, ◌<◌, List, length, slice_index_or, ℤ, pos, []}
 use Rattle.vortex_types.specs.Typing.{HasType}
 use Rattle.vortex_types.specs.LogicalTypes.{LogicalType}
-use Rattle.vortex_types.specs.Values.{Value, truth, number, text}
+use Rattle.vortex_types.specs.Values.{Value, number, text}
 use Rattle.vortex_columns.specs.declared.cell.Cell.{Cell}
 use Rattle.vortex_columns.specs.declared.cell.Cell.TheVariants as cell
 use Rattle.vortex_columns.specs.Cells.{cell_value}

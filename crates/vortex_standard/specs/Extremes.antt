@@ -9,14 +9,13 @@ use Rattle.vortex_errors.specs.declared.arity.Arity.TheVariants.{Variadic}
 use Rattle.vortex_types.specs.LogicalTypes.{LogicalType}
 use Rattle.vortex_types.specs.Order.{compare_values}
 use Rattle.vortex_types.specs.Values.{Value, null, is_null}
-use Rattle.vortex_interface.specs.Outcomes.{Outcome, gives}
+use Rattle.vortex_interface.specs.Outcomes.{gives}
 use Rattle.vortex_standard.specs.declared.extremes.Extreme.{Extreme}
 use Rattle.vortex_standard.specs.declared.extremes.Extreme.TheVariants.{Greatest, Least}
 use Rattle.vortex_standard.specs.declared.types.Gives.TheVariants as answer
 use Rattle.vortex_standard.specs.declared.types.Kind.TheVariants.{Any}
 use Rattle.vortex_standard.specs.declared.types.Nulls.TheVariants.{WhereAll}
 use Rattle.vortex_standard.specs.declared.types.Takes.TheVariants.{Alike}
-use Rattle.vortex_standard.specs.Types.{is_kind}
 use Rattle.vortex_standard.specs.Laws.{null_of, kind_single, and_left, and_right}
 use Rattle.vortex_standard.specs.Laws.{both_true}
 use Rattle.vortex_standard.specs.Row.{Row, LawfulRow, AreOf, IsOf, NullOnlyBy}

@@ -1,6 +1,5 @@
 -- Why a row faults, by number and in words.
-use Rattle.std.specs.Prelude.{ℕ, ◌+◌, List, Option, Some, None, codes, nat_eq, if◌then◌else◌}
-use Rattle.vortex_types.specs.declared.dtype.PType.{PType}
+use Rattle.std.specs.Prelude.{ℕ, List, Option, Some, None, codes, nat_eq, if◌then◌else◌}
 use Rattle.vortex_types.specs.declared.dtype.PType.TheVariants.{I8, I16, I32, I64, U8, U16, U32}
 use Rattle.vortex_types.specs.declared.dtype.PType.TheVariants.{U64}
 use Rattle.vortex_interface.specs.Outcomes.{Outcome, faults, custom}

@@ -1,5 +1,5 @@
 -- Integers, each where its type has it.
-use Rattle.std.specs.Prelude.{◌≡◌, ◌||◌, ℕ, ℤ, Option, Some, None, Bool, true, false, not, int_lt}
+use Rattle.std.specs.Prelude.{◌≡◌, ◌||◌, ℤ, Option, Some, None, Bool, true, false, not, int_lt}
 use Rattle.std.specs.Prelude.{◌≤ℤ◌, if◌then◌else◌, refl}
 use Rattle.std.proofs.Common.{cond, arith}
 use Rattle.std.proofs.lemmas.Int.{ints}

@@ -1,4 +1,5 @@
 pub mod Abs
+pub mod AcceptedTypes
 pub mod AnsweredRows
 pub mod Calls
 pub mod Case

@@ -1,13 +1,12 @@
 -- Null where two values are equal, else the first.
 use Rattle.std.specs.Prelude.{◌≡◌, codes, List, [], ◌∷◌, Bool, true, false, refl, if◌then◌else◌}
-use Rattle.std.specs.Prelude.{length}
 use Rattle.std.specs.Ordering.{is_eq}
 use Rattle.std.proofs.Common.{cond}
 use Rattle.vortex_errors.specs.declared.arity.Arity.TheVariants.{Exact}
 use Rattle.vortex_types.specs.LogicalTypes.{LogicalType}
 use Rattle.vortex_types.specs.Order.{compare_values}
 use Rattle.vortex_types.specs.Values.{Value, null}
-use Rattle.vortex_interface.specs.Outcomes.{Outcome, gives}
+use Rattle.vortex_interface.specs.Outcomes.{gives}
 use Rattle.vortex_standard.specs.declared.types.Gives.TheVariants as answer
 use Rattle.vortex_standard.specs.declared.types.Kind.TheVariants.{Any}
 use Rattle.vortex_standard.specs.declared.types.Nulls.TheVariants.{Always}

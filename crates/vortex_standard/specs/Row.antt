@@ -1,5 +1,5 @@
 -- A function by its rows.
-use Rattle.std.specs.Prelude.{◌≡◌, ℕ, ℤ, List, [], ◌∷◌, Option, Some, None, Bool, true, false}
+use Rattle.std.specs.Prelude.{◌≡◌, ℕ, List, [], ◌∷◌, Option, None, Bool, true, false}
 use Rattle.std.specs.Prelude.{◌&&◌, ◌||◌, length, if◌then◌else◌, get_or}
 use Rattle.std.specs.List.{list_any, list_all}
 use Rattle.vortex_errors.specs.declared.arity.Arity.{Arity}
@@ -7,12 +7,12 @@ use Rattle.vortex_errors.specs.declared.error.VortexError.{VortexError}
 use Rattle.vortex_errors.specs.Arities.{fits}
 use Rattle.vortex_types.specs.declared.dtype.PType.{PType}
 use Rattle.vortex_types.specs.LogicalTypes.{LogicalType, with_nullability}
-use Rattle.vortex_types.specs.Values.{Value, null, truth, number, text, is_null}
-use Rattle.vortex_types.specs.Typing.{HasType, FitsPType, IsText}
+use Rattle.vortex_types.specs.Values.{Value, null, is_null}
+use Rattle.vortex_types.specs.Typing.{HasType}
 use Rattle.vortex_interface.specs.Outcomes.{Outcome, gives, faults, Fault, error_of}
 use Rattle.vortex_interface.specs.Outcomes.{GivesValue, GivesType}
 use Rattle.vortex_standard.specs.declared.types.Kind.{Kind}
-use Rattle.vortex_standard.specs.declared.types.Kind.TheVariants.{Any, Truth, Integer, Within, Text}
+use Rattle.vortex_standard.specs.declared.types.Kind.TheVariants.{Any, Truth}
 use Rattle.vortex_standard.specs.declared.types.Takes.{Takes}
 use Rattle.vortex_standard.specs.declared.types.Takes.TheVariants.{Alike, Each, Cases}
 use Rattle.vortex_standard.specs.declared.types.Nulls.{Nulls}

@@ -9,7 +9,7 @@ use Rattle.vortex_types.specs.declared.dtype.PType.{PType}
 use Rattle.vortex_types.specs.LogicalTypes.{LogicalType, bool_type, integer_type, text_type}
 use Rattle.vortex_types.specs.LogicalTypes.{with_nullability, is_integer_type}
 use Rattle.vortex_types.specs.Values.{Value, null, truth, number, text, is_null}
-use Rattle.vortex_types.specs.Typing.{HasType, FitsPType}
+use Rattle.vortex_types.specs.Typing.{FitsPType}
 use Rattle.vortex_interface.specs.Outcomes.{Outcome, gives, faults, GivesType, GivesValue}
 use Rattle.vortex_standard.specs.declared.types.Gives.{Gives}
 use Rattle.vortex_standard.specs.declared.types.Kind.{Kind}
@@ -108,9 +108,9 @@ never_null u (faults f) vs k h = tt
 module _ (id : List ℕ) (n : ℕ) (s : Takes) (g : Gives) (i : Bool) (f : PType → List Value → Outcome)
     (named : get_or id 0 0 ≡ 115) where
   pub strict_lawful : ((t : LogicalType) (vs : List Value) → IsAsked (strict_row id n s g i f) t vs
-          → GivesType (with_nullability (given_type g t) false) (f (ptype_in t) vs))
+      → GivesType (with_nullability (given_type g t) false) (f (ptype_in t) vs))
       → ((t : LogicalType) (vs : List Value) → IsAsked (strict_row id n s g i f) t vs → i ≡ true
-          → GivesValue (f (ptype_in t) vs))
+      → GivesValue (f (ptype_in t) vs))
       → LawfulRow (strict_row id n s g i f)
   strict_lawful typed settled = record {
     named = named;
@@ -199,7 +199,7 @@ module _ (id : List ℕ) (k : Kind) (g : Gives) (i : Bool) (named : get_or id 0 
     (whole : OfIntegers k) where
   pub one_int_lawful : (f : PType → ℤ → Outcome)
       → ((p : PType) (n : Bool) (z : ℤ) → is_kind k (integer_type p n) ≡ true → FitsPType p z
-          → GivesType (with_nullability (given_type g (integer_type p n)) false) (f p z))
+      → GivesType (with_nullability (given_type g (integer_type p n)) false) (f p z))
       → ((p : PType) (z : ℤ) → i ≡ true → FitsPType p z → GivesValue (f p z))
       → LawfulRow (strict_row id 1 (Alike k) g i (one_int f))
   one_int_lawful f typed settled =
@@ -226,9 +226,9 @@ module _ (id : List ℕ) (k : Kind) (g : Gives) (i : Bool) (named : get_or id 0 
 
   pub two_ints_lawful : (f : PType → ℤ → ℤ → Outcome)
       → ((p : PType) (n : Bool) (z y : ℤ) → FitsPType p z → FitsPType p y
-          → GivesType (with_nullability (given_type g (integer_type p n)) false) (f p z y))
+      → GivesType (with_nullability (given_type g (integer_type p n)) false) (f p z y))
       → ((p : PType) (z y : ℤ) → i ≡ true → FitsPType p z → FitsPType p y
-          → GivesValue (f p z y))
+      → GivesValue (f p z y))
       → LawfulRow (strict_row id 2 (Alike k) g i (two_ints f))
   two_ints_lawful f typed settled =
       strict_lawful id 2 (Alike k) g i (two_ints f) named
@@ -255,7 +255,7 @@ module _ (id : List ℕ) (k : Kind) (g : Gives) (i : Bool) (named : get_or id 0 
 module _ (id : List ℕ) (g : Gives) (i : Bool) (named : get_or id 0 0 ≡ 115) where
   pub one_text_lawful : (f : List ℕ → Outcome)
       → ((n : Bool) (bs : List ℕ) → IsUtf8 bs
-          → GivesType (with_nullability (given_type g (text_type n)) false) (f bs))
+      → GivesType (with_nullability (given_type g (text_type n)) false) (f bs))
       → ((bs : List ℕ) → i ≡ true → IsUtf8 bs → GivesValue (f bs))
       → LawfulRow (strict_row id 1 (Alike kind.Text) g i (one_text f))
   one_text_lawful f typed settled =
@@ -280,7 +280,7 @@ module _ (id : List ℕ) (g : Gives) (i : Bool) (named : get_or id 0 0 ≡ 115) 
 
   pub two_texts_lawful : (f : List ℕ → List ℕ → Outcome)
       → ((n : Bool) (bs cs : List ℕ) → IsUtf8 bs → IsUtf8 cs
-          → GivesType (with_nullability (given_type g (text_type n)) false) (f bs cs))
+      → GivesType (with_nullability (given_type g (text_type n)) false) (f bs cs))
       → ((bs cs : List ℕ) → i ≡ true → IsUtf8 bs → IsUtf8 cs → GivesValue (f bs cs))
       → LawfulRow (strict_row id 2 (Alike kind.Text) g i (two_texts f))
   two_texts_lawful f typed settled =

@@ -10,7 +10,8 @@ use Rattle.vortex_standard.specs.Casts.{truth_row, truth_lawful, nonzero_row, no
 use Rattle.vortex_standard.specs.Casts.{truth_word_row, truth_word_lawful}
 use Rattle.vortex_standard.specs.Coalesce.{coalesce_row, coalesce_lawful}
 use Rattle.vortex_standard.specs.Extremes.{extreme_row, extreme_lawful}
-use Rattle.vortex_standard.specs.MadeTexts.{concat_row, concat_lawful, int_text_row, int_text_lawful}
+use Rattle.vortex_standard.specs.MadeTexts.{concat_row, concat_lawful, int_text_row}
+use Rattle.vortex_standard.specs.MadeTexts.{int_text_lawful}
 use Rattle.vortex_standard.specs.MadeTexts.{letters_row, letters_lawful}
 use Rattle.vortex_standard.specs.NullIf.{nullif_row, nullif_lawful}
 use Rattle.vortex_standard.specs.Remainder.{remainder_row, remainder_lawful}

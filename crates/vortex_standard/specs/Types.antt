@@ -1,5 +1,6 @@
 -- Which types a function takes, and which it returns: data, so that no function proves it.
-use Rattle.std.specs.Prelude.{List, [], ◌∷◌, Option, Some, None, Bool, true, false, ◌&&◌, ◌||◌, ℤ, not}
+use Rattle.std.specs.Prelude.{List, [], ◌∷◌, Option, Some, None, Bool, true, false, ◌&&◌}
+use Rattle.std.specs.Prelude.{◌||◌, ℤ, not}
 use Rattle.std.specs.Prelude.{if◌then◌else◌}
 use Rattle.std.specs.List.{list_any, list_all}
 use Rattle.vortex_checked.specs.Exact.{is_outside}

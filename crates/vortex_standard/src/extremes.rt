@@ -41,7 +41,11 @@ fn farther<'a>(extreme: Extreme, a: Cell<'a>, b: Cell<'a>) -> Cell<'a>
     if is_null(&a) {
         return b;
     }
-    if is_farther(extreme, b.compare(&a)) { b } else { a }
+    if is_farther(extreme, b.compare(&a)) {
+        b
+    } else {
+        a
+    }
 }
 
 impl RowFn for Extreme {

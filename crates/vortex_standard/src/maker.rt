@@ -39,12 +39,7 @@ pub trait TextFn {
         ensures { result ≡ (about self.now).infallible };
 
     /// The text of one row, or none for null; or the row's fault.
-    fn make(
-        &self,
-        alloc: Global,
-        ptype: PType,
-        cells: &[Cell<'_>],
-    ) -> VortexResult<Option<String>>
+    fn make(&self, alloc: Global, ptype: PType, cells: &[Cell<'_>]) -> VortexResult<Option<String>>
         requires { All IsCell cells.now }
         ensures { MakesRow ((about self.now).of ptype (map cell_value cells.now)) result };
 

@@ -67,7 +67,8 @@ pub fn answer_row<'a, F: RowFn>(
     cells: &[Cell<'a>],
 ) -> VortexResult<Cell<'a>>
     requires { All IsCell cells.now }
-    ensures { AnswersRow (row_gives (F.about function.now) ptype (map cell_value cells.now)) result }
+    ensures { AnswersRow
+        (row_gives (F.about function.now) ptype (map cell_value cells.now)) result }
 {
     if is_null_row(function.is_strict(), cells) {
         return Ok(Cell::Null);

@@ -6,9 +6,9 @@ ghost use Rattle.vortex_types.specs.TypeOf.{type_of, allows_null};
 ghost use Rattle.vortex_types.specs.LogicalTypes.{is_nullable, integer_type};
 ghost use Rattle.vortex_types.specs.TypeEquality.{alike_types};
 ghost use Rattle.vortex_interface.specs.Functions.{IsTypeMismatch};
-ghost use Rattle.vortex_standard.specs.Types.{is_kind, all_alike, after_first, are_cases, are_taken};
-ghost use Rattle.vortex_standard.specs.Types.{given_type, nullable_by, type_by, ptype_in, main_type};
-ghost use Rattle.vortex_standard.specs.Types.{lacks_last};
+ghost use Rattle.vortex_standard.specs.Types.{is_kind, all_alike, after_first, are_cases};
+ghost use Rattle.vortex_standard.specs.Types.{are_taken, given_type, nullable_by, type_by};
+ghost use Rattle.vortex_standard.specs.Types.{ptype_in, main_type, lacks_last};
 ghost use Rattle.vortex_standard.specs.declared.types.Kind.TheVariants.{Any, Truth};
 
 use crate::ranges::has_all_of;

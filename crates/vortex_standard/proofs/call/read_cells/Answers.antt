@@ -1,5 +1,4 @@
 use Rattle.std.proofs.Common.{arith, refl}
-use Rattle.vortex_interface.specs.Outcomes.{values_at}
 use Rattle.vortex_standard.proofs.Rows.{one_more_cell, no_cells}
 use Rattle.vortex_standard.proofs.call.read_cells.Goals as goal
 

@@ -1,4 +1,4 @@
-use Rattle.std.proofs.Common.{refl, ap}
+use Rattle.std.proofs.Common.{ap}
 use Rattle.vortex_errors.specs.declared.error.VortexError.TheVariants.{Custom}
 use Rattle.vortex_interface.specs.Outcomes.{custom}
 use Rattle.vortex_standard.specs.Faults.{fault_number}

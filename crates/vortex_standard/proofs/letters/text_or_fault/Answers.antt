@@ -1,4 +1,4 @@
-use Rattle.std.proofs.Common.{◌≡◌, ◌≤◌, ◌<◌, length, ap, cond, arith, subst, sym}
+use Rattle.std.proofs.Common.{◌≤◌, ◌<◌, length, ap, cond, arith, subst}
 use Rattle.std.specs.Prelude.{string_bytes, IsUtf8}
 use Rattle.vortex_errors.specs.declared.error.VortexError.TheVariants.{Custom}
 use Rattle.vortex_types.specs.Values.{text}
@@ -18,7 +18,8 @@ returns-then-len-le4294967295 c =
 pub returns-else-len-le4294967295 : goal.returns-else-len-le4294967295
 returns-else-len-le4294967295 c =
     let bs = string_bytes c.args.text in
-    let large : 4294967295 < length bs = omega (arith, c.if-len-le4294967295.false, c.len.ensures) in
-    (custom (fault_number TextTooLong),
-    ap (λ b. cond b (gives (text bs)) (faults_by TextTooLong)) (has_none bs large),
-    ap Custom c.number.ensures)
+    let large : 4294967295 < length bs = omega (arith, c.if-len-le4294967295.false, c.len.ensures) in (
+      custom (fault_number TextTooLong),
+      ap (λ b. cond b (gives (text bs)) (faults_by TextTooLong)) (has_none bs large),
+      ap Custom c.number.ensures,
+    )

@@ -1,4 +1,4 @@
-use Rattle.std.proofs.Common.{◌≡◌, ap, ◌∙◌, sym, map, subst, length, Some, true}
+use Rattle.std.proofs.Common.{◌≡◌, ap, ◌∙◌, sym, map, subst, length}
 use Rattle.vortex_errors.proofs.Answering.{Answers-weaker}
 use Rattle.vortex_types.specs.TypeOf.{type_of}
 use Rattle.vortex_interface.specs.Outcomes.{HasCallRows, IsCallFault, types_in}
