@@ -1,0 +1,5 @@
+mod Columns
+mod MadeRows
+mod Maps
+mod Rows
+mod TextRoom

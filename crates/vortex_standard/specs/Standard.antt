@@ -1,0 +1,71 @@
+-- The list: a line of each function's row, and one of its laws.
+use Rattle.std.specs.Prelude.{codes}
+use Rattle.vortex_interface.specs.Meaning.{Meaning}
+use Rattle.vortex_standard.specs.declared.standard.Standard.{Standard}
+use Rattle.vortex_standard.specs.declared.standard.Standard.TheVariants as standard
+use Rattle.vortex_standard.specs.Abs.{abs_row, abs_lawful}
+use Rattle.vortex_standard.specs.Case.{case_row, case_lawful}
+use Rattle.vortex_standard.specs.Casts.{cast_row, cast_lawful, widen_row, widen_lawful}
+use Rattle.vortex_standard.specs.Casts.{truth_row, truth_lawful, nonzero_row, nonzero_lawful}
+use Rattle.vortex_standard.specs.Casts.{truth_word_row, truth_word_lawful}
+use Rattle.vortex_standard.specs.Coalesce.{coalesce_row, coalesce_lawful}
+use Rattle.vortex_standard.specs.Extremes.{extreme_row, extreme_lawful}
+use Rattle.vortex_standard.specs.MadeTexts.{concat_row, concat_lawful, int_text_row}
+use Rattle.vortex_standard.specs.MadeTexts.{int_text_lawful}
+use Rattle.vortex_standard.specs.MadeTexts.{letters_row, letters_lawful}
+use Rattle.vortex_standard.specs.NullIf.{nullif_row, nullif_lawful}
+use Rattle.vortex_standard.specs.Remainder.{remainder_row, remainder_lawful}
+use Rattle.vortex_standard.specs.Row.{Row, LawfulRow, row_type, row_means}
+use Rattle.vortex_standard.specs.Sign.{sign_row, sign_lawful}
+use Rattle.vortex_standard.specs.Texts.{begins_row, begins_lawful, measure_row, measure_lawful}
+
+abbrev pub row_of : Standard → Row
+row_of standard.Coalesce = coalesce_row
+row_of standard.NullIf = nullif_row
+row_of standard.Case = case_row
+row_of standard.Remainder = remainder_row
+row_of standard.Sign = sign_row
+row_of standard.Abs = abs_row
+row_of standard.IntToTruth = nonzero_row
+row_of standard.TruthToText = truth_word_row
+row_of standard.StartsWith = begins_row
+row_of standard.Concat = concat_row
+row_of standard.IntToText = int_text_row
+row_of (standard.Extreme x) = extreme_row x
+row_of (standard.Cast f) = cast_row f.ptype
+row_of (standard.Widen f) = widen_row f.ptype
+row_of (standard.TruthToInt f) = truth_row f.ptype
+row_of (standard.Measure m) = measure_row m
+row_of (standard.Letters l) = letters_row l
+
+pub lawful_of : (f : Standard) → LawfulRow (row_of f)
+lawful_of standard.Coalesce = coalesce_lawful
+lawful_of standard.NullIf = nullif_lawful
+lawful_of standard.Case = case_lawful
+lawful_of standard.Remainder = remainder_lawful
+lawful_of standard.Sign = sign_lawful
+lawful_of standard.Abs = abs_lawful
+lawful_of standard.IntToTruth = nonzero_lawful
+lawful_of standard.TruthToText = truth_word_lawful
+lawful_of standard.StartsWith = begins_lawful
+lawful_of standard.Concat = concat_lawful
+lawful_of standard.IntToText = int_text_lawful
+lawful_of (standard.Extreme x) = extreme_lawful x
+lawful_of (standard.Cast f) = cast_lawful f.ptype
+lawful_of (standard.Widen f) = widen_lawful f.ptype
+lawful_of (standard.TruthToInt f) = truth_lawful f.ptype
+lawful_of (standard.Measure m) = measure_lawful m
+lawful_of (standard.Letters l) = letters_lawful l
+
+-- What follows comes of the list.
+
+abbrev pub standard_meaning : {O : Type 0} → Meaning Standard O
+standard_meaning = record {
+  id = λ f. (row_of f).id;
+  arity = λ f o. (row_of f).arity;
+  child_name = λ f o i. codes "input";
+  means = λ f o ts vs. row_means (row_of f) ts vs;
+  return_type = λ f o ts. row_type (row_of f) ts;
+  strict = λ f o. (row_of f).strict;
+  infallible = λ f o. (row_of f).infallible;
+}
