@@ -100,6 +100,7 @@ fn no_types_are_taken_where_that_is_not_asked(rt: HostRuntime) {
         },
         ..plain
     };
+    let told = "expression: line 1, column 1: no column \"a\"; there are c1";
     assert!(rt; ends_so(rt, headless, "", 4, told));
 }
 

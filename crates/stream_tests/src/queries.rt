@@ -131,7 +131,7 @@ fn texts_that_are_refused_are_reported_by_their_place(rt: HostRuntime) {
             ("", "goods.csv", "", ""),
             "",
             4,
-            "expression: line 1, column 6: no word and no sign begins with \".\"",
+            "expression: line 1, column 6: found \".\"; write a name with dots in double quotes",
         ),
         (
             ("", "", "a > 1 b", "a\n1\n"),
