@@ -31,7 +31,9 @@ six : (a b c d e f : ℕ) → a < 10 → b < 10 → c < 10 → d < 10 → e < 10
     ≡ Some (((((a * 10 + b) * 10 + c) * 10 + d) * 10 + e) * 10 + f, [])
 six a b c d e f ha hb hc hd he hf =
     (λ i. if is_digit a ha i then fraction_from 6 0 ((48 + a) ∷ (48 + b) ∷ (48 + c) ∷ (48 + d) ∷ (48 + e) ∷ (48 + f) ∷ []) else None)
-    ∙ step 5 0 a ((48 + b) ∷ (48 + c) ∷ (48 + d) ∷ (48 + e) ∷ (48 + f) ∷ []) ha ∙ step 4 (0 * 10 + a) b ((48 + c) ∷ (48 + d) ∷ (48 + e) ∷ (48 + f) ∷ []) hb ∙ step 3 ((0 * 10 + a) * 10 + b) c ((48 + d) ∷ (48 + e) ∷ (48 + f) ∷ []) hc
+    ∙ step 5 0 a ((48 + b) ∷ (48 + c) ∷ (48 + d) ∷ (48 + e) ∷ (48 + f) ∷ []) ha
+    ∙ step 4 (0 * 10 + a) b ((48 + c) ∷ (48 + d) ∷ (48 + e) ∷ (48 + f) ∷ []) hb
+    ∙ step 3 ((0 * 10 + a) * 10 + b) c ((48 + d) ∷ (48 + e) ∷ (48 + f) ∷ []) hc
     ∙ step 2 (((0 * 10 + a) * 10 + b) * 10 + c) d ((48 + e) ∷ (48 + f) ∷ []) hd
     ∙ step 1 ((((0 * 10 + a) * 10 + b) * 10 + c) * 10 + d) e ((48 + f) ∷ []) he
     ∙ step 0 (((((0 * 10 + a) * 10 + b) * 10 + c) * 10 + d) * 10 + e) f [] hf
