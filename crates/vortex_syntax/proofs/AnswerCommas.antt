@@ -1,8 +1,8 @@
 -- A tree's tokens are within one part of a list: its commas are inside of brackets.
 use Rattle.std.specs.Prelude.{IfSome}
-use Rattle.std.proofs.Common.{◌≡◌, ℕ, zero, suc, ◌==◌, ◌+◌, ◌<◌, ◌≤◌, Bool, true, false, List, [], ◌∷◌, ◌++◌}
-use Rattle.std.proofs.Common.{length, map, get_or, take, drop, Option, Some, None, refl, ap, sym, subst}
-use Rattle.std.proofs.Common.{◌∙◌, append_assoc, arith}
+use Rattle.std.proofs.Common.{◌≡◌, ℕ, zero, suc, ◌==◌, ◌+◌, ◌<◌, ◌≤◌, Bool, true, false, List, []}
+use Rattle.std.proofs.Common.{◌∷◌, ◌++◌, length, map, get_or, take, drop, Option, Some, None, refl}
+use Rattle.std.proofs.Common.{ap, sym, subst, ◌∙◌, append_assoc, arith}
 use Rattle.std.specs.List.{onto_first}
 use Rattle.std.proofs.lemmas.Bool.{and_parts, eqb-true}
 use Rattle.std.proofs.lemmas.Bool.Decides.{nat_tests}
@@ -10,13 +10,16 @@ use Rattle.std.proofs.lemmas.List.{append-nil, map-append, map_more, take-append
 use Rattle.std.proofs.lemmas.List.{take_all}
 use Rattle.vortex_syntax.specs.declared.step.WrittenOperator.{WrittenOperator}
 use Rattle.vortex_syntax.specs.declared.step.WrittenOperator.TheVariants as operator
+use Rattle.vortex_syntax.specs.declared.step.Test.{Test}
+use Rattle.vortex_syntax.specs.declared.step.Test.TheVariants as test
 use Rattle.vortex_syntax.specs.declared.token.Sign.TheVariants as sign
 use Rattle.vortex_syntax.specs.Tokens.{Token, name, nullable, function, quoted, number, text, sign}
 use Rattle.vortex_syntax.specs.Syntax as tree
-use Rattle.vortex_syntax.specs.Syntax.{Syntax, Arguments}
-use Rattle.vortex_syntax.specs.Levels.{Fits, AllFit, is_operand}
+use Rattle.vortex_syntax.specs.Syntax.{Syntax, Arguments, Branches}
+use Rattle.vortex_syntax.specs.Levels.{Fits, AllFit, BranchesFit, is_operand}
 use Rattle.vortex_syntax.specs.Spelling.{spelling, all_spelled, operator_sign, type_token, with_not}
-use Rattle.vortex_syntax.specs.Spelling.{null_test, like_sign, escape_tokens}
+use Rattle.vortex_syntax.specs.Spelling.{is_tokens, test_sign, test_tokens, distinct_tokens}
+use Rattle.vortex_syntax.specs.Spelling.{in_tokens, like_sign, escape_tokens, branches_spelled}
 use Rattle.vortex_syntax.specs.AnswerLists.{Answer, is_name, name_tokens, SpellsAnswer}
 use Rattle.vortex_syntax.specs.AnswerParts.{is_comma, depth_behind, ends_answer, parts_from}
 use Rattle.vortex_syntax.specs.AnswerParts.{answer_parts}
@@ -85,20 +88,32 @@ operator_stays operator.Add d = first d d (sign sign.Plus) [] refl (passes_none 
 operator_stays operator.Sub d = first d d (sign sign.Minus) [] refl (passes_none d)
 operator_stays operator.Mul d = first d d (sign sign.Times) [] refl (passes_none d)
 operator_stays operator.Div d = first d d (sign sign.Divide) [] refl (passes_none d)
+operator_stays operator.Mod d = first d d (sign sign.Modulo) [] refl (passes_none d)
+operator_stays operator.Concat d = first d d (sign sign.Concat) [] refl (passes_none d)
 
 type_first : (d e : ℕ) (w : List ℕ) (n : Bool) (ts : List Token) → Passes d e ts
     → Passes d e (type_token w n ∷ ts)
 type_first d e w true ts p = first d e (nullable w) ts refl p
 type_first d e w false ts p = first d e (name w) ts refl p
 
-null_stays : (n : Bool) → Stays (null_test n)
-null_stays true d =
-    first d d (sign sign.Is) (sign sign.Not ∷ sign sign.Null ∷ []) refl
-    (first d d (sign sign.Not) (sign sign.Null ∷ []) refl
-    (first d d (sign sign.Null) [] refl (passes_none d)))
-null_stays false d =
-    first d d (sign sign.Is) (sign sign.Null ∷ []) refl
-    (first d d (sign sign.Null) [] refl (passes_none d))
+is_stays : (n : Bool) → Stays (is_tokens n)
+is_stays true d =
+    first d d (sign sign.Is) (sign sign.Not ∷ []) refl
+    (first d d (sign sign.Not) [] refl (passes_none d))
+is_stays false d = first d d (sign sign.Is) [] refl (passes_none d)
+
+test_stays : (k : Test) → Stays (sign (test_sign k) ∷ [])
+test_stays test.Null d = first d d (sign sign.Null) [] refl (passes_none d)
+test_stays test.True d = first d d (sign sign.True) [] refl (passes_none d)
+test_stays test.False d = first d d (sign sign.False) [] refl (passes_none d)
+test_stays test.Unknown d = first d d (sign sign.Unknown) [] refl (passes_none d)
+
+distinct_stays : (n : Bool) → Stays (distinct_tokens n)
+distinct_stays n d =
+    let last : List Token = sign sign.Distinct ∷ sign sign.From ∷ [] in
+    both d d d (is_tokens n) last (is_stays n d)
+    (first d d (sign sign.Distinct) (sign sign.From ∷ []) refl
+    (first d d (sign sign.From) [] refl (passes_none d)))
 
 between_stays : (n : Bool) → Stays (with_not n sign.Between)
 between_stays true d =
@@ -123,6 +138,22 @@ escape_stays (Some e) d =
     first d d (sign sign.Escape) (text e ∷ []) refl
     (first d d (text e) [] refl (passes_none d))
 
+in_opens : (n : Bool) (d : ℕ) → Passes d (suc d) (in_tokens n)
+in_opens true d =
+    first d (suc d) (sign sign.Not) (sign sign.In ∷ sign sign.Open ∷ []) refl
+    (first d (suc d) (sign sign.In) (sign sign.Open ∷ []) refl
+    (first d (suc d) (sign sign.Open) [] refl (passes_none (suc d))))
+in_opens false d =
+    first d (suc d) (sign sign.In) (sign sign.Open ∷ []) refl
+    (first d (suc d) (sign sign.Open) [] refl (passes_none (suc d)))
+
+-- `when`, a condition, `then` and what follows
+branch_stays : (d : ℕ) (ts us : List Token) → Passes d d ts → Passes d d us
+    → Passes d d (sign sign.When ∷ (ts ++ (sign sign.Then ∷ us)))
+branch_stays d ts us p q =
+    first d d (sign sign.When) (ts ++ (sign sign.Then ∷ us)) refl
+    (both d d d ts (sign sign.Then ∷ us) p (first d d (sign sign.Then) us refl q))
+
 inner : (d : ℕ) → (suc d == 0) ≡ false
 inner d = grind (arith, nat_tests)
 
@@ -132,6 +163,8 @@ mutual
   tree_stays (tree.negative ds) f d =
       first d d (sign sign.Minus) (number ds ∷ []) refl
       (first d d (number ds) [] refl (passes_none d))
+  tree_stays (tree.minus a) f d =
+      first d d (sign sign.Minus) (spelling a) refl (tree_stays a f.2 d)
   tree_stays (tree.typed a w n) f d =
       both d d d (spelling a) (sign sign.Typed ∷ type_token w n ∷ []) (tree_stays a f.1 d)
       (first d d (sign sign.Typed) (type_token w n ∷ []) refl
@@ -145,8 +178,12 @@ mutual
       both d d d (spelling a) (sign (operator_sign o) ∷ spelling b) (tree_stays a f.2 d)
       (both d d d (sign (operator_sign o) ∷ []) (spelling b) (operator_stays o d)
       (tree_stays b f.3 d))
-  tree_stays (tree.tested n a) f d =
-      both d d d (spelling a) (null_test n) (tree_stays a f.1 d) (null_stays n d)
+  tree_stays (tree.tested k n a) f d =
+      both d d d (spelling a) (test_tokens k n) (tree_stays a f.1 d)
+      (both d d d (is_tokens n) (sign (test_sign k) ∷ []) (is_stays n d) (test_stays k d))
+  tree_stays (tree.distinct n a b) f d =
+      both d d d (spelling a) (distinct_tokens n ++ spelling b) (tree_stays a f.2 d)
+      (both d d d (distinct_tokens n) (spelling b) (distinct_stays n d) (tree_stays b f.3 d))
   tree_stays (tree.between n a b c) f d =
       both d d d (spelling a)
       (with_not n sign.Between ++ (spelling b ++ (sign sign.And ∷ spelling c)))
@@ -160,6 +197,12 @@ mutual
       (both d d d (like_sign k) (spelling p ++ escape_tokens e)
       (like_stays k.negated k.case_insensitive d)
       (both d d d (spelling p) (escape_tokens e) (tree_stays p f.3 d) (escape_stays e d)))
+  tree_stays (tree.listed n a args b) f d =
+      let end : List Token = spelling b ++ (sign sign.Close ∷ []) in
+      both d d d (spelling a) (in_tokens n ++ (all_spelled args ++ end)) (tree_stays a f.1 d)
+      (both d (suc d) d (in_tokens n) (all_spelled args ++ end) (in_opens n d)
+      (both (suc d) (suc d) d (all_spelled args) end (all_stay args f.2 d)
+      (last (suc d) (suc d) (spelling b) (sign sign.Close) (tree_stays b f.3 (suc d)) refl)))
   tree_stays (tree.cast a w n) f d =
       let last : List Token = sign sign.As ∷ type_token w n ∷ sign sign.Close ∷ [] in
       first d d (sign sign.Cast) (sign sign.Open ∷ (spelling a ++ last)) refl
@@ -168,6 +211,21 @@ mutual
       (first (suc d) d (sign sign.As) (type_token w n ∷ sign sign.Close ∷ []) refl
       (type_first (suc d) d w n (sign sign.Close ∷ [])
       (first (suc d) d (sign sign.Close) [] refl (passes_none d))))))
+  tree_stays (tree.chosen bs c v) f d =
+      both d d d (branches_spelled bs)
+      (sign sign.When ∷ (spelling c ++ (sign sign.Then ∷ (spelling v ++ (sign sign.End ∷ [])))))
+      (branches_stay bs f.0 d)
+      (branch_stays d (spelling c) (spelling v ++ (sign sign.End ∷ [])) (tree_stays c f.1 d)
+      (last d d (spelling v) (sign sign.End) (tree_stays v f.2 d) refl))
+  tree_stays (tree.chosen_else bs c v e) f d =
+      let other : List Token = spelling e ++ (sign sign.End ∷ []) in
+      both d d d (branches_spelled bs)
+      (sign sign.When ∷ (spelling c ++ (sign sign.Then ∷ (spelling v ++ (sign sign.Else ∷ other)))))
+      (branches_stay bs f.0 d)
+      (branch_stays d (spelling c) (spelling v ++ (sign sign.Else ∷ other)) (tree_stays c f.1 d)
+      (both d d d (spelling v) (sign sign.Else ∷ other) (tree_stays v f.2 d)
+      (first d d (sign sign.Else) other refl
+      (last d d (spelling e) (sign sign.End) (tree_stays e f.3 d) refl))))
   tree_stays (tree.nullary w) f d =
       first d d (function w) (sign sign.Close ∷ []) refl
       (first (suc d) d (sign sign.Close) [] refl (passes_none d))
@@ -183,6 +241,15 @@ mutual
       both (suc d) (suc d) (suc d) (all_spelled args) (spelling a ++ (sign sign.Comma ∷ []))
       (all_stay args f.0 d)
       (last (suc d) (suc d) (spelling a) (sign sign.Comma) (tree_stays a f.1 (suc d)) (inner d))
+
+  branches_stay : (bs : Branches) → BranchesFit bs → Stays (branches_spelled bs)
+  branches_stay tree.without_operand f d = first d d (sign sign.Case) [] refl (passes_none d)
+  branches_stay (tree.of_operand a) f d =
+      first d d (sign sign.Case) (spelling a) refl (tree_stays a f d)
+  branches_stay (tree.branch bs c v) f d =
+      both d d d (branches_spelled bs)
+      (sign sign.When ∷ (spelling c ++ (sign sign.Then ∷ spelling v))) (branches_stay bs f.0 d)
+      (branch_stays d (spelling c) (spelling v) (tree_stays c f.1 d) (tree_stays v f.2 d))
 
 -- an answer
 name_stays : (n : Token) → is_name n ≡ true → Stays (n ∷ [])

@@ -1,7 +1,7 @@
 -- An answer's name: its last token, where `as` comes before it.
 use Rattle.std.proofs.Common.{◌≡◌, ◌&&◌, ◌++◌, ◌∷◌, [], Bool, true, cond, List, length, map}
-use Rattle.std.proofs.Common.{reverse, Option, Some, None, IfSome, refl, ap, sym, ◌∙◌, arith}
-use Rattle.std.proofs.Common.{◌≤◌, length-append}
+use Rattle.std.proofs.Common.{reverse, Option, Some, None, IfSome, refl, ap, sym, ◌∙◌, arith, ◌≤◌}
+use Rattle.std.proofs.Common.{length-append}
 use Rattle.std.proofs.lemmas.List.{append-nil, map-append, reverse-append, reverse-reverse}
 use Rattle.vortex_syntax.specs.declared.token.Sign.TheVariants as sign
 use Rattle.vortex_syntax.specs.declared.frame.Mode.TheVariants as mode

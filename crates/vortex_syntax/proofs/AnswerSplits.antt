@@ -1,10 +1,9 @@
 -- A list of answers is read answer by answer.
 use Rattle.std.proofs.Common.{◌≡◌, ℕ, ◌+◌, ◌-◌, ◌==◌, ◌&&◌, Bool, true, false, cond, List, [], ◌∷◌}
-use Rattle.std.proofs.Common.{◌++◌, length, map, take, drop, Option, Some, None}
-use Rattle.std.proofs.Common.{option_map, refl, ap, sym, ◌∙◌, append_assoc, arith}
+use Rattle.std.proofs.Common.{◌++◌, length, map, take, drop, Option, Some, None, option_map, refl}
+use Rattle.std.proofs.Common.{ap, sym, ◌∙◌, append_assoc, arith}
 use Rattle.std.specs.List.{onto_first}
-use Rattle.std.proofs.lemmas.List.{take_rest}
-use Rattle.std.proofs.lemmas.List.{drop-drop}
+use Rattle.std.proofs.lemmas.List.{take_rest, drop-drop}
 use Rattle.vortex_syntax.specs.declared.error.SyntaxError.{SyntaxError}
 use Rattle.vortex_syntax.specs.declared.error.SyntaxError.TheVariants.{OutOfMemory}
 use Rattle.vortex_syntax.specs.declared.token.Sign.TheVariants as sign
@@ -12,8 +11,8 @@ use Rattle.vortex_syntax.specs.Errors.{UnlessMemory}
 use Rattle.vortex_syntax.specs.Tokens.{Token, sign}
 use Rattle.vortex_syntax.specs.Lexing.{Lexes}
 use Rattle.vortex_syntax.specs.Nesting.{nests}
-use Rattle.vortex_syntax.specs.AnswerLists.{Answer}
-use Rattle.vortex_syntax.specs.AnswerLists.{SpellsAnswers, one, more, ReadsAnswers, Told, told}
+use Rattle.vortex_syntax.specs.AnswerLists.{Answer, SpellsAnswers, one, more, ReadsAnswers, Told}
+use Rattle.vortex_syntax.specs.AnswerLists.{told}
 use Rattle.vortex_syntax.specs.AnswerParts.{is_comma, depth_behind, parts_from, answer_parts}
 use Rattle.vortex_syntax.specs.AnswerParts.{answer_of, with_first, answers_of, all_answers}
 use Rattle.vortex_syntax.proofs.Lexed.{one_list}

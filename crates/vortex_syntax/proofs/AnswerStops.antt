@@ -1,11 +1,10 @@
 -- The token at which a list of answers stops.
-use Rattle.std.proofs.Common.{◌≡◌, ℕ, ◌+◌, ◌-◌, ◌≤◌, List, ◌∷◌, length, map, take, drop}
-use Rattle.std.proofs.Common.{Some, ap, sym, subst, ◌∙◌, arith, length-append}
-use Rattle.std.proofs.Common.{zero-add}
+use Rattle.std.proofs.Common.{◌≡◌, ℕ, ◌+◌, ◌-◌, ◌≤◌, List, ◌∷◌, length, map, take, drop, Some, ap}
+use Rattle.std.proofs.Common.{sym, subst, ◌∙◌, arith, length-append, zero-add}
 use Rattle.std.proofs.lemmas.List.{length-map, length-take-le}
 use Rattle.vortex_syntax.specs.declared.error.SyntaxError.{SyntaxError}
-use Rattle.vortex_syntax.specs.declared.error.SyntaxError.TheVariants.{NoToken, Unexpected}
-use Rattle.vortex_syntax.specs.declared.error.SyntaxError.TheVariants.{TooDeep, OutOfMemory}
+use Rattle.vortex_syntax.specs.declared.error.SyntaxError.TheVariants.{NoToken, Unexpected, TooDeep}
+use Rattle.vortex_syntax.specs.declared.error.SyntaxError.TheVariants.{OutOfMemory}
 use Rattle.vortex_syntax.specs.declared.places.TokenPlaces.{TokenPlaces}
 use Rattle.vortex_syntax.specs.declared.token.Sign.TheVariants as sign
 use Rattle.vortex_syntax.specs.Tokens.{Token, sign}

@@ -1,6 +1,5 @@
 -- A tree's tokens do not end with `as` and a token.
-use Rattle.std.proofs.Common.{◌≡◌, ◌++◌, ◌∷◌, [], List, Option, Some, None, refl, ap}
-use Rattle.std.proofs.Common.{sym, subst}
+use Rattle.std.proofs.Common.{◌≡◌, ◌++◌, ◌∷◌, [], List, Option, Some, None, refl, ap, sym, subst}
 use Rattle.std.specs.Option.{option_and_then}
 use Rattle.vortex_syntax.specs.declared.token.Sign.TheVariants as sign
 use Rattle.vortex_syntax.specs.Frames.{Frame}

@@ -5,20 +5,20 @@ use Rattle.std.proofs.lemmas.List.{append-nil}
 use Rattle.std.proofs.lemmas.Bool.Decides.{nat_tests}
 use Rattle.vortex_syntax.specs.declared.step.LikeKind.{LikeKind}
 use Rattle.vortex_syntax.specs.declared.token.Sign.TheVariants as sign
-use Rattle.vortex_syntax.specs.Frames.{Frame}
+use Rattle.vortex_syntax.specs.Frames.{Frame, top_hole, top_ceiling, whole}
 use Rattle.vortex_syntax.specs.Frames as frame
 use Rattle.vortex_syntax.specs.declared.frame.Mode.{Mode}
 use Rattle.vortex_syntax.specs.declared.frame.Mode.TheVariants as mode
 use Rattle.vortex_syntax.specs.Tokens.{Token, sign}
 use Rattle.vortex_syntax.specs.Syntax.{Syntax, Arguments}
-use Rattle.vortex_syntax.specs.Levels.{level, Fits}
-use Rattle.vortex_syntax.specs.Spelling.{spelling, type_token, like_sign}
+use Rattle.vortex_syntax.specs.Levels.{level, Fits, distinct_level, is_level, predicate_level}
+use Rattle.vortex_syntax.specs.Levels.{concat_level, literal_level}
+use Rattle.vortex_syntax.specs.Spelling.{spelling, type_token, with_not, is_tokens, like_sign}
 use Rattle.vortex_syntax.specs.Postfix.{Step, cast, argument_count, postfix}
-use Rattle.vortex_syntax.specs.Reading.{State, top_hole, whole, Operand, settled}
-use Rattle.vortex_syntax.proofs.Held.{Held, opened, casting, negating, joining, lower, upper}
-use Rattle.vortex_syntax.proofs.Held.{matching, calling, frame_of, written, held, IsSound}
-use Rattle.vortex_syntax.proofs.Held.{frames_of}
-use Rattle.vortex_syntax.proofs.Held.{all_written, all_held, Nested, Settles, settled_sound}
+use Rattle.vortex_syntax.specs.Reading.{State, Operand, settled}
+use Rattle.vortex_syntax.proofs.Held.{Held, opened, casting, lower, matching, calling, listing}
+use Rattle.vortex_syntax.proofs.Held.{frame_of, written, held, IsSound, frames_of, all_written}
+use Rattle.vortex_syntax.proofs.Held.{all_held, Nested, Settles, settled_sound}
 
 -- what was read before: pending frames, then these steps and tokens
 pub record Behind (fs : List Frame) (out : List Step) (before : List Token) (xs : List Step)
@@ -121,50 +121,26 @@ popped f fs out before xs ts b =
 
 pub open_is : (h : Held) → frame.Open ≡ frame_of h → h ≡ opened
 open_is opened e = refl
-open_is casting e = absurd cc
-open_is negating e = absurd cc
-open_is (joining o a) e = absurd cc
-open_is (lower n a) e = absurd cc
-open_is (upper n a b) e = absurd cc
-open_is (matching k a) e = absurd cc
-open_is (calling w args) e = absurd cc
+open_is h e = absurd cc
 
 pub cast_is : (h : Held) → frame.Cast ≡ frame_of h → h ≡ casting
-cast_is opened e = absurd cc
 cast_is casting e = refl
-cast_is negating e = absurd cc
-cast_is (joining o a) e = absurd cc
-cast_is (lower n a) e = absurd cc
-cast_is (upper n a b) e = absurd cc
-cast_is (matching k a) e = absurd cc
-cast_is (calling w args) e = absurd cc
+cast_is h e = absurd cc
 
 pub lower_mark : (n m : Bool) → frame.Between n ≡ frame.Between m → n ≡ m
 lower_mark n m e = cc
 
 pub lower_is : (n : Bool) (h : Held) → frame.Between n ≡ frame_of h → (a : Syntax) × (h ≡ lower n a)
-lower_is n opened e = absurd cc
-lower_is n casting e = absurd cc
-lower_is n negating e = absurd cc
-lower_is n (joining o a) e = absurd cc
 lower_is n (lower m a) e = (a, ap (λ v. lower v a) (sym (lower_mark n m e)))
-lower_is n (upper m a b) e = absurd cc
-lower_is n (matching k a) e = absurd cc
-lower_is n (calling w args) e = absurd cc
+lower_is n h e = absurd cc
 
 pub like_mark : (k j : LikeKind) → frame.Like k ≡ frame.Like j → k ≡ j
 like_mark k j e = cc
 
 pub like_is : (k : LikeKind) (h : Held) → frame.Like k ≡ frame_of h
     → (a : Syntax) × (h ≡ matching k a)
-like_is k opened e = absurd cc
-like_is k casting e = absurd cc
-like_is k negating e = absurd cc
-like_is k (joining o a) e = absurd cc
-like_is k (lower m a) e = absurd cc
-like_is k (upper m a b) e = absurd cc
 like_is k (matching j a) e = (a, ap (λ v. matching v a) (sym (like_mark k j e)))
-like_is k (calling w args) e = absurd cc
+like_is k h e = absurd cc
 
 pub called_name : (w v : List ℕ) (n m : ℕ) → frame.Arguments w n ≡ frame.Arguments v m → w ≡ v
 called_name w v n m e = cc
@@ -174,18 +150,28 @@ called_count w v n m e = cc
 
 pub call_is : (w : List ℕ) (n : ℕ) (h : Held) → frame.Arguments w n ≡ frame_of h
     → (args : Arguments) × (h ≡ calling w args) × (n ≡ argument_count args)
-call_is w n opened e = absurd cc
-call_is w n casting e = absurd cc
-call_is w n negating e = absurd cc
-call_is w n (joining o a) e = absurd cc
-call_is w n (lower m a) e = absurd cc
-call_is w n (upper m a b) e = absurd cc
-call_is w n (matching k a) e = absurd cc
 call_is w n (calling v args) e = (
   args,
   ap (λ u. calling u args) (sym (called_name w v n (argument_count args) e)),
   called_count w v n (argument_count args) e,
 )
+call_is w n h e = absurd cc
+
+pub item_mark : (n m : Bool) (k i : ℕ) → frame.Items n k ≡ frame.Items m i → n ≡ m
+item_mark n m k i e = cc
+
+pub item_count : (n m : Bool) (k i : ℕ) → frame.Items n k ≡ frame.Items m i → k ≡ i
+item_count n m k i e = cc
+
+pub items_are : (n : Bool) (k : ℕ) (h : Held) → frame.Items n k ≡ frame_of h
+    → (a : Syntax) × (args : Arguments) × (h ≡ listing n a args) × (k ≡ argument_count args)
+items_are n k (listing m a args) e = (
+  a,
+  args,
+  ap (λ v. listing v a args) (sym (item_mark n m k (argument_count args) e)),
+  item_count n m k (argument_count args) e,
+)
+items_are n k h e = absurd cc
 
 -- an operand after pending frames, then these tokens
 pub record HasOperand (l : ℕ) (fs : List Frame) (out : List Step)
@@ -194,6 +180,7 @@ pub record HasOperand (l : ℕ) (fs : List Frame) (out : List Step)
   pub fits : Fits tree
   pub level : l ≡ level tree
   pub place : top_hole fs ≤ l
+  pub under : l ≤ top_ceiling fs
   pub behind : Behind fs out before (postfix tree) (spelling tree ++ ts)
 
 pub settled_operand : (p l : ℕ) (fs : List Frame) (out : List Step) (before ts : List Token)
@@ -210,12 +197,15 @@ settled_operand p l fs out before ts a =
     subst (λ (v : Operand). Settles v (all_written b.hs ++ spelling a.tree)) (sym canonical)
     (settled_sound p b.hs a.tree b.nested a.fits
     (subst (λ (m : ℕ). top_hole (frames_of b.hs) ≤ m) a.level
-    (subst (λ (gs : List Frame). top_hole gs ≤ l) b.frames a.place))) in
+    (subst (λ (gs : List Frame). top_hole gs ≤ l) b.frames a.place))
+    (subst (λ (m : ℕ). m ≤ top_ceiling (frames_of b.hs)) a.level
+    (subst (λ (gs : List Frame). l ≤ top_ceiling gs) b.frames a.under))) in
     record {
       tree = s.tree;
       fits = s.fits;
       level = s.level;
       place = s.place;
+      under = s.under;
       behind = record {
         hs = s.hs;
         frames = s.frames;
@@ -234,14 +224,18 @@ Holds mode.Want fs out before = Behind fs out before [] []
 Holds mode.Signed fs out before = Behind fs out before [] (sign sign.Minus ∷ [])
 Holds (mode.Have l) fs out before = HasOperand l fs out before []
 Holds mode.Typing fs out before = (l : ℕ) × HasOperand l fs out before (sign sign.Typed ∷ [])
-    × (9 ≤ l)
-Holds mode.Is fs out before = (l : ℕ) × HasOperand l fs out before (sign sign.Is ∷ []) × (3 ≤ l)
-    × (top_hole fs ≤ 3)
-Holds mode.IsNot fs out before =
-    (l : ℕ) × HasOperand l fs out before (sign sign.Is ∷ sign sign.Not ∷ []) × (3 ≤ l)
-    × (top_hole fs ≤ 3)
+    × (literal_level ≤ l)
+Holds (mode.Is n) fs out before =
+    (l : ℕ) × HasOperand l fs out before (is_tokens n) × (is_level ≤ l) × (top_hole fs ≤ is_level)
+Holds (mode.Distinct n) fs out before =
+    (l : ℕ) × HasOperand l fs out before (is_tokens n ++ (sign sign.Distinct ∷ []))
+    × (is_level ≤ l) × (top_hole fs ≤ distinct_level)
+Holds (mode.Listing n) fs out before =
+    (l : ℕ) × HasOperand l fs out before (with_not n sign.In) × (concat_level ≤ l)
+    × (top_hole fs ≤ predicate_level)
 Holds (mode.Negating l) fs out before =
-    HasOperand l fs out before (sign sign.Not ∷ []) × (6 ≤ l) × (top_hole fs ≤ 5)
+    HasOperand l fs out before (sign sign.Not ∷ []) × (concat_level ≤ l)
+    × (top_hole fs ≤ predicate_level)
 Holds mode.Casting fs out before = Behind fs out before [] (sign sign.Cast ∷ [])
 Holds mode.CastType fs out before =
     (a : Syntax) × Fits a × Behind fs out before (postfix a)
@@ -251,8 +245,9 @@ Holds mode.CastEnd fs out before =
     × Behind fs out before (postfix a ++ (cast w n ∷ []))
     (sign sign.Cast ∷ sign sign.Open ∷ (spelling a ++ (sign sign.As ∷ type_token w n ∷ [])))
 Holds (mode.Escaping k) fs out before =
-    (a : Syntax) × (p : Syntax) × (6 ≤ level a) × (6 ≤ level p) × Fits a × Fits p
-    × (top_hole fs ≤ 5)
+    (a : Syntax) × (p : Syntax) × (concat_level ≤ level a) × (concat_level ≤ level p) × Fits a
+    × Fits p
+    × (top_hole fs ≤ predicate_level)
     × Behind fs out before (postfix a ++ postfix p)
     (spelling a ++ (like_sign k ++ (spelling p ++ (sign sign.Escape ∷ []))))
 
@@ -287,6 +282,7 @@ operand_more l fs out before ts us a = record {
   fits = a.fits;
   level = a.level;
   place = a.place;
+  under = a.under;
   behind = as_tokens fs out (before ++ us) (postfix a.tree) ((spelling a.tree ++ ts) ++ us)
       (spelling a.tree ++ (ts ++ us)) (append_assoc (spelling a.tree) ts us)
       (more_tokens fs out before (postfix a.tree) (spelling a.tree ++ ts) us a.behind);
@@ -294,13 +290,15 @@ operand_more l fs out before ts us a = record {
 
 -- a complete operand
 pub operand_is : (t : Syntax) (fs : List Frame) (out : List Step) (before : List Token) → Fits t
-    → top_hole fs ≤ level t → Behind fs out before (postfix t) (spelling t)
+    → top_hole fs ≤ level t → level t ≤ top_ceiling fs
+    → Behind fs out before (postfix t) (spelling t)
     → HasOperand (level t) fs out before []
-operand_is t fs out before f place b = record {
+operand_is t fs out before f place under b = record {
   tree = t;
   fits = f;
   level = refl;
   place = place;
+  under = under;
   behind = as_tokens fs out before (postfix t) (spelling t) (spelling t ++ [])
       (sym (append-nil (spelling t))) b;
 }

@@ -1,5 +1,5 @@
 -- Frames with their operands.
-use Rattle.std.proofs.Common.{◌≡◌, ℕ, ◌<◌, ◌≤◌, Bool, true, false, nat_lt, cond, List, [], ◌∷◌}
+use Rattle.std.proofs.Common.{◌≡◌, ℕ, suc, ◌<◌, ◌≤◌, Bool, true, false, nat_lt, cond, List, [], ◌∷◌}
 use Rattle.std.proofs.Common.{◌++◌, None, refl, ap, sym, subst, ◌∙◌, append_assoc, arith}
 use Rattle.std.proofs.lemmas.List.{append-nil}
 use Rattle.std.proofs.lemmas.Bool.Decides.{nat_tests}
@@ -7,67 +7,110 @@ use Rattle.vortex_syntax.specs.declared.step.WrittenOperator.{WrittenOperator}
 use Rattle.vortex_syntax.specs.declared.step.LikeKind.{LikeKind}
 use Rattle.vortex_syntax.specs.declared.step.Call.TheVariants as call
 use Rattle.vortex_syntax.specs.declared.token.Sign.TheVariants as sign
-use Rattle.vortex_syntax.specs.Frames.{Frame}
+use Rattle.vortex_syntax.specs.declared.frame.CasePart.TheVariants as part
+use Rattle.vortex_syntax.specs.Frames.{Frame, hole, top_hole, ceiling, top_ceiling, guard, whole}
+use Rattle.vortex_syntax.specs.Frames.{closing}
 use Rattle.vortex_syntax.specs.Frames as frame
 use Rattle.vortex_syntax.specs.Tokens.{Token, function, sign}
 use Rattle.vortex_syntax.specs.Syntax as tree
-use Rattle.vortex_syntax.specs.Syntax.{Syntax, Arguments}
-use Rattle.vortex_syntax.specs.Levels.{left, level, Fits, AllFit}
-use Rattle.vortex_syntax.specs.Spelling.{spelling, all_spelled, operator_sign, with_not, like_sign}
-use Rattle.vortex_syntax.specs.Postfix.{Step, called, argument_count, postfix, all_postfix}
-use Rattle.vortex_syntax.specs.Reading.{hole, top_hole, guard, whole, closing, Operand, operand_of}
-use Rattle.vortex_syntax.specs.Reading.{settled}
+use Rattle.vortex_syntax.specs.Syntax.{Syntax, Arguments, Branches}
+use Rattle.vortex_syntax.specs.Levels.{left, level, Fits, AllFit, BranchesFit, is_level}
+use Rattle.vortex_syntax.specs.Levels.{concat_level}
+use Rattle.vortex_syntax.specs.Spelling.{spelling, all_spelled, operator_sign, with_not}
+use Rattle.vortex_syntax.specs.Spelling.{distinct_tokens, in_tokens, like_sign, branches_spelled}
+use Rattle.vortex_syntax.specs.Postfix.{Step, called, argument_count, has_operand, branch_count}
+use Rattle.vortex_syntax.specs.Postfix.{postfix, all_postfix, branches_postfix}
+use Rattle.vortex_syntax.specs.Reading.{Operand, operand_of, settled}
+use Rattle.vortex_syntax.proofs.Tables.{whole_atom, atom_ceiling}
 
 pub data Held : Type 0 where
   opened : Held
   casting : Held
   negating : Held
+  minusing : Held
   joining : WrittenOperator → Syntax → Held
+  distinguishing : Bool → Syntax → Held
   lower : Bool → Syntax → Held
   upper : Bool → Syntax → Syntax → Held
   matching : LikeKind → Syntax → Held
   calling : List ℕ → Arguments → Held
+  listing : Bool → Syntax → Arguments → Held
+  choosing : Held
+  asking : Branches → Held
+  answering : Branches → Syntax → Held
+  defaulting : Branches → Syntax → Syntax → Held
 
 abbrev pub frame_of : Held → Frame
 frame_of opened = frame.Open
 frame_of casting = frame.Cast
 frame_of negating = frame.Not
+frame_of minusing = frame.Minus
 frame_of (joining o a) = frame.Join o
+frame_of (distinguishing n a) = frame.Distinct n
 frame_of (lower n a) = frame.Between n
 frame_of (upper n a b) = frame.Bounded n
 frame_of (matching k a) = frame.Like k
 frame_of (calling w args) = frame.Arguments w (argument_count args)
+frame_of (listing n a args) = frame.Items n (argument_count args)
+frame_of choosing = frame.Case part.Operand false 0
+frame_of (asking bs) = frame.Case part.When (has_operand bs) (branch_count bs)
+frame_of (answering bs c) = frame.Case part.Then (has_operand bs) (branch_count bs)
+frame_of (defaulting bs c v) = frame.Case part.Else (has_operand bs) (suc (branch_count bs))
 
 abbrev pub written : Held → List Token
 written opened = sign sign.Open ∷ []
 written casting = sign sign.Cast ∷ sign sign.Open ∷ []
 written negating = sign sign.Not ∷ []
+written minusing = sign sign.Minus ∷ []
 written (joining o a) = spelling a ++ (sign (operator_sign o) ∷ [])
+written (distinguishing n a) = spelling a ++ distinct_tokens n
 written (lower n a) = spelling a ++ with_not n sign.Between
 written (upper n a b) =
     spelling a ++ (with_not n sign.Between ++ (spelling b ++ (sign sign.And ∷ [])))
 written (matching k a) = spelling a ++ like_sign k
 written (calling w args) = function w ∷ all_spelled args
+written (listing n a args) = spelling a ++ (in_tokens n ++ all_spelled args)
+written choosing = sign sign.Case ∷ []
+written (asking bs) = branches_spelled bs ++ (sign sign.When ∷ [])
+written (answering bs c) =
+    branches_spelled bs ++ (sign sign.When ∷ (spelling c ++ (sign sign.Then ∷ [])))
+written (defaulting bs c v) =
+    branches_spelled bs
+    ++ (sign sign.When ∷ (spelling c ++ (sign sign.Then ∷ (spelling v ++ (sign sign.Else ∷ [])))))
 
 abbrev pub held : Held → List Step
 held opened = []
 held casting = []
 held negating = []
+held minusing = []
 held (joining o a) = postfix a
+held (distinguishing n a) = postfix a
 held (lower n a) = postfix a
 held (upper n a b) = postfix a ++ postfix b
 held (matching k a) = postfix a
 held (calling w args) = all_postfix args
+held (listing n a args) = postfix a ++ all_postfix args
+held choosing = []
+held (asking bs) = branches_postfix bs
+held (answering bs c) = branches_postfix bs ++ postfix c
+held (defaulting bs c v) = (branches_postfix bs ++ postfix c) ++ postfix v
 
 abbrev pub IsSound : Held → Type 0
 IsSound opened = Unit {0}
 IsSound casting = Unit {0}
 IsSound negating = Unit {0}
+IsSound minusing = Unit {0}
 IsSound (joining o a) = (left o ≤ level a) × Fits a
-IsSound (lower n a) = (6 ≤ level a) × Fits a
-IsSound (upper n a b) = (6 ≤ level a) × (6 ≤ level b) × Fits a × Fits b
-IsSound (matching k a) = (6 ≤ level a) × Fits a
+IsSound (distinguishing n a) = (is_level ≤ level a) × Fits a
+IsSound (lower n a) = (concat_level ≤ level a) × Fits a
+IsSound (upper n a b) = (concat_level ≤ level a) × (concat_level ≤ level b) × Fits a × Fits b
+IsSound (matching k a) = (concat_level ≤ level a) × Fits a
 IsSound (calling w args) = AllFit args
+IsSound (listing n a args) = (concat_level ≤ level a) × Fits a × AllFit args
+IsSound choosing = Unit {0}
+IsSound (asking bs) = BranchesFit bs
+IsSound (answering bs c) = BranchesFit bs × Fits c
+IsSound (defaulting bs c v) = BranchesFit bs × Fits c × Fits v
 
 abbrev pub frames_of : List Held → List Frame
 frames_of [] = []
@@ -94,20 +137,29 @@ pub record Plugged (h : Held) (e : Syntax) : Type 0 where
   pub tokens : written h ++ spelling e ≡ spelling tree
 
 pub plugged : (h : Held) (e : Syntax) → 0 < guard (frame_of h) → IsSound h → Fits e
-    → hole (frame_of h) ≤ level e → Plugged h e
-plugged opened e g s f le = absurd (let k : ⊥ = omega (arith, g) in k)
-plugged casting e g s f le = absurd (let k : ⊥ = omega (arith, g) in k)
-plugged negating e g s f le =
+    → hole (frame_of h) ≤ level e → level e ≤ ceiling (frame_of h) → Plugged h e
+plugged opened e g s f le under = absurd (let k : ⊥ = omega (arith, g) in k)
+plugged casting e g s f le under = absurd (let k : ⊥ = omega (arith, g) in k)
+plugged negating e g s f le under =
     record { tree = tree.negated e; fits = (le, f); level = refl; steps = refl; tokens = refl }
-plugged (joining o a) e g s f le = record {
+plugged minusing e g s f le under =
+    record { tree = tree.minus e; fits = (le, under, f); level = refl; steps = refl; tokens = refl }
+plugged (joining o a) e g s f le under = record {
   tree = tree.joined o a e;
   fits = (s.0, le, s.1, f);
   level = refl;
   steps = refl;
   tokens = append_assoc (spelling a) (sign (operator_sign o) ∷ []) (spelling e);
 }
-plugged (lower n a) e g s f le = absurd (let k : ⊥ = omega (arith, g) in k)
-plugged (upper n a b) e g s f le = record {
+plugged (distinguishing n a) e g s f le under = record {
+  tree = tree.distinct n a e;
+  fits = (s.0, le, s.1, f);
+  level = refl;
+  steps = refl;
+  tokens = append_assoc (spelling a) (distinct_tokens n) (spelling e);
+}
+plugged (lower n a) e g s f le under = absurd (let k : ⊥ = omega (arith, g) in k)
+plugged (upper n a b) e g s f le under = record {
   tree = tree.between n a b e;
   fits = (s.0, s.1, le, s.2, s.3, f);
   level = refl;
@@ -120,7 +172,7 @@ plugged (upper n a b) e g s f le = record {
       ∙ ap (λ ts. spelling a ++ (with_not n sign.Between ++ ts))
       (append_assoc (spelling b) (sign sign.And ∷ []) (spelling e));
 }
-plugged (matching k a) e g s f le = record {
+plugged (matching k a) e g s f le under = record {
   tree = tree.matched k a e None;
   fits = (s.0, le, s.1, f);
   level = refl;
@@ -128,7 +180,12 @@ plugged (matching k a) e g s f le = record {
   tokens = append_assoc (spelling a) (like_sign k) (spelling e)
       ∙ ap (λ ts. spelling a ++ (like_sign k ++ ts)) (sym (append-nil (spelling e)));
 }
-plugged (calling w args) e g s f le = absurd (let k : ⊥ = omega (arith, g) in k)
+plugged (calling w args) e g s f le under = absurd (let k : ⊥ = omega (arith, g) in k)
+plugged (listing n a args) e g s f le under = absurd (let k : ⊥ = omega (arith, g) in k)
+plugged choosing e g s f le under = absurd (let k : ⊥ = omega (arith, g) in k)
+plugged (asking bs) e g s f le under = absurd (let k : ⊥ = omega (arith, g) in k)
+plugged (answering bs c) e g s f le under = absurd (let k : ⊥ = omega (arith, g) in k)
+plugged (defaulting bs c v) e g s f le under = absurd (let k : ⊥ = omega (arith, g) in k)
 
 -- an operand after the pending frames
 pub record Settles (a : Operand) (ts : List Token) : Type 0 where
@@ -141,6 +198,7 @@ pub record Settles (a : Operand) (ts : List Token) : Type 0 where
   pub nested : Nested hs
   pub fits : Fits tree
   pub place : top_hole a.frames ≤ a.level
+  pub under : a.level ≤ top_ceiling a.frames
 
 abbrev settled_if : Bool → ℕ → ℕ → Frame → List Frame → List Step → Operand
 settled_if b p l f fs out =
@@ -175,15 +233,16 @@ closed_sound p h hs e r s =
 
 either_sound : (p : ℕ) (h : Held) (hs : List Held) (e : Syntax) (b : Bool)
     → nat_lt p (guard (frame_of h)) ≡ b → Nested (h ∷ hs) → Fits e → hole (frame_of h) ≤ level e
+    → level e ≤ ceiling (frame_of h)
     → ((r : Plugged h e)
     → Settles (settled p (level r.tree) (frames_of hs) (all_held hs ++ postfix r.tree))
     (all_written hs ++ spelling r.tree))
     → Settles (settled_if b p (level e) (frame_of h) (frames_of hs)
     (all_held (h ∷ hs) ++ postfix e)) (all_written (h ∷ hs) ++ spelling e)
-either_sound p h hs e true k nested fits place below =
-    let r = plugged h e (is_below p (guard (frame_of h)) k) nested.0 fits place in
+either_sound p h hs e true k nested fits place under below =
+    let r = plugged h e (is_below p (guard (frame_of h)) k) nested.0 fits place under in
     closed_sound p h hs e r (below r)
-either_sound p h hs e false k nested fits place below = record {
+either_sound p h hs e false k nested fits place under below = record {
   hs = h ∷ hs;
   tree = e;
   frames = refl;
@@ -193,14 +252,15 @@ either_sound p h hs e false k nested fits place below = record {
   nested = nested;
   fits = fits;
   place = place;
+  under = under;
 }
 
 pub settled_sound : (p : ℕ) (hs : List Held) (e : Syntax) → Nested hs → Fits e
-    → top_hole (frames_of hs) ≤ level e
+    → top_hole (frames_of hs) ≤ level e → level e ≤ top_ceiling (frames_of hs)
     → Settles (settled p (level e) (frames_of hs) (all_held hs ++ postfix e))
     (all_written hs ++ spelling e)
 unfolding settled
-settled_sound p [] e nested fits place =
+settled_sound p [] e nested fits place under =
     record {
       hs = [];
       tree = e;
@@ -212,8 +272,11 @@ settled_sound p [] e nested fits place =
           tt;
       fits = fits;
       place = place;
+      under = under;
     }
-settled_sound p (h ∷ hs) e nested fits place =
-    either_sound p h hs e (nat_lt p (guard (frame_of h))) refl nested fits place
+settled_sound p (h ∷ hs) e nested fits place under =
+    either_sound p h hs e (nat_lt p (guard (frame_of h))) refl nested fits place under
     (λ r. settled_sound p hs r.tree nested.2 r.fits
-    (let k : top_hole (frames_of hs) ≤ level r.tree = omega (arith, nested.1, r.level) in k))
+    (let k : top_hole (frames_of hs) ≤ level r.tree = omega (arith, nested.1, r.level) in k)
+    (let k : level r.tree ≤ top_ceiling (frames_of hs) =
+    omega (arith, r.level, whole_atom (frame_of h), atom_ceiling (frames_of hs)) in k))

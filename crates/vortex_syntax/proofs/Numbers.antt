@@ -1,7 +1,7 @@
 -- Numbers: digits, a point and digits, and an exponent.
-use Rattle.std.proofs.Common.{◌≡◌, ℕ, ◌-◌, ◌<◌, Bool, true, false, cond, ◌==◌, ◌||◌}
-use Rattle.std.proofs.Common.{List, [], ◌∷◌, ◌++◌, length, take, refl, ap, sym, ◌∙◌, append_assoc}
-use Rattle.std.proofs.Common.{arith, length-append}
+use Rattle.std.proofs.Common.{◌≡◌, ℕ, ◌-◌, ◌<◌, Bool, true, false, cond, ◌==◌, ◌||◌, List, [], ◌∷◌}
+use Rattle.std.proofs.Common.{◌++◌, length, take, refl, ap, sym, ◌∙◌, append_assoc, arith}
+use Rattle.std.proofs.Common.{length-append}
 use Rattle.std.specs.Char.{is_ascii_digit}
 use Rattle.std.proofs.Math.Seq.{take-append_seam}
 use Rattle.std.proofs.lemmas.List.{append-nil}
@@ -56,6 +56,12 @@ digit_no_word b h = grind (arith, nat_tests)
 
 point_no_word : (b : ℕ) → (b == 46) ≡ true → begins_word b ≡ false
 point_no_word b h = grind (arith, nat_tests)
+
+pub digit_no_slash : (b : ℕ) → is_ascii_digit b ≡ true → (b == 47) ≡ false
+digit_no_slash b h = grind (arith, nat_tests)
+
+pub point_no_slash : (b : ℕ) → (b == 46) ≡ true → (b == 47) ≡ false
+point_no_slash b h = grind (arith, nat_tests)
 
 -- the front of a fraction, of a sign, and of an exponent
 abbrev front_fraction : List ℕ → List ℕ
@@ -277,11 +283,14 @@ number_begun (b ∷ bs) rest h = begun_if b bs rest (b == 46) h
 pub record Begins (b : ℕ) : Type 0 where
   pub high : 45 < b
   pub no_word : begins_word b ≡ false
+  pub no_slash : (b == 47) ≡ false
 
 first_if : (b : ℕ) (bs : List ℕ) (v : Bool) → (b == 46) ≡ v
     → cond v (begins_digits bs) (is_ascii_digit b) ≡ true → Begins b
-first_if b bs true h k = record { high = point_high b h; no_word = point_no_word b h }
-first_if b bs false h k = record { high = digit_high b k; no_word = digit_no_word b k }
+first_if b bs true h k =
+    record { high = point_high b h; no_word = point_no_word b h; no_slash = point_no_slash b h }
+first_if b bs false h k =
+    record { high = digit_high b k; no_word = digit_no_word b k; no_slash = digit_no_slash b k }
 
 pub first_byte : (b : ℕ) (bs : List ℕ) → begins_number (b ∷ bs) ≡ true → Begins b
 first_byte b bs h = first_if b bs (b == 46) refl h

@@ -1,34 +1,36 @@
 -- What the other tokens do to what was read.
-use Rattle.std.proofs.Common.{◌≡◌, ℕ, zero, suc, ◌≤◌, Bool, true, false, nat_le, cond, List, [], ◌∷◌, ◌++◌}
-use Rattle.std.proofs.Common.{Some, None, refl, ap, subst, ◌∙◌, append_assoc, arith, lit≤}
+use Rattle.std.proofs.Common.{◌≡◌, ℕ, zero, ◌≤◌, Bool, true, false, nat_le, cond, List, [], ◌∷◌}
+use Rattle.std.proofs.Common.{◌++◌, Some, None, refl, ap, subst, ◌∙◌, append_assoc, arith, lit≤}
+use Rattle.vortex_syntax.specs.declared.step.Test.{Test}
+use Rattle.vortex_syntax.specs.declared.step.Test.TheVariants as test
 use Rattle.vortex_syntax.specs.declared.step.LikeKind.{LikeKind}
 use Rattle.vortex_syntax.specs.declared.step.Call.TheVariants as call
 use Rattle.vortex_syntax.specs.declared.token.Sign.{Sign}
 use Rattle.vortex_syntax.specs.declared.token.Sign.TheVariants as sign
-use Rattle.vortex_syntax.specs.Frames.{Frame}
+use Rattle.vortex_syntax.specs.Frames.{Frame, top_hole, top_ceiling}
 use Rattle.vortex_syntax.specs.Frames as frame
 use Rattle.vortex_syntax.specs.declared.frame.Mode.TheVariants as mode
 use Rattle.vortex_syntax.specs.Tokens.{Token, name, nullable, function, quoted, number, text, sign}
 use Rattle.vortex_syntax.specs.Syntax as tree
 use Rattle.vortex_syntax.specs.Syntax.{Syntax, Arguments}
-use Rattle.vortex_syntax.specs.Levels.{level, Fits, is_operand, operand_level}
-use Rattle.vortex_syntax.specs.Spelling.{spelling, type_token, null_test, like_sign}
+use Rattle.vortex_syntax.specs.Levels.{typed_level, level, Fits, is_operand, operand_level}
+use Rattle.vortex_syntax.specs.Levels.{not_level, distinct_level, is_level, predicate_level}
+use Rattle.vortex_syntax.specs.Levels.{concat_level, atom_level, literal_level}
+use Rattle.vortex_syntax.specs.Spelling.{spelling, type_token, is_tokens, test_sign, test_tokens}
+use Rattle.vortex_syntax.specs.Spelling.{distinct_tokens, like_sign}
 use Rattle.vortex_syntax.specs.Postfix.{Step, operand, negative, typed, cast, escaped, applied}
-use Rattle.vortex_syntax.specs.Postfix.{called, null_call, argument_count, postfix}
+use Rattle.vortex_syntax.specs.Postfix.{called, argument_count, postfix}
 use Rattle.vortex_syntax.specs.Reading as specs
-use Rattle.vortex_syntax.specs.Reading.{State, state, hole, top_hole, guard, whole, closing}
-use Rattle.vortex_syntax.specs.Reading.{Operand, operand_of, settled, waiting, shifted, operator_of}
-use Rattle.vortex_syntax.specs.Reading.{and_behind, is_behind, close_behind, as_behind}
-use Rattle.vortex_syntax.specs.Reading.{escape_behind, end_behind, predicate, word_after, behind}
-use Rattle.vortex_syntax.specs.Reading.{next, finish, run, steps_of}
-use Rattle.vortex_syntax.proofs.Tables.{top_atom}
-use Rattle.vortex_syntax.proofs.Held.{Held, opened, casting, negating, calling, written, held}
+use Rattle.vortex_syntax.specs.Reading.{State, state}
+use Rattle.vortex_syntax.proofs.Tables.{top_atom, top_sign, atom_ceiling}
+use Rattle.vortex_syntax.proofs.Held.{Held, opened, casting, negating, minusing, distinguishing}
+use Rattle.vortex_syntax.proofs.Held.{calling, written, held}
 use Rattle.vortex_syntax.proofs.Before.{Behind, more, more_tokens, as_tokens, as_steps, pushed}
-use Rattle.vortex_syntax.proofs.Before.{popped, call_is}
-use Rattle.vortex_syntax.proofs.Before.{HasOperand, Holds, HoldsIn, along, chosen, fits_below}
-use Rattle.vortex_syntax.proofs.Before.{operand_more, operand_is}
+use Rattle.vortex_syntax.proofs.Before.{popped, call_is, HasOperand, Holds, HoldsIn, along, chosen}
+use Rattle.vortex_syntax.proofs.Before.{fits_below, operand_more, operand_is}
+use Rattle.vortex_syntax.proofs.CaseSound.{case_begun, when_first}
 
-pub operand_atom : (t : Token) → 8 ≤ operand_level t
+pub operand_atom : (t : Token) → atom_level ≤ operand_level t
 operand_atom (name w) = lit≤ tt
 operand_atom (nullable w) = lit≤ tt
 operand_atom (function w) = lit≤ tt
@@ -38,14 +40,15 @@ operand_atom (text w) = lit≤ tt
 operand_atom (sign u) = lit≤ tt
 
 pub not_sound : (fs : List Frame) (out : List Step) (s : State) (before : List Token)
-    → cond (nat_le (top_hole fs) 2) (Some (state mode.Want (frame.Not ∷ fs) out)) None ≡ Some s
+    → cond (nat_le (top_hole fs) not_level) (Some (state mode.Want (frame.Not ∷ fs) out)) None
+    ≡ Some s
     → Behind fs out before [] [] → HoldsIn s (before ++ (sign sign.Not ∷ []))
 not_sound fs out s before e b =
-    let c = chosen (nat_le (top_hole fs) 2) (state mode.Want (frame.Not ∷ fs) out) s e in
+    let c = chosen (nat_le (top_hole fs) not_level) (state mode.Want (frame.Not ∷ fs) out) s e in
     along (state mode.Want (frame.Not ∷ fs) out) s (before ++ (sign sign.Not ∷ [])) c.1
     (pushed negating fs out (before ++ (sign sign.Not ∷ []))
     (more_tokens fs out before [] [] (sign sign.Not ∷ []) b) tt
-    (fits_below (top_hole fs) 2 c.0))
+    (fits_below (top_hole fs) not_level c.0))
 
 none_are : (args : Arguments) → 0 ≡ argument_count args → args ≡ tree.no_arguments
 none_are tree.no_arguments e = refl
@@ -54,32 +57,25 @@ none_are (tree.argument args a) e = absurd (let k : ⊥ = omega (arith, e) in k)
 pub nullary_is : (w : List ℕ) (args : Arguments) (h : Held) (fs : List Frame) (out : List Step)
     (before : List Token) → h ≡ calling w args → 0 ≡ argument_count args
     → Behind fs out before (held h ++ []) (written h ++ [])
-    → HasOperand 8 fs (out ++ (applied w 0 ∷ [])) (before ++ (sign sign.Close ∷ [])) []
+    → HasOperand atom_level fs (out ++ (applied w 0 ∷ [])) (before ++ (sign sign.Close ∷ [])) []
 nullary_is w args h fs out before e k r =
     let is : h ≡ calling w tree.no_arguments = e ∙ ap (calling w) (none_are args k) in
     let b : Behind fs out before [] (function w ∷ []) =
     subst (λ (v : Held). Behind fs out before (held v ++ []) (written v ++ [])) is r in
     operand_is (tree.nullary w) fs (out ++ (applied w 0 ∷ [])) (before ++ (sign sign.Close ∷ [])) tt
-    (top_atom fs)
+    (top_atom fs) (atom_ceiling fs)
     (more fs out before [] (function w ∷ []) (applied w 0 ∷ []) (sign sign.Close ∷ []) b)
 
 pub nullary_sound : (fs : List Frame) (out : List Step) (s : State) (before : List Token)
     → specs.close_expected fs out ≡ Some s → Behind fs out before [] []
     → HoldsIn s (before ++ (sign sign.Close ∷ []))
-nullary_sound [] out s before e b = absurd cc
 nullary_sound (frame.Arguments w zero ∷ fs) out s before e b =
     let r = popped (frame.Arguments w 0) fs out before [] [] b in
     let i = call_is w 0 r.h r.is in
-    along (state (mode.Have 8) fs (out ++ (applied w 0 ∷ []))) s (before ++ (sign sign.Close ∷ []))
+    along (state (mode.Have atom_level) fs (out ++ (applied w 0 ∷ []))) s
+    (before ++ (sign sign.Close ∷ []))
     e (nullary_is w i.0 r.h fs out before i.1 i.2 r.behind)
-nullary_sound (frame.Arguments w (suc n) ∷ fs) out s before e b = absurd cc
-nullary_sound (frame.Open ∷ fs) out s before e b = absurd cc
-nullary_sound (frame.Cast ∷ fs) out s before e b = absurd cc
-nullary_sound (frame.Not ∷ fs) out s before e b = absurd cc
-nullary_sound (frame.Join o ∷ fs) out s before e b = absurd cc
-nullary_sound (frame.Between n ∷ fs) out s before e b = absurd cc
-nullary_sound (frame.Bounded n ∷ fs) out s before e b = absurd cc
-nullary_sound (frame.Like k ∷ fs) out s before e b = absurd cc
+nullary_sound fs out s before e b = absurd cc
 
 pub sign_wanted_sound : (fs : List Frame) (out : List Step) (u : Sign) (s : State)
     (before : List Token) → specs.sign_expected fs out u ≡ Some s → Behind fs out before [] []
@@ -95,79 +91,71 @@ sign_wanted_sound fs out sign.Open s before e b =
 sign_wanted_sound fs out sign.Cast s before e b =
     along (state mode.Casting fs out) s (before ++ (sign sign.Cast ∷ [])) e
     (more_tokens fs out before [] [] (sign sign.Cast ∷ []) b)
-sign_wanted_sound fs out sign.And s before e b = absurd cc
-sign_wanted_sound fs out sign.Or s before e b = absurd cc
-sign_wanted_sound fs out sign.Is s before e b = absurd cc
-sign_wanted_sound fs out sign.Null s before e b = absurd cc
-sign_wanted_sound fs out sign.Between s before e b = absurd cc
-sign_wanted_sound fs out sign.Like s before e b = absurd cc
-sign_wanted_sound fs out sign.Ilike s before e b = absurd cc
-sign_wanted_sound fs out sign.Escape s before e b = absurd cc
-sign_wanted_sound fs out sign.True s before e b = absurd cc
-sign_wanted_sound fs out sign.False s before e b = absurd cc
-sign_wanted_sound fs out sign.As s before e b = absurd cc
-sign_wanted_sound fs out sign.Equal s before e b = absurd cc
-sign_wanted_sound fs out sign.NotEqual s before e b = absurd cc
-sign_wanted_sound fs out sign.Less s before e b = absurd cc
-sign_wanted_sound fs out sign.LessOrEqual s before e b = absurd cc
-sign_wanted_sound fs out sign.Greater s before e b = absurd cc
-sign_wanted_sound fs out sign.GreaterOrEqual s before e b = absurd cc
-sign_wanted_sound fs out sign.Plus s before e b = absurd cc
-sign_wanted_sound fs out sign.Times s before e b = absurd cc
-sign_wanted_sound fs out sign.Divide s before e b = absurd cc
 sign_wanted_sound fs out sign.Close s before e b = nullary_sound fs out s before e b
-sign_wanted_sound fs out sign.Comma s before e b = absurd cc
-sign_wanted_sound fs out sign.Typed s before e b = absurd cc
+sign_wanted_sound fs out sign.Case s before e b = case_begun fs out s before e b
+sign_wanted_sound fs out sign.When s before e b = when_first fs out s before e b
+sign_wanted_sound fs out u s before e b = absurd cc
 
 pub other_wanted_sound : (fs : List Frame) (out : List Step) (t : Token) (s : State)
     (before : List Token) → specs.other_wanted fs out t ≡ Some s → Behind fs out before [] []
     → HoldsIn s (before ++ (t ∷ []))
 other_wanted_sound fs out (sign u) s before e b = sign_wanted_sound fs out u s before e b
-other_wanted_sound fs out (name w) s before e b = absurd cc
-other_wanted_sound fs out (nullable w) s before e b = absurd cc
 other_wanted_sound fs out (function w) s before e b =
     along (state mode.Want (frame.Arguments w 0 ∷ fs) out) s (before ++ (function w ∷ [])) e
     (pushed (calling w tree.no_arguments) fs out (before ++ (function w ∷ []))
     (more_tokens fs out before [] [] (function w ∷ []) b) tt (top_atom fs))
-other_wanted_sound fs out (quoted w) s before e b = absurd cc
-other_wanted_sound fs out (number w) s before e b = absurd cc
-other_wanted_sound fs out (text w) s before e b = absurd cc
+other_wanted_sound fs out t s before e b = absurd cc
+
+pub operand_sound : (fs : List Frame) (out : List Step) (t : Token) (s : State)
+    (before : List Token) → is_operand t ≡ true → specs.operand_read fs out t ≡ Some s
+    → Behind fs out before [] [] → HoldsIn s (before ++ (t ∷ []))
+operand_sound fs out t s before k e b =
+    let after = state (mode.Have (operand_level t)) fs (out ++ (operand t ∷ [])) in
+    let c = chosen (nat_le (operand_level t) (top_ceiling fs)) after s e in
+    along after s (before ++ (t ∷ [])) c.1
+    (operand_is (tree.operand t) fs (out ++ (operand t ∷ [])) (before ++ (t ∷ [])) k
+    (omega (arith, top_atom fs, operand_atom t))
+    (fits_below (operand_level t) (top_ceiling fs) c.0)
+    (more fs out before [] [] (operand t ∷ []) (t ∷ []) b))
 
 pub wanted_sound : (fs : List Frame) (out : List Step) (t : Token) (s : State) (before : List Token)
     (b : Bool) → is_operand t ≡ b
-    → cond b (Some (state (mode.Have (operand_level t)) fs (out ++ (operand t ∷ []))))
-    (specs.other_wanted fs out t) ≡ Some s → Behind fs out before [] []
-    → HoldsIn s (before ++ (t ∷ []))
-wanted_sound fs out t s before true k e b =
-    along (state (mode.Have (operand_level t)) fs (out ++ (operand t ∷ []))) s
-    (before ++ (t ∷ [])) e
-    (operand_is (tree.operand t) fs (out ++ (operand t ∷ [])) (before ++ (t ∷ [])) k
-    (omega (arith, top_atom fs, operand_atom t))
-    (more fs out before [] [] (operand t ∷ []) (t ∷ []) b))
+    → cond b (specs.operand_read fs out t) (specs.other_wanted fs out t) ≡ Some s
+    → Behind fs out before [] [] → HoldsIn s (before ++ (t ∷ []))
+wanted_sound fs out t s before true k e b = operand_sound fs out t s before k e b
 wanted_sound fs out t s before false k e b = other_wanted_sound fs out t s before e b
 
-pub digits_sound : (fs : List Frame) (out : List Step) (t : Token) (s : State) (before : List Token)
-    → specs.digits_expected fs out t ≡ Some s → Behind fs out before [] (sign sign.Minus ∷ [])
-    → HoldsIn s (before ++ (t ∷ []))
-digits_sound fs out (number ds) s before e b =
-    along (state (mode.Have 9) fs (out ++ (negative ds ∷ []))) s (before ++ (number ds ∷ [])) e
+pub digits_sound : (fs : List Frame) (out : List Step) (ds : List ℕ) (s : State)
+    (before : List Token) → specs.digits_read fs out ds ≡ Some s
+    → Behind fs out before [] (sign sign.Minus ∷ []) → HoldsIn s (before ++ (number ds ∷ []))
+digits_sound fs out ds s before e b =
+    let after = state (mode.Have literal_level) fs (out ++ (negative ds ∷ [])) in
+    let c = chosen (nat_le literal_level (top_ceiling fs)) after s e in
+    along after s (before ++ (number ds ∷ [])) c.1
     (operand_is (tree.negative ds) fs (out ++ (negative ds ∷ [])) (before ++ (number ds ∷ [])) tt
-    (omega (arith, top_atom fs))
+    (omega (arith, top_atom fs)) (fits_below literal_level (top_ceiling fs) c.0)
     (more fs out before [] (sign sign.Minus ∷ []) (negative ds ∷ []) (number ds ∷ []) b))
-digits_sound fs out (sign u) s before e b = absurd cc
-digits_sound fs out (name w) s before e b = absurd cc
-digits_sound fs out (nullable w) s before e b = absurd cc
-digits_sound fs out (function w) s before e b = absurd cc
-digits_sound fs out (quoted w) s before e b = absurd cc
-digits_sound fs out (text w) s before e b = absurd cc
+
+minus_sound : (fs : List Frame) (out : List Step) (t : Token) (s : State) (before : List Token)
+    → specs.before_operand (frame.Minus ∷ fs) out t ≡ Some s
+    → Behind fs out before [] (sign sign.Minus ∷ []) → HoldsIn s (before ++ (t ∷ []))
+minus_sound fs out t s before e b =
+    wanted_sound (frame.Minus ∷ fs) out t s before (is_operand t) refl e
+    (pushed minusing fs out before b tt (top_sign fs))
+
+pub signed_sound : (fs : List Frame) (out : List Step) (t : Token) (s : State)
+    (before : List Token) → specs.signed fs out t ≡ Some s
+    → Behind fs out before [] (sign sign.Minus ∷ []) → HoldsIn s (before ++ (t ∷ []))
+signed_sound fs out (number ds) s before e b = digits_sound fs out ds s before e b
+signed_sound fs out t s before e b = minus_sound fs out t s before e b
 
 pub typed_is : (l : ℕ) (fs : List Frame) (out : List Step) (before : List Token) (w : List ℕ)
-    (n : Bool) → HasOperand l fs out before (sign sign.Typed ∷ []) → 9 ≤ l
-    → HasOperand 8 fs (out ++ (typed w n ∷ [])) (before ++ (type_token w n ∷ [])) []
+    (n : Bool) → HasOperand l fs out before (sign sign.Typed ∷ []) → literal_level ≤ l
+    → HasOperand typed_level fs (out ++ (typed w n ∷ [])) (before ++ (type_token w n ∷ [])) []
 typed_is l fs out before w n a le =
     operand_is (tree.typed a.tree w n) fs (out ++ (typed w n ∷ []))
-    (before ++ (type_token w n ∷ [])) (subst (λ (m : ℕ). 9 ≤ m) a.level le, a.fits)
-    (top_atom fs)
+    (before ++ (type_token w n ∷ [])) (subst (λ (m : ℕ). literal_level ≤ m) a.level le, a.fits)
+    (omega (arith, top_atom fs)) (omega (arith, le, a.under))
     (as_tokens fs (out ++ (typed w n ∷ [])) (before ++ (type_token w n ∷ []))
     (postfix a.tree ++ (typed w n ∷ []))
     ((spelling a.tree ++ (sign sign.Typed ∷ [])) ++ (type_token w n ∷ []))
@@ -178,131 +166,103 @@ typed_is l fs out before w n a le =
 
 pub type_sound : (l : ℕ) (fs : List Frame) (out : List Step) (t : Token) (s : State)
     (before : List Token) → specs.type_expected fs out t ≡ Some s
-    → HasOperand l fs out before (sign sign.Typed ∷ []) → 9 ≤ l → HoldsIn s (before ++ (t ∷ []))
+    → HasOperand l fs out before (sign sign.Typed ∷ []) → literal_level ≤ l
+    → HoldsIn s (before ++ (t ∷ []))
 type_sound l fs out (name w) s before e a le =
-    along (state (mode.Have 8) fs (out ++ (typed w false ∷ []))) s (before ++ (name w ∷ [])) e
+    along (state (mode.Have typed_level) fs (out ++ (typed w false ∷ []))) s
+    (before ++ (name w ∷ [])) e
     (typed_is l fs out before w false a le)
 type_sound l fs out (nullable w) s before e a le =
-    along (state (mode.Have 8) fs (out ++ (typed w true ∷ []))) s (before ++ (nullable w ∷ [])) e
+    along (state (mode.Have typed_level) fs (out ++ (typed w true ∷ []))) s
+    (before ++ (nullable w ∷ [])) e
     (typed_is l fs out before w true a le)
-type_sound l fs out (sign u) s before e a le = absurd cc
-type_sound l fs out (function w) s before e a le = absurd cc
-type_sound l fs out (quoted w) s before e a le = absurd cc
-type_sound l fs out (number w) s before e a le = absurd cc
-type_sound l fs out (text w) s before e a le = absurd cc
+type_sound l fs out t s before e a le = absurd cc
 
-pub tested_is : (l : ℕ) (fs : List Frame) (out : List Step) (before us : List Token) (n : Bool)
-    → us ++ (sign sign.Null ∷ []) ≡ null_test n → HasOperand l fs out before us → 3 ≤ l
-    → top_hole fs ≤ 3
-    → HasOperand 3 fs (out ++ (called (null_call n) ∷ [])) (before ++ (sign sign.Null ∷ [])) []
-tested_is l fs out before us n e a le place =
-    operand_is (tree.tested n a.tree) fs (out ++ (called (null_call n) ∷ []))
-    (before ++ (sign sign.Null ∷ [])) (subst (λ (m : ℕ). 3 ≤ m) a.level le, a.fits) place
-    (as_tokens fs (out ++ (called (null_call n) ∷ [])) (before ++ (sign sign.Null ∷ []))
-    (postfix a.tree ++ (called (null_call n) ∷ []))
-    ((spelling a.tree ++ us) ++ (sign sign.Null ∷ []))
-    (spelling a.tree ++ null_test n)
-    (append_assoc (spelling a.tree) us (sign sign.Null ∷ [])
-    ∙ ap (λ ts. spelling a.tree ++ ts) e)
-    (more fs out before (postfix a.tree) (spelling a.tree ++ us) (called (null_call n) ∷ [])
-    (sign sign.Null ∷ []) a.behind))
+pub tested_is : (k : Test) (n : Bool) (l : ℕ) (fs : List Frame) (out : List Step)
+    (before : List Token) → HasOperand l fs out before (is_tokens n) → is_level ≤ l
+    → top_hole fs ≤ is_level
+    → HasOperand is_level fs (out ++ (called (call.Is k n) ∷ []))
+    (before ++ (sign (test_sign k) ∷ [])) []
+tested_is k n l fs out before a le place =
+    let last : List Token = sign (test_sign k) ∷ [] in
+    let step : List Step = called (call.Is k n) ∷ [] in
+    operand_is (tree.tested k n a.tree) fs (out ++ step) (before ++ last)
+    (subst (λ (m : ℕ). is_level ≤ m) a.level le, a.fits) place (omega (arith, atom_ceiling fs))
+    (as_tokens fs (out ++ step) (before ++ last) (postfix a.tree ++ step)
+    ((spelling a.tree ++ is_tokens n) ++ last) (spelling a.tree ++ test_tokens k n)
+    (append_assoc (spelling a.tree) (is_tokens n) last)
+    (more fs out before (postfix a.tree) (spelling a.tree ++ is_tokens n) step last a.behind))
 
-pub is_sign_sound : (l : ℕ) (fs : List Frame) (out : List Step) (u : Sign) (s : State)
-    (before : List Token) → specs.after_is fs out (sign u) ≡ Some s
-    → HasOperand l fs out before (sign sign.Is ∷ []) → 3 ≤ l → top_hole fs ≤ 3
-    → HoldsIn s (before ++ (sign u ∷ []))
-is_sign_sound l fs out sign.Null s before e a le place =
-    along (state (mode.Have 3) fs (out ++ (called call.IsNull ∷ []))) s
-    (before ++ (sign sign.Null ∷ [])) e
-    (tested_is l fs out before (sign sign.Is ∷ []) false refl a le place)
-is_sign_sound l fs out sign.Not s before e a le place =
-    along (state mode.IsNot fs out) s (before ++ (sign sign.Not ∷ [])) e
+pub tested_sound : (k : Test) (n : Bool) (l : ℕ) (fs : List Frame) (out : List Step) (s : State)
+    (before : List Token) → specs.tested k n fs out ≡ Some s
+    → HasOperand l fs out before (is_tokens n) → is_level ≤ l → top_hole fs ≤ is_level
+    → HoldsIn s (before ++ (sign (test_sign k) ∷ []))
+tested_sound k n l fs out s before e a le place =
+    along (state (mode.Have is_level) fs (out ++ (called (call.Is k n) ∷ []))) s
+    (before ++ (sign (test_sign k) ∷ [])) e (tested_is k n l fs out before a le place)
+
+pub is_not_sound : (n : Bool) (l : ℕ) (fs : List Frame) (out : List Step) (s : State)
+    (before : List Token) → specs.is_not n fs out ≡ Some s
+    → HasOperand l fs out before (is_tokens n) → is_level ≤ l → top_hole fs ≤ is_level
+    → HoldsIn s (before ++ (sign sign.Not ∷ []))
+is_not_sound true l fs out s before e a le place = absurd cc
+is_not_sound false l fs out s before e a le place =
+    along (state (mode.Is true) fs out) s (before ++ (sign sign.Not ∷ [])) e
     (l, operand_more l fs out before (sign sign.Is ∷ []) (sign sign.Not ∷ []) a, le, place)
-is_sign_sound l fs out sign.And s before e a le place = absurd cc
-is_sign_sound l fs out sign.Or s before e a le place = absurd cc
-is_sign_sound l fs out sign.Is s before e a le place = absurd cc
-is_sign_sound l fs out sign.Between s before e a le place = absurd cc
-is_sign_sound l fs out sign.Like s before e a le place = absurd cc
-is_sign_sound l fs out sign.Ilike s before e a le place = absurd cc
-is_sign_sound l fs out sign.Escape s before e a le place = absurd cc
-is_sign_sound l fs out sign.True s before e a le place = absurd cc
-is_sign_sound l fs out sign.False s before e a le place = absurd cc
-is_sign_sound l fs out sign.Cast s before e a le place = absurd cc
-is_sign_sound l fs out sign.As s before e a le place = absurd cc
-is_sign_sound l fs out sign.Equal s before e a le place = absurd cc
-is_sign_sound l fs out sign.NotEqual s before e a le place = absurd cc
-is_sign_sound l fs out sign.Less s before e a le place = absurd cc
-is_sign_sound l fs out sign.LessOrEqual s before e a le place = absurd cc
-is_sign_sound l fs out sign.Greater s before e a le place = absurd cc
-is_sign_sound l fs out sign.GreaterOrEqual s before e a le place = absurd cc
-is_sign_sound l fs out sign.Plus s before e a le place = absurd cc
-is_sign_sound l fs out sign.Minus s before e a le place = absurd cc
-is_sign_sound l fs out sign.Times s before e a le place = absurd cc
-is_sign_sound l fs out sign.Divide s before e a le place = absurd cc
-is_sign_sound l fs out sign.Open s before e a le place = absurd cc
-is_sign_sound l fs out sign.Close s before e a le place = absurd cc
-is_sign_sound l fs out sign.Comma s before e a le place = absurd cc
-is_sign_sound l fs out sign.Typed s before e a le place = absurd cc
 
-pub null_sign_sound : (l : ℕ) (fs : List Frame) (out : List Step) (u : Sign) (s : State)
-    (before : List Token) → specs.after_is_not fs out (sign u) ≡ Some s
-    → HasOperand l fs out before (sign sign.Is ∷ sign sign.Not ∷ []) → 3 ≤ l → top_hole fs ≤ 3
-    → HoldsIn s (before ++ (sign u ∷ []))
-null_sign_sound l fs out sign.Null s before e a le place =
-    along (state (mode.Have 3) fs (out ++ (called call.IsNotNull ∷ []))) s
-    (before ++ (sign sign.Null ∷ [])) e
-    (tested_is l fs out before (sign sign.Is ∷ sign sign.Not ∷ []) true refl a le place)
-null_sign_sound l fs out sign.And s before e a le place = absurd cc
-null_sign_sound l fs out sign.Or s before e a le place = absurd cc
-null_sign_sound l fs out sign.Not s before e a le place = absurd cc
-null_sign_sound l fs out sign.Is s before e a le place = absurd cc
-null_sign_sound l fs out sign.Between s before e a le place = absurd cc
-null_sign_sound l fs out sign.Like s before e a le place = absurd cc
-null_sign_sound l fs out sign.Ilike s before e a le place = absurd cc
-null_sign_sound l fs out sign.Escape s before e a le place = absurd cc
-null_sign_sound l fs out sign.True s before e a le place = absurd cc
-null_sign_sound l fs out sign.False s before e a le place = absurd cc
-null_sign_sound l fs out sign.Cast s before e a le place = absurd cc
-null_sign_sound l fs out sign.As s before e a le place = absurd cc
-null_sign_sound l fs out sign.Equal s before e a le place = absurd cc
-null_sign_sound l fs out sign.NotEqual s before e a le place = absurd cc
-null_sign_sound l fs out sign.Less s before e a le place = absurd cc
-null_sign_sound l fs out sign.LessOrEqual s before e a le place = absurd cc
-null_sign_sound l fs out sign.Greater s before e a le place = absurd cc
-null_sign_sound l fs out sign.GreaterOrEqual s before e a le place = absurd cc
-null_sign_sound l fs out sign.Plus s before e a le place = absurd cc
-null_sign_sound l fs out sign.Minus s before e a le place = absurd cc
-null_sign_sound l fs out sign.Times s before e a le place = absurd cc
-null_sign_sound l fs out sign.Divide s before e a le place = absurd cc
-null_sign_sound l fs out sign.Open s before e a le place = absurd cc
-null_sign_sound l fs out sign.Close s before e a le place = absurd cc
-null_sign_sound l fs out sign.Comma s before e a le place = absurd cc
-null_sign_sound l fs out sign.Typed s before e a le place = absurd cc
+pub distinct_sound : (n : Bool) (l : ℕ) (fs : List Frame) (out : List Step) (s : State)
+    (before : List Token) → specs.distinct n fs out ≡ Some s
+    → HasOperand l fs out before (is_tokens n) → is_level ≤ l
+    → HoldsIn s (before ++ (sign sign.Distinct ∷ []))
+distinct_sound n l fs out s before e a le =
+    let c = chosen (nat_le (top_hole fs) distinct_level) (state (mode.Distinct n) fs out) s e in
+    along (state (mode.Distinct n) fs out) s (before ++ (sign sign.Distinct ∷ [])) c.1 (
+      l,
+      operand_more l fs out before (is_tokens n) (sign sign.Distinct ∷ []) a,
+      le,
+      fits_below (top_hole fs) distinct_level c.0,
+    )
 
-pub is_follows : (l : ℕ) (fs : List Frame) (out : List Step) (t : Token) (s : State)
-    (before : List Token) → specs.after_is fs out t ≡ Some s
-    → HasOperand l fs out before (sign sign.Is ∷ []) → 3 ≤ l → top_hole fs ≤ 3
+pub is_follows : (n : Bool) (l : ℕ) (fs : List Frame) (out : List Step) (t : Token) (s : State)
+    (before : List Token) → specs.after_is n fs out t ≡ Some s
+    → HasOperand l fs out before (is_tokens n) → is_level ≤ l → top_hole fs ≤ is_level
     → HoldsIn s (before ++ (t ∷ []))
-is_follows l fs out (sign u) s before e a le place = is_sign_sound l fs out u s before e a le place
-is_follows l fs out (name w) s before e a le place = absurd cc
-is_follows l fs out (nullable w) s before e a le place = absurd cc
-is_follows l fs out (function w) s before e a le place = absurd cc
-is_follows l fs out (quoted w) s before e a le place = absurd cc
-is_follows l fs out (number w) s before e a le place = absurd cc
-is_follows l fs out (text w) s before e a le place = absurd cc
+is_follows n l fs out (sign sign.Null) s before e a le place =
+    tested_sound test.Null n l fs out s before e a le place
+is_follows n l fs out (sign sign.True) s before e a le place =
+    tested_sound test.True n l fs out s before e a le place
+is_follows n l fs out (sign sign.False) s before e a le place =
+    tested_sound test.False n l fs out s before e a le place
+is_follows n l fs out (sign sign.Unknown) s before e a le place =
+    tested_sound test.Unknown n l fs out s before e a le place
+is_follows n l fs out (sign sign.Not) s before e a le place =
+    is_not_sound n l fs out s before e a le place
+is_follows n l fs out (sign sign.Distinct) s before e a le place =
+    distinct_sound n l fs out s before e a le
+is_follows n l fs out t s before e a le place = absurd cc
 
-pub is_not_follows : (l : ℕ) (fs : List Frame) (out : List Step) (t : Token) (s : State)
-    (before : List Token) → specs.after_is_not fs out t ≡ Some s
-    → HasOperand l fs out before (sign sign.Is ∷ sign sign.Not ∷ []) → 3 ≤ l → top_hole fs ≤ 3
-    → HoldsIn s (before ++ (t ∷ []))
-is_not_follows l fs out (sign u) s before e a le place =
-    null_sign_sound l fs out u s before e a le place
-is_not_follows l fs out (name w) s before e a le place = absurd cc
-is_not_follows l fs out (nullable w) s before e a le place = absurd cc
-is_not_follows l fs out (function w) s before e a le place = absurd cc
-is_not_follows l fs out (quoted w) s before e a le place = absurd cc
-is_not_follows l fs out (number w) s before e a le place = absurd cc
-is_not_follows l fs out (text w) s before e a le place = absurd cc
+distinct_written : (n : Bool) (a : Syntax)
+    → (spelling a ++ (is_tokens n ++ (sign sign.Distinct ∷ []))) ++ (sign sign.From ∷ [])
+    ≡ spelling a ++ distinct_tokens n
+distinct_written n a =
+    append_assoc (spelling a) (is_tokens n ++ (sign sign.Distinct ∷ [])) (sign sign.From ∷ [])
+    ∙ ap (λ ts. spelling a ++ ts)
+    (append_assoc (is_tokens n) (sign sign.Distinct ∷ []) (sign sign.From ∷ []))
+
+pub distinct_follows : (n : Bool) (l : ℕ) (fs : List Frame) (out : List Step) (t : Token)
+    (s : State) (before : List Token) → specs.after_distinct n fs out t ≡ Some s
+    → HasOperand l fs out before (is_tokens n ++ (sign sign.Distinct ∷ [])) → is_level ≤ l
+    → top_hole fs ≤ distinct_level → HoldsIn s (before ++ (t ∷ []))
+distinct_follows n l fs out (sign sign.From) s before e a le place =
+    let last : List Token = sign sign.From ∷ [] in
+    let here = spelling a.tree ++ (is_tokens n ++ (sign sign.Distinct ∷ [])) in
+    along (state mode.Want (frame.Distinct n ∷ fs) out) s (before ++ last) e
+    (pushed (distinguishing n a.tree) fs out (before ++ last)
+    (as_tokens fs out (before ++ last) (postfix a.tree) (here ++ last)
+    (spelling a.tree ++ distinct_tokens n) (distinct_written n a.tree)
+    (more_tokens fs out before (postfix a.tree) here last a.behind))
+    (subst (λ (m : ℕ). is_level ≤ m) a.level le, a.fits) place)
+distinct_follows n l fs out t s before e a le place = absurd cc
 
 pub cast_sign_sound : (fs : List Frame) (out : List Step) (u : Sign) (s : State)
     (before : List Token) → specs.after_cast fs out (sign u) ≡ Some s
@@ -313,43 +273,13 @@ cast_sign_sound fs out sign.Open s before e b =
     (pushed casting fs out (before ++ (sign sign.Open ∷ []))
     (more_tokens fs out before [] (sign sign.Cast ∷ []) (sign sign.Open ∷ []) b) tt
     (top_atom fs))
-cast_sign_sound fs out sign.And s before e b = absurd cc
-cast_sign_sound fs out sign.Or s before e b = absurd cc
-cast_sign_sound fs out sign.Not s before e b = absurd cc
-cast_sign_sound fs out sign.Is s before e b = absurd cc
-cast_sign_sound fs out sign.Null s before e b = absurd cc
-cast_sign_sound fs out sign.Between s before e b = absurd cc
-cast_sign_sound fs out sign.Like s before e b = absurd cc
-cast_sign_sound fs out sign.Ilike s before e b = absurd cc
-cast_sign_sound fs out sign.Escape s before e b = absurd cc
-cast_sign_sound fs out sign.True s before e b = absurd cc
-cast_sign_sound fs out sign.False s before e b = absurd cc
-cast_sign_sound fs out sign.Cast s before e b = absurd cc
-cast_sign_sound fs out sign.As s before e b = absurd cc
-cast_sign_sound fs out sign.Equal s before e b = absurd cc
-cast_sign_sound fs out sign.NotEqual s before e b = absurd cc
-cast_sign_sound fs out sign.Less s before e b = absurd cc
-cast_sign_sound fs out sign.LessOrEqual s before e b = absurd cc
-cast_sign_sound fs out sign.Greater s before e b = absurd cc
-cast_sign_sound fs out sign.GreaterOrEqual s before e b = absurd cc
-cast_sign_sound fs out sign.Plus s before e b = absurd cc
-cast_sign_sound fs out sign.Minus s before e b = absurd cc
-cast_sign_sound fs out sign.Times s before e b = absurd cc
-cast_sign_sound fs out sign.Divide s before e b = absurd cc
-cast_sign_sound fs out sign.Close s before e b = absurd cc
-cast_sign_sound fs out sign.Comma s before e b = absurd cc
-cast_sign_sound fs out sign.Typed s before e b = absurd cc
+cast_sign_sound fs out u s before e b = absurd cc
 
 pub cast_follows : (fs : List Frame) (out : List Step) (t : Token) (s : State) (before : List Token)
     → specs.after_cast fs out t ≡ Some s → Behind fs out before [] (sign sign.Cast ∷ [])
     → HoldsIn s (before ++ (t ∷ []))
 cast_follows fs out (sign u) s before e b = cast_sign_sound fs out u s before e b
-cast_follows fs out (name w) s before e b = absurd cc
-cast_follows fs out (nullable w) s before e b = absurd cc
-cast_follows fs out (function w) s before e b = absurd cc
-cast_follows fs out (quoted w) s before e b = absurd cc
-cast_follows fs out (number w) s before e b = absurd cc
-cast_follows fs out (text w) s before e b = absurd cc
+cast_follows fs out t s before e b = absurd cc
 
 pub cast_typed : (a : Syntax) (fs : List Frame) (out : List Step) (before : List Token) (w : List ℕ)
     (n : Bool)
@@ -381,19 +311,16 @@ cast_type_sound a fs out (name w) s before e f b =
 cast_type_sound a fs out (nullable w) s before e f b =
     along (state mode.CastEnd fs (out ++ (cast w true ∷ []))) s (before ++ (nullable w ∷ [])) e
     (a, w, true, f, cast_typed a fs out before w true b)
-cast_type_sound a fs out (sign u) s before e f b = absurd cc
-cast_type_sound a fs out (function w) s before e f b = absurd cc
-cast_type_sound a fs out (quoted w) s before e f b = absurd cc
-cast_type_sound a fs out (number w) s before e f b = absurd cc
-cast_type_sound a fs out (text w) s before e f b = absurd cc
+cast_type_sound a fs out t s before e f b = absurd cc
 
 pub cast_is_whole : (a : Syntax) (w : List ℕ) (n : Bool) (fs : List Frame) (out : List Step)
     (before : List Token) → Fits a
     → Behind fs out before (postfix a ++ (cast w n ∷ []))
     (sign sign.Cast ∷ sign sign.Open ∷ (spelling a ++ (sign sign.As ∷ type_token w n ∷ [])))
-    → HasOperand 8 fs out (before ++ (sign sign.Close ∷ [])) []
+    → HasOperand atom_level fs out (before ++ (sign sign.Close ∷ [])) []
 cast_is_whole a w n fs out before f b =
     operand_is (tree.cast a w n) fs out (before ++ (sign sign.Close ∷ [])) f (top_atom fs)
+    (atom_ceiling fs)
     (as_tokens fs out (before ++ (sign sign.Close ∷ [])) (postfix a ++ (cast w n ∷ []))
     (sign sign.Cast ∷ sign
     sign.Open ∷ ((spelling a ++ (sign sign.As ∷ type_token w n ∷ [])) ++
@@ -411,34 +338,9 @@ pub cast_end_sign : (a : Syntax) (w : List ℕ) (n : Bool) (fs : List Frame) (ou
     (sign sign.Cast ∷ sign sign.Open ∷ (spelling a ++ (sign sign.As ∷ type_token w n ∷ [])))
     → HoldsIn s (before ++ (sign u ∷ []))
 cast_end_sign a w n fs out sign.Close s before e f b =
-    along (state (mode.Have 8) fs out) s (before ++ (sign sign.Close ∷ [])) e
+    along (state (mode.Have atom_level) fs out) s (before ++ (sign sign.Close ∷ [])) e
     (cast_is_whole a w n fs out before f b)
-cast_end_sign a w n fs out sign.And s before e f b = absurd cc
-cast_end_sign a w n fs out sign.Or s before e f b = absurd cc
-cast_end_sign a w n fs out sign.Not s before e f b = absurd cc
-cast_end_sign a w n fs out sign.Is s before e f b = absurd cc
-cast_end_sign a w n fs out sign.Null s before e f b = absurd cc
-cast_end_sign a w n fs out sign.Between s before e f b = absurd cc
-cast_end_sign a w n fs out sign.Like s before e f b = absurd cc
-cast_end_sign a w n fs out sign.Ilike s before e f b = absurd cc
-cast_end_sign a w n fs out sign.Escape s before e f b = absurd cc
-cast_end_sign a w n fs out sign.True s before e f b = absurd cc
-cast_end_sign a w n fs out sign.False s before e f b = absurd cc
-cast_end_sign a w n fs out sign.Cast s before e f b = absurd cc
-cast_end_sign a w n fs out sign.As s before e f b = absurd cc
-cast_end_sign a w n fs out sign.Equal s before e f b = absurd cc
-cast_end_sign a w n fs out sign.NotEqual s before e f b = absurd cc
-cast_end_sign a w n fs out sign.Less s before e f b = absurd cc
-cast_end_sign a w n fs out sign.LessOrEqual s before e f b = absurd cc
-cast_end_sign a w n fs out sign.Greater s before e f b = absurd cc
-cast_end_sign a w n fs out sign.GreaterOrEqual s before e f b = absurd cc
-cast_end_sign a w n fs out sign.Plus s before e f b = absurd cc
-cast_end_sign a w n fs out sign.Minus s before e f b = absurd cc
-cast_end_sign a w n fs out sign.Times s before e f b = absurd cc
-cast_end_sign a w n fs out sign.Divide s before e f b = absurd cc
-cast_end_sign a w n fs out sign.Open s before e f b = absurd cc
-cast_end_sign a w n fs out sign.Comma s before e f b = absurd cc
-cast_end_sign a w n fs out sign.Typed s before e f b = absurd cc
+cast_end_sign a w n fs out u s before e f b = absurd cc
 
 pub cast_end_sound : (a : Syntax) (v : List ℕ) (n : Bool) (fs : List Frame) (out : List Step)
     (t : Token) (s : State) (before : List Token) → specs.after_cast_type fs out t ≡ Some s
@@ -447,22 +349,18 @@ pub cast_end_sound : (a : Syntax) (v : List ℕ) (n : Bool) (fs : List Frame) (o
     (sign sign.Cast ∷ sign sign.Open ∷ (spelling a ++ (sign sign.As ∷ type_token v n ∷ [])))
     → HoldsIn s (before ++ (t ∷ []))
 cast_end_sound a v n fs out (sign u) s before e f b = cast_end_sign a v n fs out u s before e f b
-cast_end_sound a v n fs out (name w) s before e f b = absurd cc
-cast_end_sound a v n fs out (nullable w) s before e f b = absurd cc
-cast_end_sound a v n fs out (function w) s before e f b = absurd cc
-cast_end_sound a v n fs out (quoted w) s before e f b = absurd cc
-cast_end_sound a v n fs out (number w) s before e f b = absurd cc
-cast_end_sound a v n fs out (text w) s before e f b = absurd cc
+cast_end_sound a v n fs out t s before e f b = absurd cc
 
 pub escaped_is : (k : LikeKind) (a p : Syntax) (fs : List Frame) (out : List Step)
-    (before : List Token) (c : List ℕ) → 6 ≤ level a → 6 ≤ level p → Fits a → Fits p
-    → top_hole fs ≤ 5
+    (before : List Token) (c : List ℕ) → concat_level ≤ level a → concat_level ≤ level p → Fits a
+    → Fits p
+    → top_hole fs ≤ predicate_level
     → Behind fs out before (postfix a ++ postfix p)
     (spelling a ++ (like_sign k ++ (spelling p ++ (sign sign.Escape ∷ []))))
-    → HasOperand 5 fs (out ++ (escaped k c ∷ [])) (before ++ (text c ∷ [])) []
+    → HasOperand predicate_level fs (out ++ (escaped k c ∷ [])) (before ++ (text c ∷ [])) []
 escaped_is k a p fs out before c ha hp fa fp place b =
     operand_is (tree.matched k a p (Some c)) fs (out ++ (escaped k c ∷ []))
-    (before ++ (text c ∷ [])) (ha, hp, fa, fp) place
+    (before ++ (text c ∷ [])) (ha, hp, fa, fp) place (omega (arith, atom_ceiling fs))
     (as_steps fs (out ++ (escaped k c ∷ [])) (before ++ (text c ∷ []))
     ((postfix a ++ postfix p) ++ (escaped k c ∷ []))
     (postfix a ++ (postfix p ++ (escaped k c ∷ [])))
@@ -487,11 +385,7 @@ pub escaping_sound : (k : LikeKind) (fs : List Frame) (out : List Step) (t : Tok
     → Holds (mode.Escaping k) fs out before
     → HoldsIn s (before ++ (t ∷ []))
 escaping_sound k fs out (text c) s before e (a, p, ha, hp, fa, fp, place, b) =
-    along (state (mode.Have 5) fs (out ++ (escaped k c ∷ []))) s (before ++ (text c ∷ [])) e
+    along (state (mode.Have predicate_level) fs (out ++ (escaped k c ∷ []))) s
+    (before ++ (text c ∷ [])) e
     (escaped_is k a p fs out before c ha hp fa fp place b)
-escaping_sound k fs out (sign u) s before e h = absurd cc
-escaping_sound k fs out (name w) s before e h = absurd cc
-escaping_sound k fs out (nullable w) s before e h = absurd cc
-escaping_sound k fs out (function w) s before e h = absurd cc
-escaping_sound k fs out (quoted w) s before e h = absurd cc
-escaping_sound k fs out (number w) s before e h = absurd cc
+escaping_sound k fs out t s before e h = absurd cc

@@ -1,8 +1,8 @@
 -- Why a whole text fails.
 use Rattle.std.proofs.Common.{◌≡◌, ℕ, ◌≤◌, true, List, length, sym, subst, Result, Ok, Err, IfErr}
 use Rattle.vortex_syntax.specs.declared.error.SyntaxError.{SyntaxError}
-use Rattle.vortex_syntax.specs.declared.error.SyntaxError.TheVariants.{NoToken, Unexpected}
-use Rattle.vortex_syntax.specs.declared.error.SyntaxError.TheVariants.{TooDeep, OutOfMemory}
+use Rattle.vortex_syntax.specs.declared.error.SyntaxError.TheVariants.{NoToken, Unexpected, TooDeep}
+use Rattle.vortex_syntax.specs.declared.error.SyntaxError.TheVariants.{OutOfMemory}
 use Rattle.vortex_syntax.specs.declared.places.TokenPlaces.{TokenPlaces}
 use Rattle.vortex_syntax.specs.Tokens.{Token}
 use Rattle.vortex_syntax.specs.Lexing.{Lexes}

@@ -1,8 +1,8 @@
 -- What closes before a sign, and what stays.
 use Rattle.std.proofs.Common.{◌≡◌, ℕ, ◌<◌, ◌≤◌, List, [], ◌∷◌, ◌++◌, refl}
-use Rattle.vortex_syntax.specs.Frames.{Frame}
+use Rattle.vortex_syntax.specs.Frames.{Frame, guard, whole, closing}
 use Rattle.vortex_syntax.specs.Postfix.{Step}
-use Rattle.vortex_syntax.specs.Reading.{guard, whole, closing, operand_of, settled}
+use Rattle.vortex_syntax.specs.Reading.{operand_of, settled}
 use Rattle.vortex_syntax.proofs.Tables.{lower, not_lower}
 
 pub none_stays : (p l : ℕ) (fs : List Frame) (out : List Step) → fs ≡ []

@@ -1,5 +1,5 @@
 -- What a sign after an operand does to what was read.
-use Rattle.std.proofs.Common.{◌≡◌, ℕ, suc, ◌≤◌, Bool, true, false, nat_le, ◌&&◌, cond, List, [], ◌∷◌}
+use Rattle.std.proofs.Common.{◌≡◌, ℕ, ◌≤◌, Bool, true, false, nat_le, ◌&&◌, cond, List, [], ◌∷◌}
 use Rattle.std.proofs.Common.{◌++◌, Some, None, refl, ap, sym, subst, ◌∙◌, append_assoc}
 use Rattle.std.proofs.lemmas.List.{append-nil}
 use Rattle.vortex_syntax.specs.declared.step.WrittenOperator.{WrittenOperator}
@@ -7,30 +7,27 @@ use Rattle.vortex_syntax.specs.declared.step.WrittenOperator.TheVariants as oper
 use Rattle.vortex_syntax.specs.declared.step.LikeKind.{LikeKind}
 use Rattle.vortex_syntax.specs.declared.token.Sign.{Sign}
 use Rattle.vortex_syntax.specs.declared.token.Sign.TheVariants as sign
-use Rattle.vortex_syntax.specs.Frames.{Frame}
+use Rattle.vortex_syntax.specs.Frames.{Frame, top_hole, whole}
 use Rattle.vortex_syntax.specs.Frames as frame
 use Rattle.vortex_syntax.specs.declared.frame.Mode.TheVariants as mode
-use Rattle.vortex_syntax.specs.Tokens.{Token, name, nullable, function, quoted, number, text, sign}
-use Rattle.vortex_syntax.specs.Syntax as tree
-use Rattle.vortex_syntax.specs.Syntax.{Syntax, Arguments}
-use Rattle.vortex_syntax.specs.Levels.{own, left, level, Fits, AllFit}
-use Rattle.vortex_syntax.specs.Spelling.{spelling, all_spelled, operator_sign, with_not, like_sign}
-use Rattle.vortex_syntax.specs.Postfix.{Step, applied, argument_count, postfix, all_postfix}
+use Rattle.vortex_syntax.specs.Tokens.{Token, sign}
+use Rattle.vortex_syntax.specs.Syntax.{Syntax}
+use Rattle.vortex_syntax.specs.Levels.{own, left, level, Fits, or_level, and_level, is_level}
+use Rattle.vortex_syntax.specs.Levels.{predicate_level, concat_level, literal_level}
+use Rattle.vortex_syntax.specs.Spelling.{spelling, operator_sign, with_not, like_sign}
+use Rattle.vortex_syntax.specs.Postfix.{Step, postfix}
 use Rattle.vortex_syntax.specs.Reading as specs
-use Rattle.vortex_syntax.specs.Reading.{State, state, hole, top_hole, guard, whole, closing}
-use Rattle.vortex_syntax.specs.Reading.{Operand, operand_of, settled, waiting, shifted, operator_of}
-use Rattle.vortex_syntax.specs.Reading.{and_behind, is_behind, not_behind, close_behind}
-use Rattle.vortex_syntax.specs.Reading.{comma_behind, as_behind, escape_behind, end_behind, predicate, word_after, behind}
-use Rattle.vortex_syntax.specs.Reading.{next, finish, run, steps_of}
-use Rattle.vortex_syntax.proofs.Tables.{top_atom}
-use Rattle.vortex_syntax.proofs.Held.{Held, opened, casting, joining, lower, upper, matching}
-use Rattle.vortex_syntax.proofs.Held.{calling}
-use Rattle.vortex_syntax.proofs.Held.{frame_of, written, held, IsSound}
-use Rattle.vortex_syntax.proofs.Before.{Behind, more, more_tokens, as_tokens, as_steps, pushed}
-use Rattle.vortex_syntax.proofs.Before.{popped, open_is, cast_is, lower_is, like_is, call_is}
-use Rattle.vortex_syntax.proofs.Before.{HasOperand}
-use Rattle.vortex_syntax.proofs.Before.{settled_operand, Holds, HoldsIn, along, both, chosen}
-use Rattle.vortex_syntax.proofs.Before.{fits_below, operand_more, operand_is}
+use Rattle.vortex_syntax.specs.Reading.{State, state, operand_of, settled, waiting, shifted}
+use Rattle.vortex_syntax.specs.Reading.{and_behind, is_behind, not_behind, as_behind, escape_behind}
+use Rattle.vortex_syntax.specs.Reading.{predicate, word_after, behind}
+use Rattle.vortex_syntax.proofs.Held.{Held, casting, joining, lower, upper, matching, frame_of}
+use Rattle.vortex_syntax.proofs.Held.{written, held, IsSound}
+use Rattle.vortex_syntax.proofs.Before.{Behind, more_tokens, as_tokens, as_steps, pushed, popped}
+use Rattle.vortex_syntax.proofs.Before.{cast_is, lower_is, like_is, HasOperand, settled_operand}
+use Rattle.vortex_syntax.proofs.Before.{Holds, HoldsIn, along, both, chosen, fits_below}
+use Rattle.vortex_syntax.proofs.Before.{operand_more}
+use Rattle.vortex_syntax.proofs.CaseSound.{case_word_sound}
+use Rattle.vortex_syntax.proofs.BracketsSound.{comma_sound, close_sound}
 
 -- a frame that takes an operand
 pub waits : (p m : ℕ) (f : Frame) (l : ℕ) (fs : List Frame) (out : List Step) (s : State)
@@ -84,29 +81,46 @@ not_joined true u = refl
 not_joined false u = refl
 
 pub between_sound : (n : Bool) (l : ℕ) (fs : List Frame) (out : List Step) (s : State)
-    (before : List Token) → shifted 5 6 (frame.Between n) l fs out ≡ Some s
+    (before : List Token) → shifted predicate_level concat_level (frame.Between n) l fs out ≡ Some s
     → HasOperand l fs out before (not_before n) → HoldsIn s (before ++ (sign sign.Between ∷ []))
 between_sound n l fs out s before e a =
-    let b = settled 5 l fs out in
-    let r = settled_operand 5 l fs out before (not_before n) a in
-    waits 5 6 (frame.Between n) b.level b.frames b.steps s (before ++ (sign sign.Between ∷ [])) e
+    let b = settled predicate_level l fs out in
+    let r = settled_operand predicate_level l fs out before (not_before n) a in
+    waits predicate_level concat_level (frame.Between n) b.level b.frames b.steps s
+    (before ++ (sign sign.Between ∷ [])) e
     (λ h k. predicates (lower n r.tree) (sign sign.Between ∷ []) b.level b.frames b.steps before
     (not_before n) r refl (ap (λ ts. spelling r.tree ++ ts) (not_joined n sign.Between))
-    (subst (λ (m : ℕ). 6 ≤ m) r.level h, r.fits) k)
+    (subst (λ (m : ℕ). concat_level ≤ m) r.level h, r.fits) k)
 
 pub like_sound : (n i : Bool) (u : Sign) (l : ℕ) (fs : List Frame) (out : List Step) (s : State)
     (before : List Token) → like_sign (specs.like_kind n i) ≡ with_not n u
-    → shifted 5 6 (frame.Like (specs.like_kind n i)) l fs out ≡ Some s
+    → shifted predicate_level concat_level (frame.Like (specs.like_kind n i)) l fs out ≡ Some s
     → HasOperand l fs out before (not_before n) → HoldsIn s (before ++ (sign u ∷ []))
 like_sound n i u l fs out s before k e a =
-    let b = settled 5 l fs out in
-    let r = settled_operand 5 l fs out before (not_before n) a in
-    waits 5 6 (frame.Like (specs.like_kind n i)) b.level b.frames b.steps s
+    let b = settled predicate_level l fs out in
+    let r = settled_operand predicate_level l fs out before (not_before n) a in
+    waits predicate_level concat_level (frame.Like (specs.like_kind n i)) b.level b.frames b.steps s
     (before ++ (sign u ∷ [])) e
     (λ h j. predicates (matching (specs.like_kind n i) r.tree)
     (sign u ∷ []) b.level b.frames b.steps before (not_before n) r refl
     (ap (λ ts. spelling r.tree ++ ts) (k ∙ not_joined n u))
-    (subst (λ (m : ℕ). 6 ≤ m) r.level h, r.fits) j)
+    (subst (λ (m : ℕ). concat_level ≤ m) r.level h, r.fits) j)
+
+pub in_sound : (n : Bool) (l : ℕ) (fs : List Frame) (out : List Step) (s : State)
+    (before : List Token) → specs.in_behind n l fs out ≡ Some s
+    → HasOperand l fs out before (not_before n) → HoldsIn s (before ++ (sign sign.In ∷ []))
+in_sound n l fs out s before e a =
+    let test = nat_le concat_level l && nat_le (top_hole fs) predicate_level in
+    let c = chosen test (state (mode.Listing n) fs out) s e in
+    let t = both (nat_le concat_level l) (nat_le (top_hole fs) predicate_level) c.0 in
+    along (state (mode.Listing n) fs out) s (before ++ (sign sign.In ∷ [])) c.1 (
+      l,
+      subst (λ (us : List Token). HasOperand l fs out (before ++ (sign sign.In ∷ [])) us)
+          (sym (not_joined n sign.In))
+          (operand_more l fs out before (not_before n) (sign sign.In ∷ []) a),
+      fits_below concat_level l t.0,
+      fits_below (top_hole fs) predicate_level t.1,
+    )
 
 pub predicate_sound : (n : Bool) (l : ℕ) (fs : List Frame) (out : List Step) (u : Sign) (s : State)
     (before : List Token) → predicate n l fs out u ≡ Some s
@@ -117,36 +131,17 @@ predicate_sound n l fs out sign.Like s before e a =
     like_sound n false sign.Like l fs out s before refl e a
 predicate_sound n l fs out sign.Ilike s before e a =
     like_sound n true sign.Ilike l fs out s before refl e a
-predicate_sound n l fs out sign.And s before e a = absurd cc
-predicate_sound n l fs out sign.Or s before e a = absurd cc
-predicate_sound n l fs out sign.Not s before e a = absurd cc
-predicate_sound n l fs out sign.Is s before e a = absurd cc
-predicate_sound n l fs out sign.Null s before e a = absurd cc
-predicate_sound n l fs out sign.Escape s before e a = absurd cc
-predicate_sound n l fs out sign.True s before e a = absurd cc
-predicate_sound n l fs out sign.False s before e a = absurd cc
-predicate_sound n l fs out sign.Cast s before e a = absurd cc
-predicate_sound n l fs out sign.As s before e a = absurd cc
-predicate_sound n l fs out sign.Equal s before e a = absurd cc
-predicate_sound n l fs out sign.NotEqual s before e a = absurd cc
-predicate_sound n l fs out sign.Less s before e a = absurd cc
-predicate_sound n l fs out sign.LessOrEqual s before e a = absurd cc
-predicate_sound n l fs out sign.Greater s before e a = absurd cc
-predicate_sound n l fs out sign.GreaterOrEqual s before e a = absurd cc
-predicate_sound n l fs out sign.Plus s before e a = absurd cc
-predicate_sound n l fs out sign.Minus s before e a = absurd cc
-predicate_sound n l fs out sign.Times s before e a = absurd cc
-predicate_sound n l fs out sign.Divide s before e a = absurd cc
-predicate_sound n l fs out sign.Open s before e a = absurd cc
-predicate_sound n l fs out sign.Close s before e a = absurd cc
-predicate_sound n l fs out sign.Comma s before e a = absurd cc
-predicate_sound n l fs out sign.Typed s before e a = absurd cc
+predicate_sound n l fs out sign.In s before e a = let b = settled predicate_level l fs out in
+    in_sound n b.level b.frames b.steps s before e
+    (settled_operand predicate_level l fs out before (not_before n) a)
+predicate_sound n l fs out u s before e a = absurd cc
 
 pub and_joined : (l : ℕ) (fs : List Frame) (out : List Step) (s : State) (before : List Token)
-    → waiting 1 1 (frame.Join operator.And) (operand_of l fs out) ≡ Some s
+    → waiting and_level and_level (frame.Join operator.And) (operand_of l fs out) ≡ Some s
     → HasOperand l fs out before [] → HoldsIn s (before ++ (sign sign.And ∷ []))
 and_joined l fs out s before e a =
-    waits 1 1 (frame.Join operator.And) l fs out s (before ++ (sign sign.And ∷ [])) e
+    waits and_level and_level (frame.Join operator.And) l fs out s
+    (before ++ (sign sign.And ∷ [])) e
     (joins operator.And l fs out before a)
 
 pub upper_written : (n : Bool) (a b : Syntax)
@@ -157,8 +152,8 @@ upper_written n a b =
     ∙ append_assoc (spelling a) (with_not n sign.Between) (spelling b ++ (sign sign.And ∷ []))
 
 pub bound_held : (n : Bool) (l : ℕ) (fs : List Frame) (out : List Step) (before : List Token)
-    (b : Syntax) → Fits b → 6 ≤ level b → (h : Held) (a : Syntax) → h ≡ lower n a
-    → IsSound h → top_hole fs ≤ 5
+    (b : Syntax) → Fits b → concat_level ≤ level b → (h : Held) (a : Syntax) → h ≡ lower n a
+    → IsSound h → top_hole fs ≤ predicate_level
     → Behind fs out before (held h ++ postfix b) (written h ++ (spelling b ++ []))
     → Behind (frame.Bounded n ∷ fs) out (before ++ (sign sign.And ∷ [])) [] []
 bound_held n l fs out before b f k h a e s place r =
@@ -183,164 +178,40 @@ and_bound n l fs out s before e a =
     let i = lower_is n r.h r.is in
     along (state mode.Want (frame.Bounded n ∷ fs) out) s (before ++ (sign sign.And ∷ [])) e
     (bound_held n l fs out before a.tree a.fits
-    (subst (λ (m : ℕ). 6 ≤ m) a.level a.place) r.h i.0 i.1 r.sound r.place r.behind)
+    (subst (λ (m : ℕ). concat_level ≤ m) a.level a.place) r.h i.0 i.1 r.sound r.place r.behind)
 
 pub and_sound : (l : ℕ) (fs : List Frame) (out : List Step) (s : State) (before : List Token)
     → and_behind l fs out ≡ Some s → HasOperand l fs out before []
     → HoldsIn s (before ++ (sign sign.And ∷ []))
-and_sound l [] out s before e a = and_joined l [] out s before e a
 and_sound l (frame.Between n ∷ fs) out s before e a = and_bound n l fs out s before e a
-and_sound l (frame.Open ∷ fs) out s before e a = and_joined l (frame.Open ∷ fs) out s before e a
-and_sound l (frame.Cast ∷ fs) out s before e a = and_joined l (frame.Cast ∷ fs) out s before e a
-and_sound l (frame.Not ∷ fs) out s before e a = and_joined l (frame.Not ∷ fs) out s before e a
-and_sound l (frame.Join o ∷ fs) out s before e a = and_joined l (frame.Join o ∷ fs) out s before e a
-and_sound l (frame.Bounded n ∷ fs) out s before e a =
-    and_joined l (frame.Bounded n ∷ fs) out s before e a
-and_sound l (frame.Like k ∷ fs) out s before e a = and_joined l (frame.Like k ∷ fs) out s before e a
-and_sound l (frame.Arguments w n ∷ fs) out s before e a =
-    and_joined l (frame.Arguments w n ∷ fs) out s before e a
+and_sound l fs out s before e a = and_joined l fs out s before e a
 
 pub is_sound : (l : ℕ) (fs : List Frame) (out : List Step) (s : State) (before : List Token)
     → is_behind l fs out ≡ Some s → HasOperand l fs out before []
     → HoldsIn s (before ++ (sign sign.Is ∷ []))
 is_sound l fs out s before e a =
-    let c = chosen (nat_le 3 l && nat_le (top_hole fs) 3) (state mode.Is fs out) s e in
-    let t = both (nat_le 3 l) (nat_le (top_hole fs) 3) c.0 in
-    along (state mode.Is fs out) s (before ++ (sign sign.Is ∷ [])) c.1 (
+    let c = chosen (nat_le is_level l && nat_le (top_hole fs) is_level)
+    (state (mode.Is false) fs out) s e in
+    let t = both (nat_le is_level l) (nat_le (top_hole fs) is_level) c.0 in
+    along (state (mode.Is false) fs out) s (before ++ (sign sign.Is ∷ [])) c.1 (
       l,
       operand_more l fs out before [] (sign sign.Is ∷ []) a,
-      fits_below 3 l t.0,
-      fits_below (top_hole fs) 3 t.1,
+      fits_below is_level l t.0,
+      fits_below (top_hole fs) is_level t.1,
     )
 
 pub not_sound : (l : ℕ) (fs : List Frame) (out : List Step) (s : State) (before : List Token)
     → not_behind l fs out ≡ Some s → HasOperand l fs out before []
     → HoldsIn s (before ++ (sign sign.Not ∷ []))
 not_sound l fs out s before e a =
-    let c = chosen (nat_le 6 l && nat_le (top_hole fs) 5) (state (mode.Negating l) fs out) s e in
-    let t = both (nat_le 6 l) (nat_le (top_hole fs) 5) c.0 in
+    let c = chosen (nat_le concat_level l && nat_le (top_hole fs) predicate_level)
+    (state (mode.Negating l) fs out) s e in
+    let t = both (nat_le concat_level l) (nat_le (top_hole fs) predicate_level) c.0 in
     along (state (mode.Negating l) fs out) s (before ++ (sign sign.Not ∷ [])) c.1 (
       operand_more l fs out before [] (sign sign.Not ∷ []) a,
-      fits_below 6 l t.0,
-      fits_below (top_hole fs) 5 t.1,
+      fits_below concat_level l t.0,
+      fits_below (top_hole fs) predicate_level t.1,
     )
-
-pub grouped_is : (a : Syntax) (h : Held) (fs : List Frame) (out : List Step) (before : List Token)
-    → Fits a → h ≡ opened
-    → Behind fs out before (held h ++ postfix a) (written h ++ (spelling a ++ []))
-    → HasOperand 8 fs out (before ++ (sign sign.Close ∷ [])) []
-grouped_is a h fs out before f e r =
-    let b : Behind fs out before (postfix a) (sign sign.Open ∷ (spelling a ++ [])) =
-    subst (λ (v : Held). Behind fs out before (held v ++ postfix a)
-    (written v ++ (spelling a ++ []))) e r in
-    operand_is (tree.grouped a) fs out (before ++ (sign sign.Close ∷ [])) f (top_atom fs)
-    (as_tokens fs out (before ++ (sign sign.Close ∷ [])) (postfix a)
-    (sign sign.Open ∷ ((spelling a ++ []) ++ (sign sign.Close ∷ [])))
-    (spelling (tree.grouped a))
-    (ap (λ ts. sign sign.Open ∷ (ts ++ (sign sign.Close ∷ []))) (append-nil (spelling a)))
-    (more_tokens fs out before (postfix a) (sign sign.Open ∷ (spelling a ++ []))
-    (sign sign.Close ∷ []) b))
-
--- a call with its operand
-pub in_call : (w : List ℕ) (args : Arguments) (a : Syntax) (u : Sign)
-    → (function w ∷ (all_spelled args ++ (spelling a ++ []))) ++ (sign u ∷ [])
-    ≡ function w ∷ (all_spelled args ++ (spelling a ++ (sign u ∷ [])))
-in_call w args a u =
-    ap (λ ts. function w ∷ ts) (append_assoc (all_spelled args) (spelling a ++ []) (sign u ∷ [])
-    ∙ ap (λ ts. all_spelled args ++ (ts ++ (sign u ∷ []))) (append-nil (spelling a)))
-
-abbrev pub Called : List ℕ → Arguments → Syntax → List Frame → List Step → List Token → Type 0
-Called w args a fs out before =
-    Behind fs out before (all_postfix args ++ postfix a)
-    (function w ∷ (all_spelled args ++ (spelling a ++ [])))
-
-pub called_is : (w : List ℕ) (args : Arguments) (a : Syntax) (h : Held) (fs : List Frame)
-    (out : List Step) (before : List Token) → h ≡ calling w args
-    → Behind fs out before (held h ++ postfix a) (written h ++ (spelling a ++ []))
-    → Called w args a fs out before
-called_is w args a h fs out before e r =
-    subst (λ (v : Held). Behind fs out before (held v ++ postfix a)
-    (written v ++ (spelling a ++ []))) e r
-
-pub all_fit_is : (w : List ℕ) (args : Arguments) (h : Held) → h ≡ calling w args → IsSound h
-    → AllFit args
-all_fit_is w args h e s = subst (λ (v : Held). IsSound v) e s
-
-pub applied_is : (w : List ℕ) (n : ℕ) (args : Arguments) (a : Syntax) (fs : List Frame)
-    (out : List Step) (before : List Token) → n ≡ argument_count args → AllFit args → Fits a
-    → Called w args a fs out before
-    → HasOperand 8 fs (out ++ (applied w (suc n) ∷ [])) (before ++ (sign sign.Close ∷ [])) []
-applied_is w n args a fs out before e s f b =
-    let last : List Step = applied w (suc n) ∷ [] in
-    let close : List Token = sign sign.Close ∷ [] in
-    let xs = (all_postfix args ++ postfix a) ++ last in
-    operand_is (tree.applied w args a) fs (out ++ last) (before ++ close) (s, f) (top_atom fs)
-    (as_steps fs (out ++ last) (before ++ close) xs (postfix (tree.applied w args a))
-    (spelling (tree.applied w args a))
-    (append_assoc (all_postfix args) (postfix a) last
-    ∙ ap (λ m. all_postfix args ++ (postfix a ++ (applied w (suc m) ∷ []))) e)
-    (as_tokens fs (out ++ last) (before ++ close) xs
-    ((function w ∷ (all_spelled args ++ (spelling a ++ []))) ++ close)
-    (spelling (tree.applied w args a)) (in_call w args a sign.Close)
-    (more fs out before (all_postfix args ++ postfix a)
-    (function w ∷ (all_spelled args ++ (spelling a ++ []))) last close b)))
-
-pub argument_is : (w : List ℕ) (n : ℕ) (args : Arguments) (a : Syntax) (fs : List Frame)
-    (out : List Step) (before : List Token) → n ≡ argument_count args → AllFit args → Fits a
-    → Called w args a fs out before
-    → Behind (frame.Arguments w (suc n) ∷ fs) out (before ++ (sign sign.Comma ∷ [])) [] []
-argument_is w n args a fs out before e s f b =
-    let comma : List Token = sign sign.Comma ∷ [] in
-    subst (λ (m : ℕ). Behind (frame.Arguments w (suc m) ∷ fs) out (before ++ comma) [] []) (sym e)
-    (pushed (calling w (tree.argument args a)) fs out (before ++ comma)
-    (as_tokens fs out (before ++ comma) (all_postfix args ++ postfix a)
-    ((function w ∷ (all_spelled args ++ (spelling a ++ []))) ++ comma)
-    (written (calling w (tree.argument args a))) (in_call w args a sign.Comma)
-    (more_tokens fs out before (all_postfix args ++ postfix a)
-    (function w ∷ (all_spelled args ++ (spelling a ++ []))) comma b)) (s, f) (top_atom fs))
-
-pub comma_sound : (l : ℕ) (fs : List Frame) (out : List Step) (s : State) (before : List Token)
-    → comma_behind fs out ≡ Some s → HasOperand l fs out before []
-    → HoldsIn s (before ++ (sign sign.Comma ∷ []))
-comma_sound l [] out s before e a = absurd cc
-comma_sound l (frame.Arguments w n ∷ fs) out s before e a =
-    let r = popped (frame.Arguments w n) fs out before (postfix a.tree) (spelling a.tree ++ [])
-    a.behind in
-    let i = call_is w n r.h r.is in
-    along (state mode.Want (frame.Arguments w (suc n) ∷ fs) out) s
-    (before ++ (sign sign.Comma ∷ [])) e
-    (argument_is w n i.0 a.tree fs out before i.2 (all_fit_is w i.0 r.h i.1 r.sound) a.fits
-    (called_is w i.0 a.tree r.h fs out before i.1 r.behind))
-comma_sound l (frame.Open ∷ fs) out s before e a = absurd cc
-comma_sound l (frame.Cast ∷ fs) out s before e a = absurd cc
-comma_sound l (frame.Not ∷ fs) out s before e a = absurd cc
-comma_sound l (frame.Join o ∷ fs) out s before e a = absurd cc
-comma_sound l (frame.Between n ∷ fs) out s before e a = absurd cc
-comma_sound l (frame.Bounded n ∷ fs) out s before e a = absurd cc
-comma_sound l (frame.Like k ∷ fs) out s before e a = absurd cc
-
-pub close_sound : (l : ℕ) (fs : List Frame) (out : List Step) (s : State) (before : List Token)
-    → close_behind fs out ≡ Some s → HasOperand l fs out before []
-    → HoldsIn s (before ++ (sign sign.Close ∷ []))
-close_sound l [] out s before e a = absurd cc
-close_sound l (frame.Open ∷ fs) out s before e a =
-    let r = popped frame.Open fs out before (postfix a.tree) (spelling a.tree ++ []) a.behind in
-    along (state (mode.Have 8) fs out) s (before ++ (sign sign.Close ∷ [])) e
-    (grouped_is a.tree r.h fs out before a.fits (open_is r.h r.is) r.behind)
-close_sound l (frame.Arguments w n ∷ fs) out s before e a =
-    let r = popped (frame.Arguments w n) fs out before (postfix a.tree) (spelling a.tree ++ [])
-    a.behind in
-    let i = call_is w n r.h r.is in
-    along (state (mode.Have 8) fs (out ++ (applied w (suc n) ∷ []))) s
-    (before ++ (sign sign.Close ∷ [])) e
-    (applied_is w n i.0 a.tree fs out before i.2 (all_fit_is w i.0 r.h i.1 r.sound) a.fits
-    (called_is w i.0 a.tree r.h fs out before i.1 r.behind))
-close_sound l (frame.Cast ∷ fs) out s before e a = absurd cc
-close_sound l (frame.Not ∷ fs) out s before e a = absurd cc
-close_sound l (frame.Join o ∷ fs) out s before e a = absurd cc
-close_sound l (frame.Between n ∷ fs) out s before e a = absurd cc
-close_sound l (frame.Bounded n ∷ fs) out s before e a = absurd cc
-close_sound l (frame.Like k ∷ fs) out s before e a = absurd cc
 
 pub cast_begun : (a : Syntax) (h : Held) (fs : List Frame) (out : List Step) (before : List Token)
     → h ≡ casting → Behind fs out before (held h ++ postfix a) (written h ++ (spelling a ++ []))
@@ -362,18 +233,11 @@ cast_begun a h fs out before e r =
 pub as_sound : (l : ℕ) (fs : List Frame) (out : List Step) (s : State) (before : List Token)
     → as_behind fs out ≡ Some s → HasOperand l fs out before []
     → HoldsIn s (before ++ (sign sign.As ∷ []))
-as_sound l [] out s before e a = absurd cc
 as_sound l (frame.Cast ∷ fs) out s before e a =
     let r = popped frame.Cast fs out before (postfix a.tree) (spelling a.tree ++ []) a.behind in
     along (state mode.CastType fs out) s (before ++ (sign sign.As ∷ [])) e
     (a.tree, a.fits, cast_begun a.tree r.h fs out before (cast_is r.h r.is) r.behind)
-as_sound l (frame.Open ∷ fs) out s before e a = absurd cc
-as_sound l (frame.Not ∷ fs) out s before e a = absurd cc
-as_sound l (frame.Join o ∷ fs) out s before e a = absurd cc
-as_sound l (frame.Between n ∷ fs) out s before e a = absurd cc
-as_sound l (frame.Bounded n ∷ fs) out s before e a = absurd cc
-as_sound l (frame.Like k ∷ fs) out s before e a = absurd cc
-as_sound l (frame.Arguments w n ∷ fs) out s before e a = absurd cc
+as_sound l fs out s before e a = absurd cc
 
 pub pattern_written : (k : LikeKind) (a p : Syntax)
     → (written (matching k a) ++ (spelling p ++ [])) ++ (sign sign.Escape ∷ [])
@@ -384,8 +248,10 @@ pattern_written k a p =
     ∙ append_assoc (spelling a) (like_sign k) (spelling p ++ (sign sign.Escape ∷ []))
 
 pub escape_begun : (k : LikeKind) (p : Syntax) (h : Held) (a : Syntax) (fs : List Frame)
-    (out : List Step) (before : List Token) → h ≡ matching k a → IsSound h → Fits p → 6 ≤ level p
-    → top_hole fs ≤ 5 → Behind fs out before (held h ++ postfix p) (written h ++ (spelling p ++ []))
+    (out : List Step) (before : List Token) → h ≡ matching k a → IsSound h → Fits p
+    → concat_level ≤ level p
+    → top_hole fs ≤ predicate_level
+    → Behind fs out before (held h ++ postfix p) (written h ++ (spelling p ++ []))
     → Holds (mode.Escaping k) fs out (before ++ (sign sign.Escape ∷ []))
 escape_begun k p h a fs out before e s f j place r =
     let sound : IsSound (matching k a) = subst (λ (v : Held). IsSound v) e s in
@@ -411,51 +277,57 @@ escape_begun k p h a fs out before e s f j place r =
 pub escape_sound : (l : ℕ) (fs : List Frame) (out : List Step) (s : State) (before : List Token)
     → escape_behind fs out ≡ Some s → HasOperand l fs out before []
     → HoldsIn s (before ++ (sign sign.Escape ∷ []))
-escape_sound l [] out s before e a = absurd cc
 escape_sound l (frame.Like k ∷ fs) out s before e a =
     let r = popped (frame.Like k) fs out before (postfix a.tree) (spelling a.tree ++ []) a.behind in
     let i = like_is k r.h r.is in
     along (state (mode.Escaping k) fs out) s (before ++ (sign sign.Escape ∷ [])) e
     (escape_begun k a.tree r.h i.0 fs out before i.1 r.sound a.fits
-    (subst (λ (m : ℕ). 6 ≤ m) a.level a.place) r.place r.behind)
-escape_sound l (frame.Open ∷ fs) out s before e a = absurd cc
-escape_sound l (frame.Cast ∷ fs) out s before e a = absurd cc
-escape_sound l (frame.Not ∷ fs) out s before e a = absurd cc
-escape_sound l (frame.Join o ∷ fs) out s before e a = absurd cc
-escape_sound l (frame.Between n ∷ fs) out s before e a = absurd cc
-escape_sound l (frame.Bounded n ∷ fs) out s before e a = absurd cc
-escape_sound l (frame.Arguments w n ∷ fs) out s before e a = absurd cc
+    (subst (λ (m : ℕ). concat_level ≤ m) a.level a.place) r.place r.behind)
+escape_sound l fs out s before e a = absurd cc
 
 pub typed_sound : (l : ℕ) (fs : List Frame) (out : List Step) (s : State) (before : List Token)
-    → cond (nat_le 9 l) (Some (state mode.Typing fs out)) None ≡ Some s
+    → cond (nat_le literal_level l) (Some (state mode.Typing fs out)) None ≡ Some s
     → HasOperand l fs out before [] → HoldsIn s (before ++ (sign sign.Typed ∷ []))
 typed_sound l fs out s before e a =
-    let c = chosen (nat_le 9 l) (state mode.Typing fs out) s e in
+    let c = chosen (nat_le literal_level l) (state mode.Typing fs out) s e in
     along (state mode.Typing fs out) s (before ++ (sign sign.Typed ∷ [])) c.1
-    (l, operand_more l fs out before [] (sign sign.Typed ∷ []) a, fits_below 9 l c.0)
+    (l, operand_more l fs out before [] (sign sign.Typed ∷ []) a, fits_below literal_level l c.0)
 
 pub behind_sign : (l : ℕ) (fs : List Frame) (out : List Step) (u : Sign) (s : State)
     (before : List Token) → behind l fs out (sign u) ≡ Some s → HasOperand l fs out before []
     → HoldsIn s (before ++ (sign u ∷ []))
 unfolding word_after predicate
-behind_sign l fs out sign.And s before e a = let b = settled 1 l fs out in
-    and_sound b.level b.frames b.steps s before e (settled_operand 1 l fs out before [] a)
+behind_sign l fs out sign.And s before e a = let b = settled and_level l fs out in
+    and_sound b.level b.frames b.steps s before e (settled_operand and_level l fs out before [] a)
 behind_sign l fs out sign.Or s before e a = joining_sound operator.Or l fs out s before e a
-behind_sign l fs out sign.Not s before e a = let b = settled 5 l fs out in
-    not_sound b.level b.frames b.steps s before e (settled_operand 5 l fs out before [] a)
-behind_sign l fs out sign.Is s before e a = let b = settled 3 l fs out in
-    is_sound b.level b.frames b.steps s before e (settled_operand 3 l fs out before [] a)
-behind_sign l fs out sign.Null s before e a = absurd cc
+behind_sign l fs out sign.Not s before e a = let b = settled predicate_level l fs out in
+    not_sound b.level b.frames b.steps s before e
+    (settled_operand predicate_level l fs out before [] a)
+behind_sign l fs out sign.Is s before e a = let b = settled is_level l fs out in
+    is_sound b.level b.frames b.steps s before e (settled_operand is_level l fs out before [] a)
 behind_sign l fs out sign.Between s before e a = between_sound false l fs out s before e a
 behind_sign l fs out sign.Like s before e a =
     like_sound false false sign.Like l fs out s before refl e a
 behind_sign l fs out sign.Ilike s before e a =
     like_sound false true sign.Ilike l fs out s before refl e a
-behind_sign l fs out sign.Escape s before e a = let b = settled 6 l fs out in
-    escape_sound b.level b.frames b.steps s before e (settled_operand 6 l fs out before [] a)
-behind_sign l fs out sign.True s before e a = absurd cc
-behind_sign l fs out sign.False s before e a = absurd cc
-behind_sign l fs out sign.Cast s before e a = absurd cc
+behind_sign l fs out sign.In s before e a = let b = settled predicate_level l fs out in
+    in_sound false b.level b.frames b.steps s before e
+    (settled_operand predicate_level l fs out before [] a)
+behind_sign l fs out sign.When s before e a = let b = settled or_level l fs out in
+    case_word_sound sign.When b.level b.frames b.steps s before e
+    (settled_operand or_level l fs out before [] a)
+behind_sign l fs out sign.Then s before e a = let b = settled or_level l fs out in
+    case_word_sound sign.Then b.level b.frames b.steps s before e
+    (settled_operand or_level l fs out before [] a)
+behind_sign l fs out sign.Else s before e a = let b = settled or_level l fs out in
+    case_word_sound sign.Else b.level b.frames b.steps s before e
+    (settled_operand or_level l fs out before [] a)
+behind_sign l fs out sign.End s before e a = let b = settled or_level l fs out in
+    case_word_sound sign.End b.level b.frames b.steps s before e
+    (settled_operand or_level l fs out before [] a)
+behind_sign l fs out sign.Escape s before e a = let b = settled concat_level l fs out in
+    escape_sound b.level b.frames b.steps s before e
+    (settled_operand concat_level l fs out before [] a)
 behind_sign l fs out sign.As s before e a = let b = settled 0 l fs out in
     as_sound b.level b.frames b.steps s before e (settled_operand 0 l fs out before [] a)
 behind_sign l fs out sign.Equal s before e a = joining_sound operator.Equal l fs out s before e a
@@ -472,31 +344,23 @@ behind_sign l fs out sign.Plus s before e a = joining_sound operator.Add l fs ou
 behind_sign l fs out sign.Minus s before e a = joining_sound operator.Sub l fs out s before e a
 behind_sign l fs out sign.Times s before e a = joining_sound operator.Mul l fs out s before e a
 behind_sign l fs out sign.Divide s before e a = joining_sound operator.Div l fs out s before e a
-behind_sign l fs out sign.Open s before e a = absurd cc
+behind_sign l fs out sign.Modulo s before e a = joining_sound operator.Mod l fs out s before e a
+behind_sign l fs out sign.Concat s before e a = joining_sound operator.Concat l fs out s before e a
 behind_sign l fs out sign.Close s before e a = let b = settled 0 l fs out in
     close_sound b.level b.frames b.steps s before e (settled_operand 0 l fs out before [] a)
 behind_sign l fs out sign.Comma s before e a = let b = settled 0 l fs out in
     comma_sound b.level b.frames b.steps s before e (settled_operand 0 l fs out before [] a)
 behind_sign l fs out sign.Typed s before e a = typed_sound l fs out s before e a
+behind_sign l fs out u s before e a = absurd cc
 
 pub behind_sound : (l : ℕ) (fs : List Frame) (out : List Step) (t : Token) (s : State)
     (before : List Token) → behind l fs out t ≡ Some s → HasOperand l fs out before []
     → HoldsIn s (before ++ (t ∷ []))
 behind_sound l fs out (sign u) s before e a = behind_sign l fs out u s before e a
-behind_sound l fs out (name w) s before e a = absurd cc
-behind_sound l fs out (nullable w) s before e a = absurd cc
-behind_sound l fs out (function w) s before e a = absurd cc
-behind_sound l fs out (quoted w) s before e a = absurd cc
-behind_sound l fs out (number w) s before e a = absurd cc
-behind_sound l fs out (text w) s before e a = absurd cc
+behind_sound l fs out t s before e a = absurd cc
 
 pub negating_sound : (l : ℕ) (fs : List Frame) (out : List Step) (t : Token) (s : State)
     (before : List Token) → specs.negating l fs out t ≡ Some s
     → HasOperand l fs out before (sign sign.Not ∷ []) → HoldsIn s (before ++ (t ∷ []))
 negating_sound l fs out (sign u) s before e a = predicate_sound true l fs out u s before e a
-negating_sound l fs out (name w) s before e a = absurd cc
-negating_sound l fs out (nullable w) s before e a = absurd cc
-negating_sound l fs out (function w) s before e a = absurd cc
-negating_sound l fs out (quoted w) s before e a = absurd cc
-negating_sound l fs out (number w) s before e a = absurd cc
-negating_sound l fs out (text w) s before e a = absurd cc
+negating_sound l fs out t s before e a = absurd cc

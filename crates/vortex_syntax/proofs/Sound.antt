@@ -15,9 +15,10 @@ use Rattle.vortex_syntax.specs.Reading.{State, state, settled, end_behind, next,
 use Rattle.vortex_syntax.specs.Reading.{steps_of}
 use Rattle.vortex_syntax.proofs.Held.{Held, frames_of, all_written, all_held}
 use Rattle.vortex_syntax.proofs.Before.{HasOperand, settled_operand, Holds, HoldsIn}
+use Rattle.vortex_syntax.proofs.ItemsSound.{in_follows}
 use Rattle.vortex_syntax.proofs.SignsSound.{behind_sound, negating_sound}
-use Rattle.vortex_syntax.proofs.OperandsSound.{wanted_sound, digits_sound, type_sound, is_follows}
-use Rattle.vortex_syntax.proofs.OperandsSound.{is_not_follows, cast_follows, cast_type_sound}
+use Rattle.vortex_syntax.proofs.OperandsSound.{wanted_sound, signed_sound, type_sound, is_follows}
+use Rattle.vortex_syntax.proofs.OperandsSound.{distinct_follows, cast_follows, cast_type_sound}
 use Rattle.vortex_syntax.proofs.OperandsSound.{cast_end_sound, escaping_sound}
 
 -- each token
@@ -26,11 +27,13 @@ pub step_sound : (m : Mode) (fs : List Frame) (out : List Step) (t : Token) (s :
     → HoldsIn s (before ++ (t ∷ []))
 unfolding next
 step_sound mode.Want fs out t s before e h = wanted_sound fs out t s before (is_operand t) refl e h
-step_sound mode.Signed fs out t s before e h = digits_sound fs out t s before e h
+step_sound mode.Signed fs out t s before e h = signed_sound fs out t s before e h
 step_sound (mode.Have l) fs out t s before e h = behind_sound l fs out t s before e h
 step_sound mode.Typing fs out t s before e h = type_sound h.0 fs out t s before e h.1 h.2
-step_sound mode.Is fs out t s before e h = is_follows h.0 fs out t s before e h.1 h.2 h.3
-step_sound mode.IsNot fs out t s before e h = is_not_follows h.0 fs out t s before e h.1 h.2 h.3
+step_sound (mode.Is n) fs out t s before e h = is_follows n h.0 fs out t s before e h.1 h.2 h.3
+step_sound (mode.Distinct n) fs out t s before e h =
+    distinct_follows n h.0 fs out t s before e h.1 h.2 h.3
+step_sound (mode.Listing n) fs out t s before e h = in_follows n h.0 fs out t s before e h.1 h.2 h.3
 step_sound (mode.Negating l) fs out t s before e h = negating_sound l fs out t s before e h.0
 step_sound mode.Casting fs out t s before e h = cast_follows fs out t s before e h
 step_sound mode.CastType fs out t s before e h = cast_type_sound h.0 fs out t s before e h.1 h.2
@@ -68,16 +71,7 @@ pub finish_sound : (m : Mode) (fs : List Frame) (out xs : List Step) (before : L
 unfolding finish
 finish_sound (mode.Have l) fs out xs before e h = let b = settled 0 l fs out in
     ended b.level b.frames b.steps xs before e (settled_operand 0 l fs out before [] h)
-finish_sound mode.Want fs out xs before e h = absurd cc
-finish_sound mode.Signed fs out xs before e h = absurd cc
-finish_sound mode.Typing fs out xs before e h = absurd cc
-finish_sound mode.Is fs out xs before e h = absurd cc
-finish_sound mode.IsNot fs out xs before e h = absurd cc
-finish_sound (mode.Negating l) fs out xs before e h = absurd cc
-finish_sound mode.Casting fs out xs before e h = absurd cc
-finish_sound mode.CastType fs out xs before e h = absurd cc
-finish_sound mode.CastEnd fs out xs before e h = absurd cc
-finish_sound (mode.Escaping k) fs out xs before e h = absurd cc
+finish_sound m fs out xs before e h = absurd cc
 
 abbrev pub ran_from : List Token → Option State → Option (List Step)
 ran_from ts o = option_and_then (λ r. run r ts) o

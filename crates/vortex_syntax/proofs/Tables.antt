@@ -6,111 +6,124 @@ use Rattle.vortex_syntax.specs.declared.step.WrittenOperator.{WrittenOperator}
 use Rattle.vortex_syntax.specs.declared.step.WrittenOperator.TheVariants as operator
 use Rattle.vortex_syntax.specs.declared.token.Sign.{Sign}
 use Rattle.vortex_syntax.specs.declared.token.Sign.TheVariants as sign
-use Rattle.vortex_syntax.specs.Frames.{Frame}
+use Rattle.vortex_syntax.specs.Frames.{Frame, hole, top_hole, ceiling, top_ceiling, guard, whole}
 use Rattle.vortex_syntax.specs.Frames as frame
-use Rattle.vortex_syntax.specs.Tokens.{Token, name, nullable, function, quoted, number, text, sign}
-use Rattle.vortex_syntax.specs.Levels.{own, left, right}
-use Rattle.vortex_syntax.specs.Reading.{hole, top_hole, guard, whole}
+use Rattle.vortex_syntax.specs.Tokens.{Token, name, sign}
+use Rattle.vortex_syntax.specs.Syntax as tree
+use Rattle.vortex_syntax.specs.Syntax.{Syntax}
+use Rattle.vortex_syntax.specs.Levels.{level, operand_level, sign_level, typed_level, own, left}
+use Rattle.vortex_syntax.specs.Levels.{right, or_level, and_level, not_level, is_level}
+use Rattle.vortex_syntax.specs.Levels.{comparison_level, predicate_level, concat_level, sum_level}
+use Rattle.vortex_syntax.specs.Levels.{product_level, atom_level, literal_level}
 
 pub own_left : (o : WrittenOperator) → own o ≤ left o
 own_left operator.Or = lit≤ tt
-own_left operator.And = lit≤ tt
-own_left operator.Add = lit≤ tt
-own_left operator.Sub = lit≤ tt
-own_left operator.Mul = lit≤ tt
-own_left operator.Div = lit≤ tt
-own_left operator.Equal = lit≤ tt
-own_left operator.NotEqual = lit≤ tt
-own_left operator.Less = lit≤ tt
-own_left operator.LessOrEqual = lit≤ tt
-own_left operator.Greater = lit≤ tt
-own_left operator.GreaterOrEqual = lit≤ tt
+own_left o = lit≤ tt
 
 pub own_right : (o : WrittenOperator) → own o < right o
 own_right operator.Or = lit< tt
-own_right operator.And = lit< tt
-own_right operator.Add = lit< tt
-own_right operator.Sub = lit< tt
-own_right operator.Mul = lit< tt
-own_right operator.Div = lit< tt
-own_right operator.Equal = lit< tt
-own_right operator.NotEqual = lit< tt
-own_right operator.Less = lit< tt
-own_right operator.LessOrEqual = lit< tt
-own_right operator.Greater = lit< tt
-own_right operator.GreaterOrEqual = lit< tt
+own_right o = lit< tt
 
-pub right_atom : (o : WrittenOperator) → right o ≤ 8
-right_atom operator.Or = lit≤ tt
-right_atom operator.And = lit≤ tt
-right_atom operator.Add = lit≤ tt
-right_atom operator.Sub = lit≤ tt
-right_atom operator.Mul = lit≤ tt
-right_atom operator.Div = lit≤ tt
-right_atom operator.Equal = lit≤ tt
-right_atom operator.NotEqual = lit≤ tt
-right_atom operator.Less = lit≤ tt
-right_atom operator.LessOrEqual = lit≤ tt
-right_atom operator.Greater = lit≤ tt
-right_atom operator.GreaterOrEqual = lit≤ tt
+pub right_sign : (o : WrittenOperator) → right o ≤ sign_level
+right_sign operator.Or = lit≤ tt
+right_sign o = lit≤ tt
 
--- no sign after an operand has the level of Not, so a sign below or at a frame's level closes it
-pub tight : (f : Frame) (n : ℕ) → 0 < guard f → n ≤ whole f → n ≢ 2 → n < guard f
-tight frame.Open n h le ne = absurd (let k : ⊥ = omega (arith, h) in k)
-tight frame.Cast n h le ne = absurd (let k : ⊥ = omega (arith, h) in k)
-tight frame.Not n h le ne = omega (arith, le, ne)
-tight (frame.Join o) n h le ne = omega (arith, le, own_right o)
-tight (frame.Between m) n h le ne = absurd (let k : ⊥ = omega (arith, h) in k)
-tight (frame.Bounded m) n h le ne = omega (arith, le)
-tight (frame.Like k) n h le ne = omega (arith, le)
-tight (frame.Arguments w m) n h le ne = absurd (let k : ⊥ = omega (arith, h) in k)
+pub own_product : (o : WrittenOperator) → own o ≤ product_level
+own_product operator.Or = lit≤ tt
+own_product o = lit≤ tt
+
+-- no sign after an operand has the level of Not or of a minus sign before one, so a sign below or
+-- at a frame's level closes it
+pub tight : (f : Frame) (n : ℕ) → 0 < guard f → n ≤ whole f → n ≢ not_level → n ≢ sign_level
+    → n < guard f
+tight frame.Not n h le ne nm = omega (arith, le, ne)
+tight frame.Minus n h le ne nm = omega (arith, le, nm)
+tight (frame.Join o) n h le ne nm = omega (arith, le, own_right o)
+tight (frame.Distinct m) n h le ne nm = omega (arith, le)
+tight (frame.Bounded m) n h le ne nm = omega (arith, le)
+tight (frame.Like k) n h le ne nm = omega (arith, le)
+tight f n h le ne nm = absurd (let k : ⊥ = omega (arith, h) in k)
 
 pub guard_hole : (f : Frame) → guard f ≤ hole f
 guard_hole frame.Open = lit≤ tt
 guard_hole frame.Cast = lit≤ tt
 guard_hole frame.Not = lit≤ tt
+guard_hole frame.Minus = lit≤ tt
 guard_hole (frame.Join o) = omega arith
+guard_hole (frame.Distinct m) = lit≤ tt
 guard_hole (frame.Between m) = lit≤ tt
 guard_hole (frame.Bounded m) = lit≤ tt
 guard_hole (frame.Like k) = lit≤ tt
 guard_hole (frame.Arguments w n) = lit≤ tt
+guard_hole (frame.Items m n) = lit≤ tt
+guard_hole (frame.Case p m n) = lit≤ tt
 
-pub hole_atom : (f : Frame) → hole f ≤ 8
-hole_atom frame.Open = lit≤ tt
-hole_atom frame.Cast = lit≤ tt
-hole_atom frame.Not = lit≤ tt
-hole_atom (frame.Join o) = right_atom o
-hole_atom (frame.Between m) = lit≤ tt
-hole_atom (frame.Bounded m) = lit≤ tt
-hole_atom (frame.Like k) = lit≤ tt
-hole_atom (frame.Arguments w n) = lit≤ tt
+pub hole_sign : (f : Frame) → hole f ≤ sign_level
+hole_sign (frame.Join o) = right_sign o
+hole_sign f = lit≤ tt
 
-pub top_atom : (fs : List Frame) → top_hole fs ≤ 8
-top_atom [] = lit≤ tt
-top_atom (f ∷ fs) = hole_atom f
+pub top_sign : (fs : List Frame) → top_hole fs ≤ sign_level
+top_sign [] = lit≤ tt
+top_sign (f ∷ fs) = hole_sign f
+
+pub top_atom : (fs : List Frame) → top_hole fs ≤ atom_level
+top_atom fs = omega (arith, top_sign fs)
+
+pub whole_atom : (f : Frame) → whole f ≤ atom_level
+whole_atom (frame.Join o) = omega (arith, own_product o)
+whole_atom f = lit≤ tt
+
+-- what may come where a frame waits
+pub atom_ceiling : (fs : List Frame) → atom_level ≤ top_ceiling fs
+atom_ceiling [] = lit≤ tt
+atom_ceiling (frame.Minus ∷ fs) = lit≤ tt
+atom_ceiling (f ∷ fs) = lit≤ tt
+
+pub typed_ceiling : (fs : List Frame) → typed_level ≤ top_ceiling fs
+    → literal_level ≤ top_ceiling fs
+typed_ceiling [] h = lit≤ tt
+typed_ceiling (frame.Minus ∷ fs) h = absurd (let k : ⊥ = omega (arith, h) in k)
+typed_ceiling (f ∷ fs) h = lit≤ tt
+
+pub ceiling_below : (fs : List Frame) (n : ℕ) → top_hole fs ≤ n → n < sign_level
+    → literal_level ≤ top_ceiling fs
+ceiling_below [] n h k = lit≤ tt
+ceiling_below (frame.Minus ∷ fs) n h k = absurd (let j : ⊥ = omega (arith, h, k) in j)
+ceiling_below (f ∷ fs) n h k = lit≤ tt
+
+operand_literal : (t : Token) → operand_level t ≤ literal_level
+operand_literal (name w) = lit≤ tt
+operand_literal t = lit≤ tt
+
+pub level_literal : (t : Syntax) → level t ≤ literal_level
+level_literal (tree.operand t) = operand_literal t
+level_literal (tree.joined o a b) = omega (arith, own_product o)
+level_literal t = lit≤ tt
 
 -- the level of the sign that comes after an operand: only frames above it are closed
 abbrev pub reach_of : Sign → ℕ
-reach_of sign.Or = 0
-reach_of sign.And = 1
-reach_of sign.Is = 3
-reach_of sign.Equal = 4
-reach_of sign.NotEqual = 4
-reach_of sign.Less = 4
-reach_of sign.LessOrEqual = 4
-reach_of sign.Greater = 4
-reach_of sign.GreaterOrEqual = 4
-reach_of sign.Not = 5
-reach_of sign.Between = 5
-reach_of sign.Like = 5
-reach_of sign.Ilike = 5
-reach_of sign.Plus = 6
-reach_of sign.Minus = 6
-reach_of sign.Escape = 6
-reach_of sign.Times = 7
-reach_of sign.Divide = 7
-reach_of sign.Typed = 9
-reach_of _ = 0
+reach_of sign.And = and_level
+reach_of sign.Is = is_level
+reach_of sign.Equal = comparison_level
+reach_of sign.NotEqual = comparison_level
+reach_of sign.Less = comparison_level
+reach_of sign.LessOrEqual = comparison_level
+reach_of sign.Greater = comparison_level
+reach_of sign.GreaterOrEqual = comparison_level
+reach_of sign.Not = predicate_level
+reach_of sign.Between = predicate_level
+reach_of sign.In = predicate_level
+reach_of sign.Like = predicate_level
+reach_of sign.Ilike = predicate_level
+reach_of sign.Escape = concat_level
+reach_of sign.Concat = concat_level
+reach_of sign.Plus = sum_level
+reach_of sign.Minus = sum_level
+reach_of sign.Times = product_level
+reach_of sign.Divide = product_level
+reach_of sign.Modulo = product_level
+reach_of sign.Typed = literal_level
+reach_of _ = or_level
 
 abbrev pub token_reach : Token → ℕ
 token_reach (sign s) = reach_of s
@@ -120,44 +133,23 @@ abbrev pub reach : List Token → ℕ
 reach [] = 0
 reach (t ∷ ts) = token_reach t
 
-sign_not_two : (s : Sign) → reach_of s ≢ 2
-sign_not_two sign.And h = absurd (let k : ⊥ = omega (arith, h) in k)
-sign_not_two sign.Or h = absurd (let k : ⊥ = omega (arith, h) in k)
-sign_not_two sign.Not h = absurd (let k : ⊥ = omega (arith, h) in k)
-sign_not_two sign.Is h = absurd (let k : ⊥ = omega (arith, h) in k)
-sign_not_two sign.Null h = absurd (let k : ⊥ = omega (arith, h) in k)
-sign_not_two sign.Between h = absurd (let k : ⊥ = omega (arith, h) in k)
-sign_not_two sign.Like h = absurd (let k : ⊥ = omega (arith, h) in k)
-sign_not_two sign.Ilike h = absurd (let k : ⊥ = omega (arith, h) in k)
-sign_not_two sign.Escape h = absurd (let k : ⊥ = omega (arith, h) in k)
-sign_not_two sign.True h = absurd (let k : ⊥ = omega (arith, h) in k)
-sign_not_two sign.False h = absurd (let k : ⊥ = omega (arith, h) in k)
-sign_not_two sign.Cast h = absurd (let k : ⊥ = omega (arith, h) in k)
-sign_not_two sign.As h = absurd (let k : ⊥ = omega (arith, h) in k)
-sign_not_two sign.Equal h = absurd (let k : ⊥ = omega (arith, h) in k)
-sign_not_two sign.NotEqual h = absurd (let k : ⊥ = omega (arith, h) in k)
-sign_not_two sign.Less h = absurd (let k : ⊥ = omega (arith, h) in k)
-sign_not_two sign.LessOrEqual h = absurd (let k : ⊥ = omega (arith, h) in k)
-sign_not_two sign.Greater h = absurd (let k : ⊥ = omega (arith, h) in k)
-sign_not_two sign.GreaterOrEqual h = absurd (let k : ⊥ = omega (arith, h) in k)
-sign_not_two sign.Plus h = absurd (let k : ⊥ = omega (arith, h) in k)
-sign_not_two sign.Minus h = absurd (let k : ⊥ = omega (arith, h) in k)
-sign_not_two sign.Times h = absurd (let k : ⊥ = omega (arith, h) in k)
-sign_not_two sign.Divide h = absurd (let k : ⊥ = omega (arith, h) in k)
-sign_not_two sign.Open h = absurd (let k : ⊥ = omega (arith, h) in k)
-sign_not_two sign.Close h = absurd (let k : ⊥ = omega (arith, h) in k)
-sign_not_two sign.Comma h = absurd (let k : ⊥ = omega (arith, h) in k)
-sign_not_two sign.Typed h = absurd (let k : ⊥ = omega (arith, h) in k)
+sign_not_ten : (s : Sign) → reach_of s ≢ sign_level
+sign_not_ten sign.And h = absurd (let k : ⊥ = omega (arith, h) in k)
+sign_not_ten s h = absurd (let k : ⊥ = omega (arith, h) in k)
 
-pub not_two : (ts : List Token) → reach ts ≢ 2
+sign_not_two : (s : Sign) → reach_of s ≢ not_level
+sign_not_two sign.And h = absurd (let k : ⊥ = omega (arith, h) in k)
+sign_not_two s h = absurd (let k : ⊥ = omega (arith, h) in k)
+
+pub not_two : (ts : List Token) → reach ts ≢ not_level
 not_two [] h = absurd (let k : ⊥ = omega (arith, h) in k)
 not_two (sign s ∷ ts) h = sign_not_two s h
-not_two (name w ∷ ts) h = absurd (let k : ⊥ = omega (arith, h) in k)
-not_two (nullable w ∷ ts) h = absurd (let k : ⊥ = omega (arith, h) in k)
-not_two (function w ∷ ts) h = absurd (let k : ⊥ = omega (arith, h) in k)
-not_two (quoted w ∷ ts) h = absurd (let k : ⊥ = omega (arith, h) in k)
-not_two (number w ∷ ts) h = absurd (let k : ⊥ = omega (arith, h) in k)
-not_two (text w ∷ ts) h = absurd (let k : ⊥ = omega (arith, h) in k)
+not_two (t ∷ ts) h = absurd (let k : ⊥ = omega (arith, h) in k)
+
+pub not_ten : (ts : List Token) → reach ts ≢ sign_level
+not_ten [] h = absurd (let k : ⊥ = omega (arith, h) in k)
+not_ten (sign s ∷ ts) h = sign_not_ten s h
+not_ten (t ∷ ts) h = absurd (let k : ⊥ = omega (arith, h) in k)
 
 pub lower : (m n : ℕ) → m < n → nat_lt m n ≡ true
 lower m n h = grind (arith, nat_tests)

@@ -1,6 +1,6 @@
 -- The tokens of a text can be written.
-use Rattle.std.proofs.Common.{◌≡◌, ℕ, true, false, cond, ◌==◌, List, [], ◌∷◌, Option, Some}
-use Rattle.std.proofs.Common.{None, refl, ap, sym, subst, ◌∙◌}
+use Rattle.std.proofs.Common.{◌≡◌, ℕ, true, false, cond, ◌==◌, List, [], ◌∷◌, Option, Some, None}
+use Rattle.std.proofs.Common.{refl, ap, sym, subst, ◌∙◌}
 use Rattle.std.specs.Prelude.{is_none}
 use Rattle.std.specs.List.{list_all}
 use Rattle.std.proofs.lemmas.Bool.{and_from, eqb-true, cond_both}
@@ -14,10 +14,10 @@ use Rattle.vortex_syntax.specs.Pieces.{behind, name_before, keyword_or_name, wor
 use Rattle.vortex_syntax.specs.Pieces.{number_before, begins_number, behind_number, front_number}
 use Rattle.vortex_syntax.specs.Pieces.{with_front, closed, quoted_by, sign_of_two, sign_of_one}
 use Rattle.vortex_syntax.specs.Pieces.{sign_before, or_else, longest_sign, minus_or_comment}
-use Rattle.vortex_syntax.specs.Pieces.{first_piece}
+use Rattle.vortex_syntax.specs.Pieces.{first_piece, behind_comment, gap_before, divide_or_comment}
 use Rattle.vortex_syntax.specs.Lexing.{Lexes, none, gap_first, token_first}
-use Rattle.vortex_syntax.specs.Writing.{doubled, is_word, is_bare, IsNumber, IsDoubled}
-use Rattle.vortex_syntax.specs.Writing.{IsWritable, AllWritable}
+use Rattle.vortex_syntax.specs.Writing.{doubled, is_word, is_bare, IsNumber, IsDoubled, IsWritable}
+use Rattle.vortex_syntax.specs.Writing.{AllWritable}
 use Rattle.vortex_syntax.proofs.Runs.{word_begun, front_is}
 use Rattle.vortex_syntax.proofs.Numbers.{front_is_number}
 
@@ -105,6 +105,18 @@ module _ (t : Token) (rest : List ℕ) where
       cond_both (c == 45) (Some (gap, behind Line cs)) (Some (token (sign sign.Minus), c ∷ cs)) Says
       (λ h. gap_says (behind Line cs)) (λ h. token_says (sign sign.Minus) (c ∷ cs) tt)
 
+  comment_says : (o : Option (List ℕ)) → Says (gap_before o)
+  comment_says None = none_says
+  comment_says (Some xs) = gap_says xs
+
+  divide_says : (bs : List ℕ) → Says (divide_or_comment bs)
+  divide_says [] = token_says (sign sign.Divide) [] tt
+  divide_says (c ∷ cs) =
+      cond_both (c == 42) (gap_before (behind_comment 0 cs))
+      (Some (token (sign sign.Divide), c ∷ cs)) Says
+      (λ h. comment_says (behind_comment 0 cs))
+      (λ h. token_says (sign sign.Divide) (c ∷ cs) tt)
+
   name_says : (w xs : List ℕ) → is_bare w ≡ true → Says (Some (name_before w xs))
   name_says w [] h = token_says (name w) [] h
   name_says w (b ∷ bs) h =
@@ -161,9 +173,11 @@ module _ (t : Token) (rest : List ℕ) where
       (number_before (front_number (b ∷ bs)) (behind_number (b ∷ bs))) texts in
       let words = cond (begins_word b)
       (Some (word_before (front Word (b ∷ bs)) (behind Word (b ∷ bs)))) numbers in
-      let minus = cond (b == 45) (minus_or_comment bs) words in
+      let divide = cond (b == 47) (divide_or_comment bs) words in
+      let minus = cond (b == 45) (minus_or_comment bs) divide in
       cond_both (is_blank b) (Some (gap, bs)) minus Says (λ h. gap_says bs)
-      (λ h. cond_both (b == 45) (minus_or_comment bs) words Says (λ h. minus_says bs)
+      (λ h. cond_both (b == 45) (minus_or_comment bs) divide Says (λ h. minus_says bs)
+      (λ h. cond_both (b == 47) (divide_or_comment bs) words Says (λ h. divide_says bs)
       (λ h. cond_both (begins_word b)
       (Some (word_before (front Word (b ∷ bs)) (behind Word (b ∷ bs)))) numbers Says
       (λ h. word_says (front Word (b ∷ bs)) (behind Word (b ∷ bs)) (word_is b bs h))
@@ -174,7 +188,7 @@ module _ (t : Token) (rest : List ℕ) where
       (λ h. cond_both (b == 39) (quoted_by text (closed 39 bs)) names Says
       (λ h. quoted_says text (closed 39 bs) (closed_is 39 bs))
       (λ h. cond_both (b == 34) (quoted_by quoted (closed 34 bs)) marks Says
-      (λ h. quoted_says quoted (closed 34 bs) (closed_is 34 bs)) (λ h. longest_says b bs))))))
+      (λ h. quoted_says quoted (closed 34 bs) (closed_is 34 bs)) (λ h. longest_says b bs)))))))
 
 pub all_writable : {bs : List ℕ} {ts : List Token} → Lexes bs ts → AllWritable ts
 all_writable none = tt

@@ -1,28 +1,116 @@
 -- Frames that wait for an operand while a text is read.
-use Rattle.std.specs.Prelude.{ℕ, List, Bool}
+use Rattle.std.specs.Prelude.{ℕ, List, [], ◌∷◌, Bool}
 use Rattle.vortex_syntax.specs.declared.step.WrittenOperator.{WrittenOperator}
 use Rattle.vortex_syntax.specs.declared.step.LikeKind.{LikeKind}
+use Rattle.vortex_syntax.specs.declared.frame.CasePart.{CasePart}
 use Rattle.vortex_syntax.specs.declared.frame.Frame as held
 use Rattle.vortex_syntax.specs.declared.frame.Frame.TheVariants as variant
+use Rattle.vortex_syntax.specs.declared.step.Call.TheVariants as call
+use Rattle.vortex_syntax.specs.Levels.{own, right, not_level, distinct_level, comparison_level}
+use Rattle.vortex_syntax.specs.Levels.{predicate_level, concat_level, sign_level, atom_level}
+use Rattle.vortex_syntax.specs.Levels.{literal_level}
+use Rattle.vortex_syntax.specs.Postfix.{Step, called}
 
 -- Between is before its `and`, Bounded after it; Arguments is a call of that name, after as many
--- arguments
+-- arguments; Items are those of IN, after as many; Case is before that part of a CASE, which has an
+-- operand if the flag is true, after as many values
 pub data Frame : Type 0 where
   Open : Frame
   Cast : Frame
   Not : Frame
+  Minus : Frame
   Join : WrittenOperator → Frame
+  Distinct : Bool → Frame
   Between : Bool → Frame
   Bounded : Bool → Frame
   Like : LikeKind → Frame
   Arguments : List ℕ → ℕ → Frame
+  Items : Bool → ℕ → Frame
+  Case : CasePart → Bool → ℕ → Frame
 
 abbrev pub frame_in : held.Frame → Frame
 frame_in variant.Open = Open
 frame_in variant.Cast = Cast
 frame_in variant.Not = Not
+frame_in variant.Minus = Minus
 frame_in (variant.Join o) = Join o
+frame_in (variant.Distinct n) = Distinct n
 frame_in (variant.Between n) = Between n
 frame_in (variant.Bounded n) = Bounded n
 frame_in (variant.Like k) = Like k
 frame_in (variant.Arguments w n) = Arguments w.now n
+frame_in (variant.Items n k) = Items n k
+frame_in (variant.Case p n k) = Case p n k
+
+-- the least level of an operand that a frame waits for
+abbrev pub hole : Frame → ℕ
+hole Open = 0
+hole Cast = 0
+hole Not = not_level
+hole Minus = sign_level
+hole (Join o) = right o
+hole (Distinct n) = comparison_level
+hole (Between n) = concat_level
+hole (Bounded n) = concat_level
+hole (Like k) = concat_level
+hole (Arguments w n) = 0
+hole (Items n k) = 0
+hole (Case p n k) = 0
+
+abbrev pub top_hole : List Frame → ℕ
+top_hole [] = 0
+top_hole (f ∷ fs) = hole f
+
+-- the highest level of an operand that a frame waits for: a minus sign before a literal is its own
+abbrev pub ceiling : Frame → ℕ
+ceiling Minus = atom_level
+ceiling f = literal_level
+
+abbrev pub top_ceiling : List Frame → ℕ
+top_ceiling [] = literal_level
+top_ceiling (f ∷ fs) = ceiling f
+
+-- a frame is closed before a sign of a lower level than this: never where more than one operand is
+-- missing
+abbrev pub guard : Frame → ℕ
+guard Open = 0
+guard Cast = 0
+guard Not = not_level
+guard Minus = sign_level
+guard (Join o) = right o
+guard (Distinct n) = comparison_level
+guard (Between n) = 0
+guard (Bounded n) = concat_level
+guard (Like k) = concat_level
+guard (Arguments w n) = 0
+guard (Items n k) = 0
+guard (Case p n k) = 0
+
+-- the level of a frame with its operand, and its step
+abbrev pub whole : Frame → ℕ
+whole Open = atom_level
+whole Cast = atom_level
+whole Not = not_level
+whole Minus = sign_level
+whole (Join o) = own o
+whole (Distinct n) = distinct_level
+whole (Between n) = predicate_level
+whole (Bounded n) = predicate_level
+whole (Like k) = predicate_level
+whole (Arguments w n) = atom_level
+whole (Items n k) = predicate_level
+whole (Case p n k) = atom_level
+
+abbrev pub closing : Frame → Step
+closing Open = called call.Not
+closing Cast = called call.Not
+closing Not = called call.Not
+closing Minus = called call.Minus
+closing (Join o) = called (call.Join o)
+closing (Distinct n) = called (call.Distinct n)
+closing (Between n) = called (call.Between n)
+closing (Bounded n) = called (call.Between n)
+closing (Like k) = called (call.Like k)
+closing (Arguments w n) = called call.Not
+closing (Items n k) = called call.Not
+closing (Case p n k) = called call.Not

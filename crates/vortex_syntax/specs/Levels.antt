@@ -5,9 +5,11 @@ use Rattle.vortex_syntax.specs.declared.step.WrittenOperator.TheVariants as oper
 use Rattle.vortex_syntax.specs.declared.token.Sign.{Sign}
 use Rattle.vortex_syntax.specs.declared.token.Sign.TheVariants as sign
 use Rattle.vortex_syntax.specs.Tokens.{Token, name, nullable, function, quoted, number, text, sign}
-use Rattle.vortex_syntax.specs.Syntax.{Syntax, operand, negative, typed, grouped, negated, joined}
-use Rattle.vortex_syntax.specs.Syntax.{tested, between, matched, cast, nullary, applied, Arguments}
-use Rattle.vortex_syntax.specs.Syntax.{no_arguments, argument}
+use Rattle.vortex_syntax.specs.Syntax.{Syntax, operand, negative, minus, typed, grouped, negated}
+use Rattle.vortex_syntax.specs.Syntax.{joined, tested, distinct, between, matched, listed, cast}
+use Rattle.vortex_syntax.specs.Syntax.{nullary, chosen, chosen_else, applied, Arguments}
+use Rattle.vortex_syntax.specs.Syntax.{no_arguments, argument, Branches, without_operand}
+use Rattle.vortex_syntax.specs.Syntax.{of_operand, branch}
 
 abbrev pub or_level : ℕ
 or_level = 0
@@ -18,57 +20,78 @@ and_level = 1
 abbrev pub not_level : ℕ
 not_level = 2
 
+-- IS DISTINCT FROM, which no IS may follow
+abbrev pub distinct_level : ℕ
+distinct_level = 3
+
 abbrev pub is_level : ℕ
-is_level = 3
+is_level = 4
 
 abbrev pub comparison_level : ℕ
-comparison_level = 4
+comparison_level = 5
 
--- BETWEEN and LIKE
+-- BETWEEN, IN and LIKE
 abbrev pub predicate_level : ℕ
-predicate_level = 5
+predicate_level = 6
+
+abbrev pub concat_level : ℕ
+concat_level = 7
 
 abbrev pub sum_level : ℕ
-sum_level = 6
+sum_level = 8
 
 abbrev pub product_level : ℕ
-product_level = 7
+product_level = 9
 
--- columns, brackets, casts, and literals with a type
+-- a minus sign before what is no literal
+abbrev pub sign_level : ℕ
+sign_level = 10
+
+-- columns, brackets, casts, calls and CASE
 abbrev pub atom_level : ℕ
-atom_level = 8
+atom_level = 11
+
+-- literals with a type
+abbrev pub typed_level : ℕ
+typed_level = 12
 
 -- literals without a type; only these may be followed by one
 abbrev pub literal_level : ℕ
-literal_level = 9
+literal_level = 13
 
--- the level of an operator's tree, and the least levels of its operands: Or, And, sums and products
--- group from left to right, and comparisons do not chain
+-- the level of an operator's tree, and the least levels of its operands: operators group from left
+-- to right, but comparisons do not chain
 abbrev pub own : WrittenOperator → ℕ
 own operator.Or = or_level
 own operator.And = and_level
+own operator.Concat = concat_level
 own operator.Add = sum_level
 own operator.Sub = sum_level
 own operator.Mul = product_level
 own operator.Div = product_level
+own operator.Mod = product_level
 own _ = comparison_level
 
 abbrev pub left : WrittenOperator → ℕ
 left operator.Or = or_level
 left operator.And = and_level
+left operator.Concat = concat_level
 left operator.Add = sum_level
 left operator.Sub = sum_level
 left operator.Mul = product_level
 left operator.Div = product_level
+left operator.Mod = product_level
 left _ = predicate_level
 
 abbrev pub right : WrittenOperator → ℕ
 right operator.Or = and_level
 right operator.And = not_level
+right operator.Concat = sum_level
 right operator.Add = product_level
 right operator.Sub = product_level
-right operator.Mul = atom_level
-right operator.Div = atom_level
+right operator.Mul = sign_level
+right operator.Div = sign_level
+right operator.Mod = sign_level
 right _ = predicate_level
 
 -- columns and literals, by their tokens
@@ -95,14 +118,19 @@ operand_level _ = literal_level
 abbrev pub level : Syntax → ℕ
 level (operand t) = operand_level t
 level (negative ds) = literal_level
-level (typed a w n) = atom_level
+level (minus a) = sign_level
+level (typed a w n) = typed_level
 level (grouped a) = atom_level
 level (negated a) = not_level
 level (joined o a b) = own o
-level (tested n a) = is_level
+level (tested k n a) = is_level
+level (distinct n a b) = distinct_level
 level (between n a low high) = predicate_level
 level (matched k a p e) = predicate_level
+level (listed n a args b) = predicate_level
 level (cast a w n) = atom_level
+level (chosen bs c v) = atom_level
+level (chosen_else bs c v e) = atom_level
 level (nullary w) = atom_level
 level (applied w args a) = atom_level
 
@@ -111,19 +139,29 @@ abbrev mutual
   pub Fits : Syntax → Type 0
   Fits (operand t) = is_operand t ≡ true
   Fits (negative ds) = Unit {0}
+  Fits (minus a) = (sign_level ≤ level a) × (level a ≤ atom_level) × Fits a
   Fits (typed a w n) = (literal_level ≤ level a) × Fits a
   Fits (grouped a) = Fits a
   Fits (negated a) = (not_level ≤ level a) × Fits a
   Fits (joined o a b) = (left o ≤ level a) × (right o ≤ level b) × Fits a × Fits b
-  Fits (tested n a) = (is_level ≤ level a) × Fits a
+  Fits (tested k n a) = (is_level ≤ level a) × Fits a
+  Fits (distinct n a b) = (is_level ≤ level a) × (comparison_level ≤ level b) × Fits a × Fits b
   Fits (between n a low high) =
-      (sum_level ≤ level a) × (sum_level ≤ level low) × (sum_level ≤ level high) × Fits a
+      (concat_level ≤ level a) × (concat_level ≤ level low) × (concat_level ≤ level high) × Fits a
       × Fits low × Fits high
-  Fits (matched k a p e) = (sum_level ≤ level a) × (sum_level ≤ level p) × Fits a × Fits p
+  Fits (matched k a p e) = (concat_level ≤ level a) × (concat_level ≤ level p) × Fits a × Fits p
+  Fits (listed n a args b) = (concat_level ≤ level a) × Fits a × AllFit args × Fits b
   Fits (cast a w n) = Fits a
+  Fits (chosen bs c v) = BranchesFit bs × Fits c × Fits v
+  Fits (chosen_else bs c v e) = BranchesFit bs × Fits c × Fits v × Fits e
   Fits (nullary w) = Unit {0}
   Fits (applied w args a) = AllFit args × Fits a
 
   pub AllFit : Arguments → Type 0
   AllFit no_arguments = Unit {0}
   AllFit (argument args a) = AllFit args × Fits a
+
+  pub BranchesFit : Branches → Type 0
+  BranchesFit without_operand = Unit {0}
+  BranchesFit (of_operand a) = Fits a
+  BranchesFit (branch bs c v) = BranchesFit bs × Fits c × Fits v

@@ -1,5 +1,5 @@
 -- The first piece of a text, a gap or a token, and what follows it.
-use Rattle.std.specs.Prelude.{◌==◌, ◌||◌, ◌&&◌, ◌-◌, ℕ, Bool, true, false, List, [], ◌∷◌, ◌++◌}
+use Rattle.std.specs.Prelude.{suc, ◌==◌, ◌||◌, ◌&&◌, ◌-◌, ℕ, Bool, true, false, List, [], ◌∷◌, ◌++◌}
 use Rattle.std.specs.Prelude.{length, take, Option, Some, None, if◌then◌else◌}
 use Rattle.std.specs.Char.{is_ascii_alphabetic, is_ascii_alphanumeric, is_ascii_digit}
 use Rattle.vortex_syntax.specs.declared.token.Sign.{Sign}
@@ -125,7 +125,8 @@ sign_of_two b c =
     else (if c == 62 then Some sign.NotEqual else None))
     else (if b == 62 then (if c == 61 then Some sign.GreaterOrEqual else None)
     else (if b == 33 then (if c == 61 then Some sign.NotEqual else None)
-    else (if b == 58 then (if c == 58 then Some sign.Typed else None) else None)))
+    else (if b == 58 then (if c == 58 then Some sign.Typed else None)
+    else (if b == 124 then (if c == 124 then Some sign.Concat else None) else None))))
 
 abbrev pub sign_of_one : ℕ → Option Sign
 sign_of_one b =
@@ -134,7 +135,7 @@ sign_of_one b =
     else (if b == 62 then Some sign.Greater
     else (if b == 43 then Some sign.Plus
     else (if b == 42 then Some sign.Times
-    else (if b == 47 then Some sign.Divide
+    else (if b == 37 then Some sign.Modulo
     else (if b == 40 then Some sign.Open
     else (if b == 41 then Some sign.Close
     else (if b == 44 then Some sign.Comma else None))))))))
@@ -158,14 +159,34 @@ minus_or_comment [] = Some (token (sign sign.Minus), [])
 minus_or_comment (c ∷ bs) =
     if c == 45 then Some (gap, behind Line bs) else Some (token (sign sign.Minus), c ∷ bs)
 
+-- what follows a comment between `/*` and `*/`, inside of as many more
+abbrev pub behind_comment : ℕ → List ℕ → Option (List ℕ)
+behind_comment d [] = None
+behind_comment d (b ∷ []) = None
+behind_comment d (b ∷ c ∷ bs) =
+    if (b == 47) && (c == 42) then behind_comment (suc d) bs
+    else (if (b == 42) && (c == 47) then (if d == 0 then Some bs else behind_comment (d - 1) bs)
+    else behind_comment d (c ∷ bs))
+
+abbrev pub gap_before : Option (List ℕ) → Cut
+gap_before None = None
+gap_before (Some bs) = Some (gap, bs)
+
+abbrev pub divide_or_comment : List ℕ → Cut
+divide_or_comment [] = Some (token (sign sign.Divide), [])
+divide_or_comment (c ∷ bs) =
+    if c == 42 then gap_before (behind_comment 0 bs)
+    else Some (token (sign sign.Divide), c ∷ bs)
+
 unfoldable pub first_piece : List ℕ → Cut
 first_piece [] = None
 first_piece (b ∷ bs) =
     if is_blank b then Some (gap, bs)
     else (if b == 45 then minus_or_comment bs
+    else (if b == 47 then divide_or_comment bs
     else (if begins_word b then Some (word_before (front Word (b ∷ bs)) (behind Word (b ∷ bs)))
     else (if begins_number (b ∷ bs)
     then number_before (front_number (b ∷ bs)) (behind_number (b ∷ bs))
     else (if b == 39 then quoted_by text (closed 39 bs)
     else (if b == 34 then quoted_by quoted (closed 34 bs)
-    else longest_sign b bs)))))
+    else longest_sign b bs))))))

@@ -1,6 +1,5 @@
 -- A tree's steps in postfix order: its operands' steps first, and no brackets.
-use Rattle.std.specs.Prelude.{ℕ, suc, List, [], ◌∷◌, ◌++◌, Bool, Option, Some, None}
-use Rattle.std.specs.Prelude.{if◌then◌else◌}
+use Rattle.std.specs.Prelude.{ℕ, suc, List, [], ◌∷◌, ◌++◌, Bool, true, false, Option, Some, None}
 use Rattle.vortex_syntax.specs.declared.step.LikeKind.{LikeKind}
 use Rattle.vortex_syntax.specs.declared.step.Call.{Call}
 use Rattle.vortex_syntax.specs.declared.step.Call.TheVariants as call
@@ -8,7 +7,7 @@ use Rattle.vortex_syntax.specs.declared.step.Step as read
 use Rattle.vortex_syntax.specs.declared.step.Step.TheVariants as variant
 use Rattle.vortex_syntax.specs.Tokens.{Token, token_in}
 use Rattle.vortex_syntax.specs.Syntax as tree
-use Rattle.vortex_syntax.specs.Syntax.{Syntax, Arguments}
+use Rattle.vortex_syntax.specs.Syntax.{Syntax, Arguments, Branches}
 
 pub data Step : Type 0 where
   operand : Token → Step
@@ -17,6 +16,8 @@ pub data Step : Type 0 where
   cast : List ℕ → Bool → Step
   escaped : LikeKind → List ℕ → Step
   applied : List ℕ → ℕ → Step
+  listed : Bool → ℕ → Step
+  chosen : Bool → ℕ → Bool → Step
   called : Call → Step
 
 abbrev pub step_in : read.Step → Step
@@ -26,32 +27,51 @@ step_in (variant.Typed w n) = typed w.now n
 step_in (variant.Cast w n) = cast w.now n
 step_in (variant.Escaped k e) = escaped k e.now
 step_in (variant.Apply w n) = applied w.now n
+step_in (variant.In n k) = listed n k
+step_in (variant.Case n k e) = chosen n k e
 step_in (variant.Call c) = called c
 
 abbrev pub like_step : LikeKind → Option (List ℕ) → Step
 like_step k None = called (call.Like k)
 like_step k (Some e) = escaped k e
 
-abbrev pub null_call : Bool → Call
-null_call n = if n then call.IsNotNull else call.IsNull
-
 abbrev pub argument_count : Arguments → ℕ
 argument_count tree.no_arguments = 0
 argument_count (tree.argument args a) = suc (argument_count args)
+
+abbrev pub has_operand : Branches → Bool
+has_operand tree.without_operand = false
+has_operand (tree.of_operand a) = true
+has_operand (tree.branch bs c v) = has_operand bs
+
+abbrev pub branch_count : Branches → ℕ
+branch_count tree.without_operand = 0
+branch_count (tree.of_operand a) = 0
+branch_count (tree.branch bs c v) = suc (branch_count bs)
 
 abbrev mutual
   pub postfix : Syntax → List Step
   postfix (tree.operand t) = operand t ∷ []
   postfix (tree.negative ds) = negative ds ∷ []
+  postfix (tree.minus a) = postfix a ++ (called call.Minus ∷ [])
   postfix (tree.typed a w n) = postfix a ++ (typed w n ∷ [])
   postfix (tree.grouped a) = postfix a
   postfix (tree.negated a) = postfix a ++ (called call.Not ∷ [])
   postfix (tree.joined o a b) = postfix a ++ (postfix b ++ (called (call.Join o) ∷ []))
-  postfix (tree.tested n a) = postfix a ++ (called (null_call n) ∷ [])
+  postfix (tree.tested k n a) = postfix a ++ (called (call.Is k n) ∷ [])
+  postfix (tree.distinct n a b) = postfix a ++ (postfix b ++ (called (call.Distinct n) ∷ []))
   postfix (tree.between n a low high) =
       postfix a ++ (postfix low ++ (postfix high ++ (called (call.Between n) ∷ [])))
   postfix (tree.matched k a p e) = postfix a ++ (postfix p ++ (like_step k e ∷ []))
+  postfix (tree.listed n a args b) =
+      postfix a ++ (all_postfix args ++ (postfix b ++ (listed n (suc (argument_count args)) ∷ [])))
   postfix (tree.cast a w n) = postfix a ++ (cast w n ∷ [])
+  postfix (tree.chosen bs c v) =
+      branches_postfix bs ++ (postfix c ++ (postfix v
+      ++ (chosen (has_operand bs) (suc (branch_count bs)) false ∷ [])))
+  postfix (tree.chosen_else bs c v e) =
+      branches_postfix bs ++ (postfix c ++ (postfix v ++ (postfix e
+      ++ (chosen (has_operand bs) (suc (branch_count bs)) true ∷ []))))
   postfix (tree.nullary w) = applied w 0 ∷ []
   postfix (tree.applied w args a) =
       all_postfix args ++ (postfix a ++ (applied w (suc (argument_count args)) ∷ []))
@@ -59,3 +79,8 @@ abbrev mutual
   pub all_postfix : Arguments → List Step
   all_postfix tree.no_arguments = []
   all_postfix (tree.argument args a) = all_postfix args ++ postfix a
+
+  pub branches_postfix : Branches → List Step
+  branches_postfix tree.without_operand = []
+  branches_postfix (tree.of_operand a) = postfix a
+  branches_postfix (tree.branch bs c v) = branches_postfix bs ++ (postfix c ++ postfix v)

@@ -1,25 +1,33 @@
 -- Reading from left to right, one token at a time, with the frames that wait for an operand.
-use Rattle.std.specs.Prelude.{map, reverse, ℕ, zero, suc, ◌&&◌, nat_lt, nat_le, List, [], ◌∷◌, ◌++◌, Bool}
-use Rattle.std.specs.Prelude.{true, false, Option, Some, None, if◌then◌else◌, Result, IfOk, ◌≡◌}
+use Rattle.std.specs.Prelude.{map, reverse, ℕ, zero, suc, ◌&&◌, nat_lt, nat_le, List, [], ◌∷◌, ◌++◌}
+use Rattle.std.specs.Prelude.{Bool, true, false, Option, Some, None, Result, IfOk, ◌≡◌}
+use Rattle.std.specs.Prelude.{if◌then◌else◌}
 use Rattle.std.specs.declared.alloc.AllocError.{AllocError}
 use Rattle.std.specs.Option.{option_and_then, option_map}
 use Rattle.vortex_syntax.specs.declared.step.WrittenOperator.{WrittenOperator}
 use Rattle.vortex_syntax.specs.declared.step.WrittenOperator.TheVariants as operator
+use Rattle.vortex_syntax.specs.declared.step.Test.{Test}
+use Rattle.vortex_syntax.specs.declared.step.Test.TheVariants as test
 use Rattle.vortex_syntax.specs.declared.step.LikeKind.{LikeKind}
 use Rattle.vortex_syntax.specs.declared.step.Call.TheVariants as call
 use Rattle.vortex_syntax.specs.declared.token.Sign.{Sign}
 use Rattle.vortex_syntax.specs.declared.token.Sign.TheVariants as sign
+use Rattle.vortex_syntax.specs.declared.frame.CasePart.{CasePart}
+use Rattle.vortex_syntax.specs.declared.frame.CasePart.TheVariants as part
 use Rattle.vortex_syntax.specs.declared.frame.Mode.{Mode}
 use Rattle.vortex_syntax.specs.declared.frame.Mode.TheVariants as mode
 use Rattle.vortex_syntax.specs.Tokens.{Token, name, nullable, function, number, text, sign}
-use Rattle.vortex_syntax.specs.Levels.{own, left, right, or_level, and_level, not_level, is_level}
-use Rattle.vortex_syntax.specs.Levels.{predicate_level, sum_level, atom_level, literal_level}
+use Rattle.vortex_syntax.specs.Levels.{own, left, or_level, and_level, not_level}
+use Rattle.vortex_syntax.specs.Levels.{typed_level, distinct_level, is_level}
+use Rattle.vortex_syntax.specs.Levels.{predicate_level, concat_level, atom_level, literal_level}
 use Rattle.vortex_syntax.specs.Levels.{is_operand, operand_level}
+use Rattle.vortex_syntax.specs.Spelling.{operator_of}
 use Rattle.vortex_syntax.specs.declared.reading.Reading.{Reading}
 use Rattle.vortex_syntax.specs.Frames as frame
-use Rattle.vortex_syntax.specs.Frames.{Frame, frame_in}
+use Rattle.vortex_syntax.specs.Frames.{Frame, frame_in, top_hole, top_ceiling, guard, whole}
+use Rattle.vortex_syntax.specs.Frames.{closing}
 use Rattle.vortex_syntax.specs.Postfix.{Step, step_in, operand, negative, typed, cast, escaped}
-use Rattle.vortex_syntax.specs.Postfix.{applied, called, null_call}
+use Rattle.vortex_syntax.specs.Postfix.{applied, listed, chosen, called}
 
 -- the last frame is first
 pub record State : Type 0 where
@@ -39,54 +47,6 @@ steps_in r = map step_in r.tree.steps.items
 
 abbrev pub seen : Reading → Mode → State
 seen r m = state m (frames_in r) (steps_in r)
-
--- the least level of an operand that a frame waits for
-abbrev pub hole : Frame → ℕ
-hole frame.Open = 0
-hole frame.Cast = 0
-hole frame.Not = not_level
-hole (frame.Join o) = right o
-hole (frame.Between n) = sum_level
-hole (frame.Bounded n) = sum_level
-hole (frame.Like k) = sum_level
-hole (frame.Arguments w n) = 0
-
-abbrev pub top_hole : List Frame → ℕ
-top_hole [] = 0
-top_hole (f ∷ fs) = hole f
-
--- a frame is closed before a sign of a lower level than this: never where more than one operand is
--- missing
-abbrev pub guard : Frame → ℕ
-guard frame.Open = 0
-guard frame.Cast = 0
-guard frame.Not = not_level
-guard (frame.Join o) = right o
-guard (frame.Between n) = 0
-guard (frame.Bounded n) = sum_level
-guard (frame.Like k) = sum_level
-guard (frame.Arguments w n) = 0
-
--- the level of a frame with its operand, and its step
-abbrev pub whole : Frame → ℕ
-whole frame.Open = atom_level
-whole frame.Cast = atom_level
-whole frame.Not = not_level
-whole (frame.Join o) = own o
-whole (frame.Between n) = predicate_level
-whole (frame.Bounded n) = predicate_level
-whole (frame.Like k) = predicate_level
-whole (frame.Arguments w n) = atom_level
-
-abbrev pub closing : Frame → Step
-closing frame.Open = called call.Not
-closing frame.Cast = called call.Not
-closing frame.Not = called call.Not
-closing (frame.Join o) = called (call.Join o)
-closing (frame.Between n) = called (call.Between n)
-closing (frame.Bounded n) = called (call.Between n)
-closing (frame.Like k) = called (call.Like k)
-closing (frame.Arguments w n) = called call.Not
 
 -- an operand of a level, after pending frames
 pub record Operand : Type 0 where
@@ -125,21 +85,6 @@ shifted p l f level fs out = waiting p l f (settled p level fs out)
 abbrev pub joining : WrittenOperator → ℕ → List Frame → List Step → Option State
 joining o = shifted (own o) (left o) (frame.Join o)
 
--- the operators except And, by their signs
-abbrev pub operator_of : Sign → Option WrittenOperator
-operator_of sign.Or = Some operator.Or
-operator_of sign.Equal = Some operator.Equal
-operator_of sign.NotEqual = Some operator.NotEqual
-operator_of sign.Less = Some operator.Less
-operator_of sign.LessOrEqual = Some operator.LessOrEqual
-operator_of sign.Greater = Some operator.Greater
-operator_of sign.GreaterOrEqual = Some operator.GreaterOrEqual
-operator_of sign.Plus = Some operator.Add
-operator_of sign.Minus = Some operator.Sub
-operator_of sign.Times = Some operator.Mul
-operator_of sign.Divide = Some operator.Div
-operator_of _ = None
-
 -- `and` ends the lower bound of a pending BETWEEN, or else joins
 abbrev pub and_behind : ℕ → List Frame → List Step → Option State
 and_behind l [] out = waiting and_level and_level (frame.Join operator.And) (operand_of l [] out)
@@ -149,27 +94,58 @@ and_behind l (f ∷ fs) out =
 
 abbrev pub is_behind : ℕ → List Frame → List Step → Option State
 is_behind l fs out =
-    if nat_le is_level l && nat_le (top_hole fs) is_level then Some (state mode.Is fs out) else None
+    if nat_le is_level l && nat_le (top_hole fs) is_level then Some (state
+    (mode.Is false) fs out) else None
 
--- a `not` after an operand, which BETWEEN or LIKE may follow
+-- a `not` after an operand, which BETWEEN, IN or LIKE may follow
 abbrev pub not_behind : ℕ → List Frame → List Step → Option State
 not_behind l fs out =
-    if nat_le sum_level l && nat_le (top_hole fs) predicate_level
+    if nat_le concat_level l && nat_le (top_hole fs) predicate_level
     then Some (state (mode.Negating l) fs out) else None
+
+-- an `in` after an operand, which a bracket has to follow
+abbrev pub in_behind : Bool → ℕ → List Frame → List Step → Option State
+in_behind n l fs out =
+    if nat_le concat_level l && nat_le (top_hole fs) predicate_level
+    then Some (state (mode.Listing n) fs out) else None
 
 abbrev pub close_behind : List Frame → List Step → Option State
 close_behind [] out = None
 close_behind (frame.Open ∷ fs) out = Some (state (mode.Have atom_level) fs out)
 close_behind (frame.Arguments w n ∷ fs) out =
     Some (state (mode.Have atom_level) fs (out ++ (applied w (suc n) ∷ [])))
+close_behind (frame.Items n k ∷ fs) out =
+    Some (state (mode.Have predicate_level) fs (out ++ (listed n (suc k) ∷ [])))
 close_behind (f ∷ fs) out = None
 
--- a comma ends an argument
+-- a comma ends an argument or an item
 abbrev pub comma_behind : List Frame → List Step → Option State
 comma_behind [] out = None
 comma_behind (frame.Arguments w n ∷ fs) out =
     Some (state mode.Want (frame.Arguments w (suc n) ∷ fs) out)
+comma_behind (frame.Items n k ∷ fs) out = Some (state mode.Want (frame.Items n (suc k) ∷ fs) out)
 comma_behind (f ∷ fs) out = None
+
+-- the words of a CASE after that part
+abbrev pub case_waits : CasePart → Bool → ℕ → List Frame → List Step → Option State
+case_waits p n k fs out = Some (state mode.Want (frame.Case p n k ∷ fs) out)
+
+abbrev pub case_ends : Bool → ℕ → Bool → List Frame → List Step → Option State
+case_ends n k e fs out = Some (state (mode.Have atom_level) fs (out ++ (chosen n k e ∷ [])))
+
+abbrev pub case_behind : CasePart → Bool → ℕ → List Frame → List Step → Sign → Option State
+case_behind part.Operand n k fs out sign.When = case_waits part.When true 0 fs out
+case_behind part.When n k fs out sign.Then = case_waits part.Then n k fs out
+case_behind part.Then n k fs out sign.When = case_waits part.When n (suc k) fs out
+case_behind part.Then n k fs out sign.Else = case_waits part.Else n (suc k) fs out
+case_behind part.Then n k fs out sign.End = case_ends n (suc k) false fs out
+case_behind part.Else n k fs out sign.End = case_ends n k true fs out
+case_behind p n k fs out s = None
+
+abbrev pub case_word : List Frame → List Step → Sign → Option State
+case_word [] out s = None
+case_word (frame.Case p n k ∷ fs) out s = case_behind p n k fs out s
+case_word (f ∷ fs) out s = None
 
 abbrev pub as_behind : List Frame → List Step → Option State
 as_behind [] out = None
@@ -191,11 +167,13 @@ like_kind n i = record { negated = n; case_insensitive = i }
 
 unfoldable pub predicate : Bool → ℕ → List Frame → List Step → Sign → Option State
 predicate n level fs out sign.Between =
-    shifted predicate_level sum_level (frame.Between n) level fs out
+    shifted predicate_level concat_level (frame.Between n) level fs out
 predicate n level fs out sign.Like =
-    shifted predicate_level sum_level (frame.Like (like_kind n false)) level fs out
+    shifted predicate_level concat_level (frame.Like (like_kind n false)) level fs out
 predicate n level fs out sign.Ilike =
-    shifted predicate_level sum_level (frame.Like (like_kind n true)) level fs out
+    shifted predicate_level concat_level (frame.Like (like_kind n true)) level fs out
+predicate n level fs out sign.In =
+    let a = settled predicate_level level fs out in in_behind n a.level a.frames a.steps
 predicate n level fs out s = None
 
 unfoldable pub word_after : ℕ → List Frame → List Step → Sign → Option State
@@ -211,8 +189,16 @@ word_after level fs out sign.Comma =
     let a = settled or_level level fs out in comma_behind a.frames a.steps
 word_after level fs out sign.As =
     let a = settled or_level level fs out in as_behind a.frames a.steps
+word_after level fs out sign.When =
+    let a = settled or_level level fs out in case_word a.frames a.steps sign.When
+word_after level fs out sign.Then =
+    let a = settled or_level level fs out in case_word a.frames a.steps sign.Then
+word_after level fs out sign.Else =
+    let a = settled or_level level fs out in case_word a.frames a.steps sign.Else
+word_after level fs out sign.End =
+    let a = settled or_level level fs out in case_word a.frames a.steps sign.End
 word_after level fs out sign.Escape =
-    let a = settled sum_level level fs out in escape_behind a.frames a.steps
+    let a = settled concat_level level fs out in escape_behind a.frames a.steps
 word_after level fs out sign.Typed =
     if nat_le literal_level level then Some (state mode.Typing fs out) else None
 word_after level fs out s = predicate false level fs out s
@@ -237,6 +223,12 @@ close_expected (frame.Arguments w zero ∷ fs) out =
     Some (state (mode.Have atom_level) fs (out ++ (applied w 0 ∷ [])))
 close_expected (f ∷ fs) out = None
 
+-- the first `when` of a CASE without an operand
+abbrev pub when_expected : List Frame → List Step → Option State
+when_expected [] out = None
+when_expected (frame.Case part.Operand n k ∷ fs) out = case_waits part.When false 0 fs out
+when_expected (f ∷ fs) out = None
+
 -- an operand's first token
 abbrev pub sign_expected : List Frame → List Step → Sign → Option State
 sign_expected fs out sign.Minus = Some (state mode.Signed fs out)
@@ -244,6 +236,8 @@ sign_expected fs out sign.Not =
     if nat_le (top_hole fs) not_level then Some (state mode.Want (frame.Not ∷ fs) out) else None
 sign_expected fs out sign.Open = Some (state mode.Want (frame.Open ∷ fs) out)
 sign_expected fs out sign.Cast = Some (state mode.Casting fs out)
+sign_expected fs out sign.Case = case_waits part.Operand false 0 fs out
+sign_expected fs out sign.When = when_expected fs out
 sign_expected fs out sign.Close = close_expected fs out
 sign_expected fs out s = None
 
@@ -252,20 +246,29 @@ other_wanted fs out (sign s) = sign_expected fs out s
 other_wanted fs out (function w) = Some (state mode.Want (frame.Arguments w 0 ∷ fs) out)
 other_wanted fs out t = None
 
-abbrev pub before_operand : List Frame → List Step → Token → Option State
-before_operand fs out t =
-    if is_operand t then Some (state (mode.Have (operand_level t)) fs (out ++ (operand t ∷ [])))
-    else other_wanted fs out t
+abbrev pub operand_read : List Frame → List Step → Token → Option State
+operand_read fs out t =
+    if nat_le (operand_level t) (top_ceiling fs)
+    then Some (state (mode.Have (operand_level t)) fs (out ++ (operand t ∷ []))) else None
 
-abbrev pub digits_expected : List Frame → List Step → Token → Option State
-digits_expected fs out (number ds) =
-    Some (state (mode.Have literal_level) fs (out ++ (negative ds ∷ [])))
-digits_expected fs out t = None
+abbrev pub before_operand : List Frame → List Step → Token → Option State
+before_operand fs out t = if is_operand t then operand_read fs out t else other_wanted fs out t
+
+-- what follows a minus sign
+abbrev pub digits_read : List Frame → List Step → List ℕ → Option State
+digits_read fs out ds =
+    if nat_le literal_level (top_ceiling fs)
+    then Some (state (mode.Have literal_level) fs (out ++ (negative ds ∷ []))) else None
+
+abbrev pub signed : List Frame → List Step → Token → Option State
+signed fs out (number ds) = digits_read fs out ds
+signed fs out t = before_operand (frame.Minus ∷ fs) out t
 
 abbrev pub type_expected : List Frame → List Step → Token → Option State
-type_expected fs out (name w) = Some (state (mode.Have atom_level) fs (out ++ (typed w false ∷ [])))
+type_expected fs out (name w) =
+    Some (state (mode.Have typed_level) fs (out ++ (typed w false ∷ [])))
 type_expected fs out (nullable w) =
-    Some (state (mode.Have atom_level) fs (out ++ (typed w true ∷ [])))
+    Some (state (mode.Have typed_level) fs (out ++ (typed w true ∷ [])))
 type_expected fs out t = None
 
 abbrev pub cast_expected : List Frame → List Step → Token → Option State
@@ -274,17 +277,32 @@ cast_expected fs out (nullable w) = Some (state mode.CastEnd fs (out ++ (cast w 
 cast_expected fs out t = None
 
 -- the words and signs that have only one possible successor
-abbrev pub null_test : Bool → List Frame → List Step → Option State
-null_test n fs out = Some (state (mode.Have is_level) fs (out ++ (called (null_call n) ∷ [])))
+abbrev pub tested : Test → Bool → List Frame → List Step → Option State
+tested k n fs out = Some (state (mode.Have is_level) fs (out ++ (called (call.Is k n) ∷ [])))
 
-abbrev pub after_is : List Frame → List Step → Token → Option State
-after_is fs out (sign sign.Null) = null_test false fs out
-after_is fs out (sign sign.Not) = Some (state mode.IsNot fs out)
-after_is fs out t = None
+abbrev pub is_not : Bool → List Frame → List Step → Option State
+is_not n fs out = if n then None else Some (state (mode.Is true) fs out)
 
-abbrev pub after_is_not : List Frame → List Step → Token → Option State
-after_is_not fs out (sign sign.Null) = null_test true fs out
-after_is_not fs out t = None
+abbrev pub distinct : Bool → List Frame → List Step → Option State
+distinct n fs out =
+    if nat_le (top_hole fs) distinct_level then Some (state (mode.Distinct n) fs out) else None
+
+abbrev pub after_is : Bool → List Frame → List Step → Token → Option State
+after_is n fs out (sign sign.Null) = tested test.Null n fs out
+after_is n fs out (sign sign.True) = tested test.True n fs out
+after_is n fs out (sign sign.False) = tested test.False n fs out
+after_is n fs out (sign sign.Unknown) = tested test.Unknown n fs out
+after_is n fs out (sign sign.Not) = is_not n fs out
+after_is n fs out (sign sign.Distinct) = distinct n fs out
+after_is n fs out t = None
+
+abbrev pub after_distinct : Bool → List Frame → List Step → Token → Option State
+after_distinct n fs out (sign sign.From) = Some (state mode.Want (frame.Distinct n ∷ fs) out)
+after_distinct n fs out t = None
+
+abbrev pub after_in : Bool → List Frame → List Step → Token → Option State
+after_in n fs out (sign sign.Open) = Some (state mode.Want (frame.Items n 0 ∷ fs) out)
+after_in n fs out t = None
 
 abbrev pub after_cast : List Frame → List Step → Token → Option State
 after_cast fs out (sign sign.Open) = Some (state mode.Want (frame.Cast ∷ fs) out)
@@ -301,11 +319,12 @@ after_escape k fs out t = None
 
 unfoldable pub next : Mode → List Frame → List Step → Token → Option State
 next mode.Want fs out t = before_operand fs out t
-next mode.Signed fs out t = digits_expected fs out t
+next mode.Signed fs out t = signed fs out t
 next (mode.Have level) fs out t = behind level fs out t
 next mode.Typing fs out t = type_expected fs out t
-next mode.Is fs out t = after_is fs out t
-next mode.IsNot fs out t = after_is_not fs out t
+next (mode.Is n) fs out t = after_is n fs out t
+next (mode.Distinct n) fs out t = after_distinct n fs out t
+next (mode.Listing n) fs out t = after_in n fs out t
 next (mode.Negating level) fs out t = negating level fs out t
 next mode.Casting fs out t = after_cast fs out t
 next mode.CastType fs out t = cast_expected fs out t

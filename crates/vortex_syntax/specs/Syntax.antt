@@ -1,35 +1,52 @@
 -- Syntax trees, with the brackets as written.
 use Rattle.std.specs.Prelude.{ℕ, List, Bool, Option}
 use Rattle.vortex_syntax.specs.declared.step.WrittenOperator.{WrittenOperator}
+use Rattle.vortex_syntax.specs.declared.step.Test.{Test}
 use Rattle.vortex_syntax.specs.declared.step.LikeKind.{LikeKind}
 use Rattle.vortex_syntax.specs.Tokens.{Token}
 
 -- operand: a column or a literal, by its token
 -- negative: the literal of that number with a minus sign before it
+-- minus: a tree that is no literal with a minus sign before it
 -- typed: a literal of the type of that name, nullable if the flag is true
 -- grouped: a tree in brackets
--- tested: IS NOT NULL, or IS NULL where the flag is false
+-- tested: IS NOT with that test, or IS where the flag is false
+-- distinct: IS NOT DISTINCT FROM, or IS DISTINCT FROM where the flag is false
 -- between: NOT BETWEEN, or BETWEEN where the flag is false, of an operand and its two bounds
 -- matched: LIKE of an operand and a pattern, and the escape as written, if there is one
+-- listed: NOT IN, or IN where the flag is false, of an operand, some items and a last one
 -- cast: a tree, cast to the type of that name, nullable if the flag is true
+-- chosen: CASE of some branches and a last one, a condition and a value
+-- chosen_else: the same with a value after ELSE
 -- nullary: the function of that name, without arguments
 -- applied: the function of that name, of some arguments and a last one
 mutual
   pub data Syntax : Type 0 where
     operand : Token → Syntax
     negative : List ℕ → Syntax
+    minus : Syntax → Syntax
     typed : Syntax → List ℕ → Bool → Syntax
     grouped : Syntax → Syntax
     negated : Syntax → Syntax
     joined : WrittenOperator → Syntax → Syntax → Syntax
-    tested : Bool → Syntax → Syntax
+    tested : Test → Bool → Syntax → Syntax
+    distinct : Bool → Syntax → Syntax → Syntax
     between : Bool → Syntax → Syntax → Syntax → Syntax
     matched : LikeKind → Syntax → Syntax → Option (List ℕ) → Syntax
+    listed : Bool → Syntax → Arguments → Syntax → Syntax
     cast : Syntax → List ℕ → Bool → Syntax
+    chosen : Branches → Syntax → Syntax → Syntax
+    chosen_else : Branches → Syntax → Syntax → Syntax → Syntax
     nullary : List ℕ → Syntax
     applied : List ℕ → Arguments → Syntax → Syntax
 
-  -- the arguments before the last one
+  -- the arguments or items before the last one
   pub data Arguments : Type 0 where
     no_arguments : Arguments
     argument : Arguments → Syntax → Arguments
+
+  -- the branches of a CASE before the last one, after its operand if it has one
+  pub data Branches : Type 0 where
+    without_operand : Branches
+    of_operand : Syntax → Branches
+    branch : Branches → Syntax → Syntax → Branches

@@ -26,6 +26,15 @@ sign_text sign.True = codes "true"
 sign_text sign.False = codes "false"
 sign_text sign.Cast = codes "cast"
 sign_text sign.As = codes "as"
+sign_text sign.Unknown = codes "unknown"
+sign_text sign.Distinct = codes "distinct"
+sign_text sign.From = codes "from"
+sign_text sign.In = codes "in"
+sign_text sign.Case = codes "case"
+sign_text sign.When = codes "when"
+sign_text sign.Then = codes "then"
+sign_text sign.Else = codes "else"
+sign_text sign.End = codes "end"
 sign_text sign.Equal = codes "="
 sign_text sign.NotEqual = codes "<>"
 sign_text sign.Less = codes "<"
@@ -36,6 +45,8 @@ sign_text sign.Plus = codes "+"
 sign_text sign.Minus = codes "-"
 sign_text sign.Times = codes "*"
 sign_text sign.Divide = codes "/"
+sign_text sign.Modulo = codes "%"
+sign_text sign.Concat = codes "||"
 sign_text sign.Open = codes "("
 sign_text sign.Close = codes ")"
 sign_text sign.Comma = codes ","
@@ -103,6 +114,8 @@ sign_ending e sign.Close = at.Operand
 sign_ending e sign.Null = at.Operand
 sign_ending e sign.True = at.Operand
 sign_ending e sign.False = at.Operand
+sign_ending e sign.Unknown = at.Operand
+sign_ending e sign.End = at.Operand
 sign_ending e s = at.Loose
 
 abbrev pub ending_behind : Ending → Token → Ending

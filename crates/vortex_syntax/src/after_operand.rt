@@ -1,11 +1,14 @@
 //! What a sign after an operand does to what is read.
-ghost use Rattle.std.specs.Prelude.{◌≡◌, suc, option_map, IfOk};
+ghost use Rattle.std.specs.Prelude.{◌≡◌, nat_le, ◌&&◌, suc, option_map, IfOk};
 ghost use Rattle.vortex_syntax.specs.Tokens.{token_in};
+ghost use Rattle.vortex_syntax.specs.Levels.{predicate_level, concat_level};
+ghost use Rattle.vortex_syntax.specs.Spelling as spelling;
+ghost use Rattle.vortex_syntax.specs.Frames.{top_hole};
 ghost use Rattle.vortex_syntax.specs.Reading as specs;
 ghost use Rattle.vortex_syntax.specs.Reading.{frames_in, steps_in, seen, Gives, and_behind};
 
 use crate::frame::{Frame, Mode};
-use crate::levels::{AND, ATOM, IS, LITERAL, OR, PREDICATE, SUM, left, own};
+use crate::levels::{AND, ATOM, CONCAT, IS, LITERAL, OR, PREDICATE, left, own};
 use crate::reading::Reading;
 use crate::step::{LikeKind, Step, WrittenOperator};
 use crate::token::{Sign, Token};
@@ -13,7 +16,7 @@ use std::alloc::AllocError;
 
 /// The operators except And, by their signs.
 fn operator_of(sign: Sign) -> Option<WrittenOperator>
-    ensures { result ≡ specs.operator_of sign }
+    ensures { result ≡ spelling.operator_of sign }
 {
     match sign {
         Sign::Or => Some(WrittenOperator::Or),
@@ -27,12 +30,14 @@ fn operator_of(sign: Sign) -> Option<WrittenOperator>
         Sign::Minus => Some(WrittenOperator::Sub),
         Sign::Times => Some(WrittenOperator::Mul),
         Sign::Divide => Some(WrittenOperator::Div),
+        Sign::Modulo => Some(WrittenOperator::Mod),
+        Sign::Concat => Some(WrittenOperator::Concat),
         _ => None,
     }
 }
 
-/// The count after one more argument. Memory runs out before counts do.
-fn one_more(count: usize) -> Result<usize, AllocError>
+/// The count after one more argument, item or value. Memory runs out before counts do.
+pub(crate) fn one_more(count: usize) -> Result<usize, AllocError>
     ensures { IfOk result (λ n. n ≡ suc count) }
 {
     match count.checked_add(1) {
@@ -63,19 +68,27 @@ impl<'a> Reading<'a> {
         if level < IS || IS < self.top_hole() {
             None
         } else {
-            Some(Mode::Is)
+            Some(Mode::Is(false))
         }
     }
 
-    /// `not`, which BETWEEN or LIKE may follow.
+    /// Whether BETWEEN, IN or LIKE may follow an operand of that level.
+    fn takes_predicate(&self, level: u8) -> bool
+        ensures { result ≡ (nat_le concat_level level
+            && nat_le (top_hole (frames_in self.now)) predicate_level) }
+    {
+        level >= CONCAT && self.top_hole() <= PREDICATE
+    }
+
+    /// `not`, which BETWEEN, IN or LIKE may follow.
     fn not_of(&mut self, level: u8) -> Option<Mode>
         ensures { option_map (seen self.new) result
             ≡ specs.not_behind level (frames_in self.old) (steps_in self.old) }
     {
-        if level < SUM || PREDICATE < self.top_hole() {
-            None
-        } else {
+        if self.takes_predicate(level) {
             Some(Mode::Negating(level))
+        } else {
+            None
         }
     }
 
@@ -94,11 +107,17 @@ impl<'a> Reading<'a> {
                 self.emit(Step::Apply(name, one_more(count)?))?;
                 Ok(Some(Mode::Have(ATOM)))
             }
+            Some(Frame::Items(negated, count)) => {
+                self.at = self.top_sign();
+                self.drop_top();
+                self.emit(Step::In(negated, one_more(count)?))?;
+                Ok(Some(Mode::Have(PREDICATE)))
+            }
             _ => Ok(None),
         }
     }
 
-    /// A comma, which ends an argument.
+    /// A comma, which ends an argument or an item.
     fn comma_of(&mut self) -> Result<Option<Mode>, AllocError>
         ensures { Gives result self.new
             (specs.comma_behind (frames_in self.old) (steps_in self.old)) }
@@ -108,6 +127,12 @@ impl<'a> Reading<'a> {
                 self.at = self.top_sign();
                 self.drop_top();
                 self.wait(Frame::Arguments(name, one_more(count)?))?;
+                Ok(Some(Mode::Want))
+            }
+            Some(Frame::Items(negated, count)) => {
+                self.at = self.top_sign();
+                self.drop_top();
+                self.wait(Frame::Items(negated, one_more(count)?))?;
                 Ok(Some(Mode::Want))
             }
             _ => Ok(None),
@@ -141,7 +166,19 @@ impl<'a> Reading<'a> {
         }
     }
 
-    /// BETWEEN or LIKE after an operand.
+    /// `in`, which a bracket has to follow.
+    fn in_of(&mut self, negated: bool, level: u8) -> Option<Mode>
+        ensures { option_map (seen self.new) result
+            ≡ specs.in_behind negated level (frames_in self.old) (steps_in self.old) }
+    {
+        if self.takes_predicate(level) {
+            Some(Mode::Listing(negated))
+        } else {
+            None
+        }
+    }
+
+    /// BETWEEN, IN or LIKE after an operand.
     #[tactic(auto, unfolding(crate::specs::Reading::predicate))]
     fn predicate(
         &mut self,
@@ -162,9 +199,13 @@ impl<'a> Reading<'a> {
                 negated,
                 case_insensitive: true,
             }),
+            Sign::In => {
+                let level = self.settle(PREDICATE, level)?;
+                return Ok(self.in_of(negated, level));
+            }
             _ => return Ok(None),
         };
-        self.shift(PREDICATE, SUM, frame, level)
+        self.shift(PREDICATE, CONCAT, frame, level)
     }
 
     /// A sign after an operand that is no operator.
@@ -199,8 +240,12 @@ impl<'a> Reading<'a> {
                 Ok(self.as_of())
             }
             Sign::Escape => {
-                let _level = self.settle(SUM, level)?;
+                let _level = self.settle(CONCAT, level)?;
                 Ok(self.escape_of())
+            }
+            Sign::When | Sign::Then | Sign::Else | Sign::End => {
+                let _level = self.settle(OR, level)?;
+                self.case_word(sign)
             }
             Sign::Typed => Ok(if level < LITERAL {
                 None
@@ -213,7 +258,7 @@ impl<'a> Reading<'a> {
 
     fn sign_after(&mut self, level: u8, sign: Sign) -> Result<Option<Mode>, AllocError>
         ensures { Gives result self.new (specs.operator_or_word level (frames_in self.old)
-            (steps_in self.old) sign (specs.operator_of sign)) }
+            (steps_in self.old) sign (spelling.operator_of sign)) }
     {
         match operator_of(sign) {
             Some(operator) => {

@@ -1,12 +1,15 @@
 //! What a token does to what is read where an operand, or exactly one token, may follow.
+ghost use Rattle.std.specs.Prelude.{◌≡◌, option_map};
 ghost use Rattle.vortex_syntax.specs.Tokens.{token_in};
 ghost use Rattle.vortex_syntax.specs.Reading as specs;
-ghost use Rattle.vortex_syntax.specs.Reading.{frames_in, steps_in, Gives};
+ghost use Rattle.vortex_syntax.specs.Reading.{frames_in, steps_in, seen, Gives};
 
-use crate::frame::{Frame, Mode};
-use crate::levels::{ATOM, IS, LITERAL, NOT, PREDICATE, is_operand, operand_level};
+use crate::frame::{CasePart, Frame, Mode};
+use crate::levels::{
+    ATOM, DISTINCT, IS, LITERAL, NOT, PREDICATE, TYPED, is_operand, operand_level,
+};
 use crate::reading::Reading;
-use crate::step::{Call, LikeKind, Step};
+use crate::step::{Call, LikeKind, Step, Test};
 use crate::token::{Sign, Token};
 use std::alloc::AllocError;
 
@@ -45,9 +48,26 @@ impl<'a> Reading<'a> {
                 Ok(Some(Mode::Want))
             }
             Sign::Cast => Ok(Some(Mode::Casting)),
+            Sign::Case => {
+                self.wait(Frame::Case(CasePart::Operand, false, 0))?;
+                Ok(Some(Mode::Want))
+            }
+            Sign::When => self.when_expected(),
             Sign::Close => self.close_expected(),
             _ => Ok(None),
         }
+    }
+
+    /// A column or a literal.
+    fn operand_read(&mut self, token: Token<'a>) -> Result<Option<Mode>, AllocError>
+        ensures { Gives result self.new
+            (specs.operand_read (frames_in self.old) (steps_in self.old) (token_in token.entry)) }
+    {
+        if self.top_ceiling() < operand_level(token) {
+            return Ok(None);
+        }
+        self.emit(Step::Operand(token))?;
+        Ok(Some(Mode::Have(operand_level(token))))
     }
 
     /// The first token of an operand.
@@ -56,8 +76,7 @@ impl<'a> Reading<'a> {
             (specs.before_operand (frames_in self.old) (steps_in self.old) (token_in token.entry)) }
     {
         if is_operand(token) {
-            self.emit(Step::Operand(token))?;
-            return Ok(Some(Mode::Have(operand_level(token))));
+            return self.operand_read(token);
         }
         match token {
             Token::Sign(sign) => self.sign_expected(sign),
@@ -70,16 +89,34 @@ impl<'a> Reading<'a> {
     }
 
     /// The digits after a minus sign.
-    pub fn digits_expected(&mut self, token: Token<'a>) -> Result<Option<Mode>, AllocError>
+    fn digits_read(&mut self, digits: &'a [u8]) -> Result<Option<Mode>, AllocError>
         ensures { Gives result self.new
-            (specs.digits_expected (frames_in self.old) (steps_in self.old) (token_in token.entry)) }
+            (specs.digits_read (frames_in self.old) (steps_in self.old) digits.now) }
     {
-        match token {
-            Token::Number(digits) => {
-                self.emit(Step::Negative(digits))?;
-                Ok(Some(Mode::Have(LITERAL)))
+        if self.top_ceiling() < LITERAL {
+            return Ok(None);
+        }
+        self.emit(Step::Negative(digits))?;
+        Ok(Some(Mode::Have(LITERAL)))
+    }
+
+    /// What follows a minus sign, at that byte. Where it is no operand, the sign's frame is dropped
+    /// again, and what could have followed the sign is told.
+    pub fn signed(&mut self, token: Token<'a>, place: usize) -> Result<Option<Mode>, AllocError>
+        ensures { Gives result self.new
+            (specs.signed (frames_in self.old) (steps_in self.old) (token_in token.entry)) }
+    {
+        if let Token::Number(digits) = token {
+            return self.digits_read(digits);
+        }
+        self.wait(Frame::Minus)?;
+        self.at = place;
+        match self.before_operand(token)? {
+            Some(mode) => Ok(Some(mode)),
+            None => {
+                self.drop_top();
+                Ok(None)
             }
-            _ => Ok(None),
         }
     }
 
@@ -91,11 +128,11 @@ impl<'a> Reading<'a> {
         match token {
             Token::Name(word) => {
                 self.emit(Step::Typed(word, false))?;
-                Ok(Some(Mode::Have(ATOM)))
+                Ok(Some(Mode::Have(TYPED)))
             }
             Token::Nullable(word) => {
                 self.emit(Step::Typed(word, true))?;
-                Ok(Some(Mode::Have(ATOM)))
+                Ok(Some(Mode::Have(TYPED)))
             }
             _ => Ok(None),
         }
@@ -119,30 +156,78 @@ impl<'a> Reading<'a> {
         }
     }
 
-    /// What follows `is`.
-    pub fn after_is(&mut self, token: Token<'a>) -> Result<Option<Mode>, AllocError>
+    /// The end of a test.
+    fn tested(&mut self, test: Test, negated: bool) -> Result<Option<Mode>, AllocError>
         ensures { Gives result self.new
-            (specs.after_is (frames_in self.old) (steps_in self.old) (token_in token.entry)) }
+            (specs.tested test negated (frames_in self.old) (steps_in self.old)) }
+    {
+        self.emit(Step::Call(Call::Is(test, negated)))?;
+        Ok(Some(Mode::Have(IS)))
+    }
+
+    /// `not` after `is`, or after `is not`.
+    fn is_not(&mut self, negated: bool) -> Option<Mode>
+        ensures { option_map (seen self.new) result
+            ≡ specs.is_not negated (frames_in self.old) (steps_in self.old) }
+    {
+        if negated { None } else { Some(Mode::Is(true)) }
+    }
+
+    /// `distinct` after `is`, or after `is not`.
+    fn distinct(&mut self, negated: bool) -> Option<Mode>
+        ensures { option_map (seen self.new) result
+            ≡ specs.distinct negated (frames_in self.old) (steps_in self.old) }
+    {
+        if DISTINCT < self.top_hole() {
+            None
+        } else {
+            Some(Mode::Distinct(negated))
+        }
+    }
+
+    /// What follows `is`, or `is not`.
+    pub fn after_is(&mut self, negated: bool, token: Token<'a>) -> Result<Option<Mode>, AllocError>
+        ensures { Gives result self.new (specs.after_is negated (frames_in self.old)
+            (steps_in self.old) (token_in token.entry)) }
     {
         match token {
-            Token::Sign(Sign::Not) => Ok(Some(Mode::IsNot)),
-            Token::Sign(Sign::Null) => {
-                self.emit(Step::Call(Call::IsNull))?;
-                Ok(Some(Mode::Have(IS)))
+            Token::Sign(Sign::Null) => self.tested(Test::Null, negated),
+            Token::Sign(Sign::True) => self.tested(Test::True, negated),
+            Token::Sign(Sign::False) => self.tested(Test::False, negated),
+            Token::Sign(Sign::Unknown) => self.tested(Test::Unknown, negated),
+            Token::Sign(Sign::Not) => Ok(self.is_not(negated)),
+            Token::Sign(Sign::Distinct) => Ok(self.distinct(negated)),
+            _ => Ok(None),
+        }
+    }
+
+    /// The `from` after `distinct`.
+    pub fn after_distinct(
+        &mut self,
+        negated: bool,
+        token: Token<'a>,
+    ) -> Result<Option<Mode>, AllocError>
+        ensures { Gives result self.new (specs.after_distinct negated (frames_in self.old)
+            (steps_in self.old) (token_in token.entry)) }
+    {
+        match token {
+            Token::Sign(Sign::From) => {
+                self.wait(Frame::Distinct(negated))?;
+                Ok(Some(Mode::Want))
             }
             _ => Ok(None),
         }
     }
 
-    /// What follows `is not`.
-    pub fn after_is_not(&mut self, token: Token<'a>) -> Result<Option<Mode>, AllocError>
-        ensures { Gives result self.new
-            (specs.after_is_not (frames_in self.old) (steps_in self.old) (token_in token.entry)) }
+    /// The bracket after `in`, or after `not in`.
+    pub fn after_in(&mut self, negated: bool, token: Token<'a>) -> Result<Option<Mode>, AllocError>
+        ensures { Gives result self.new (specs.after_in negated (frames_in self.old)
+            (steps_in self.old) (token_in token.entry)) }
     {
         match token {
-            Token::Sign(Sign::Null) => {
-                self.emit(Step::Call(Call::IsNotNull))?;
-                Ok(Some(Mode::Have(IS)))
+            Token::Sign(Sign::Open) => {
+                self.wait(Frame::Items(negated, 0))?;
+                Ok(Some(Mode::Want))
             }
             _ => Ok(None),
         }

@@ -14,33 +14,47 @@ pub enum Expected {
     /// An operand that binds tighter than `not`.
     TightOperand,
     /// After a minus sign.
-    Digits,
+    SignedOperand,
+    /// After two minus signs.
+    UnsignedOperand,
     /// After an operand outside of brackets.
     OperatorOrEnd,
     /// The same in a list of answers.
     OperatorOrName,
     /// After an operand in brackets.
     OperatorOrClose,
-    /// After an operand in the brackets of a call.
+    /// After an operand in the brackets of a call or of `in`.
     OperatorOrComma,
     /// After an operand in the brackets of `cast`.
     OperatorOrAs,
+    /// After `case`.
+    OperandOrWhen,
+    /// After the operand of a CASE.
+    OperatorOrWhen,
+    /// After an operand that follows `when`.
+    OperatorOrThen,
+    /// After an operand that follows `then`.
+    OperatorOrBranch,
+    /// After an operand that follows `else`.
+    OperatorOrCaseEnd,
     /// After an operand that follows `between`.
     OperatorOrAnd,
-    /// At a comparison, `between`, `like`, or `not` before one, after an operand that binds no
-    /// tighter: a comparison, a test for null, `between` or `like`.
+    /// At a comparison, `is`, `between`, `in`, `like`, or `not` before one, after an operand that
+    /// binds no tighter: a comparison, a test by `is`, `between`, `in` or `like`.
     Brackets,
     /// At two colons after anything but a literal without a type.
     LiteralBeforeType,
     /// After two colons, and after the `as` of `cast`.
     TypeName,
     /// After `is`.
-    NullOrNot,
+    TestOrNot,
     /// After `is not`.
-    Null,
+    Test,
+    /// After `is distinct`, or after `is not distinct`.
+    From,
     /// After an operand and `not`.
     PredicateWord,
-    /// After `cast`.
+    /// After `cast`, and after `in`.
     OpenBracket,
     /// After the type of `cast`.
     CloseBracket,
@@ -56,23 +70,31 @@ impl Expected {
         ensures { result.now ≡ words self.now }
     {
         match self {
-            Expected::Operand => "a column, a literal, not, cast or (",
+            Expected::Operand => "a column, a literal, not, case, cast or (",
             Expected::ArgumentOrClose => "an expression or )",
-            Expected::TightOperand => "a column, a literal, cast or ( (a not needs brackets here)",
-            Expected::Digits => "digits",
+            Expected::TightOperand =>
+                "a column, a literal, case, cast or ( (a not needs brackets here)",
+            Expected::SignedOperand => "digits, a column, case, cast or (",
+            Expected::UnsignedOperand => "a column, case, cast or (",
             Expected::OperatorOrEnd => "an operator or the end",
             Expected::OperatorOrName => "an operator, as and a name, a comma or the end",
             Expected::OperatorOrClose => "an operator or )",
             Expected::OperatorOrComma => "an operator, a comma or )",
             Expected::OperatorOrAs => "an operator, or as and a type",
-            Expected::OperatorOrAnd => "+, -, *, / or the and of between",
+            Expected::OperandOrWhen => "an expression or when",
+            Expected::OperatorOrWhen => "an operator or when",
+            Expected::OperatorOrThen => "an operator or then",
+            Expected::OperatorOrBranch => "an operator, when, else or end",
+            Expected::OperatorOrCaseEnd => "an operator or end",
+            Expected::OperatorOrAnd => "||, +, -, *, /, % or the and of between",
             Expected::Brackets =>
-                "brackets round the comparison, is null, between or like before it",
+                "brackets round the comparison, is, between, in or like before it",
             Expected::LiteralBeforeType => "a literal before ::, or else cast(.. as ..)",
             Expected::TypeName => "the name of a type",
-            Expected::NullOrNot => "null or not null",
-            Expected::Null => "null",
-            Expected::PredicateWord => "between, like or ilike",
+            Expected::TestOrNot => "null, true, false, unknown, distinct from or not",
+            Expected::Test => "null, true, false, unknown or distinct from",
+            Expected::From => "from",
+            Expected::PredicateWord => "between, in, like or ilike",
             Expected::OpenBracket => "(",
             Expected::CloseBracket => ")",
             Expected::EscapeText => "a text in single quotes",

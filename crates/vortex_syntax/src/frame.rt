@@ -2,10 +2,25 @@
 ghost use Rattle.std.specs.Prelude.{◌≡◌};
 ghost use Rattle.vortex_syntax.specs.Postfix.{called};
 ghost use Rattle.vortex_syntax.specs.Frames.{frame_in};
-ghost use Rattle.vortex_syntax.specs.Reading as specs;
+ghost use Rattle.vortex_syntax.specs.Frames as specs;
 
-use crate::levels::{ATOM, NOT, OR, PREDICATE, SUM, own, right};
+use crate::levels::{
+    ATOM, COMPARISON, CONCAT, DISTINCT, LITERAL, NOT, OR, PREDICATE, SIGN, own, right,
+};
 use crate::step::{Call, LikeKind, WrittenOperator};
+
+/// The part of a CASE that comes next.
+#[derive(Clone, Copy, Debug, PartialEq, Eq)]
+pub enum CasePart {
+    /// Its operand.
+    Operand,
+    /// The condition after `when`.
+    When,
+    /// The value after `then`.
+    Then,
+    /// The value after `else`.
+    Else,
+}
 
 /// A frame that waits for its last operand.
 #[derive(Clone, Copy, Debug, PartialEq, Eq)]
@@ -15,7 +30,11 @@ pub enum Frame<'a> {
     /// The bracket after `cast`.
     Cast,
     Not,
+    /// A minus sign before what is no literal.
+    Minus,
     Join(WrittenOperator),
+    /// IS DISTINCT FROM, or IS NOT DISTINCT FROM.
+    Distinct(bool),
     /// BETWEEN before its `and`, or NOT BETWEEN.
     Between(bool),
     /// BETWEEN after its `and`, or NOT BETWEEN.
@@ -23,6 +42,10 @@ pub enum Frame<'a> {
     Like(LikeKind),
     /// A call of the function of that name, after as many arguments.
     Arguments(&'a [u8], usize),
+    /// The bracket of IN, or of NOT IN, after as many items.
+    Items(bool, usize),
+    /// A CASE with an operand if the flag is true, after as many values.
+    Case(CasePart, bool, usize),
 }
 
 /// What may come next.
@@ -30,16 +53,18 @@ pub enum Frame<'a> {
 pub enum Mode {
     /// An operand.
     Want,
-    /// The digits after a minus sign.
+    /// The digits after a minus sign, or what else it is before.
     Signed,
     /// What follows an operand of that level.
     Have(u8),
     /// The type after two colons.
     Typing,
-    /// What follows `is`.
-    Is,
-    /// What follows `is not`.
-    IsNot,
+    /// What follows `is`, or `is not`.
+    Is(bool),
+    /// The `from` after `is distinct`, or after `is not distinct`.
+    Distinct(bool),
+    /// The bracket after `in`, or after `not in`.
+    Listing(bool),
     /// What follows a `not` after an operand of that level.
     Negating(u8),
     /// The bracket after `cast`.
@@ -57,10 +82,12 @@ pub fn hole(frame: Frame<'_>) -> u8
     ensures { result ≡ specs.hole (frame_in frame.entry) }
 {
     match frame {
-        Frame::Open | Frame::Cast | Frame::Arguments(..) => OR,
+        Frame::Open | Frame::Cast | Frame::Arguments(..) | Frame::Items(..) | Frame::Case(..) => OR,
         Frame::Not => NOT,
         Frame::Join(operator) => right(operator),
-        Frame::Between(_) | Frame::Bounded(_) | Frame::Like(_) => SUM,
+        Frame::Minus => SIGN,
+        Frame::Distinct(_) => COMPARISON,
+        Frame::Between(_) | Frame::Bounded(_) | Frame::Like(_) => CONCAT,
     }
 }
 
@@ -74,15 +101,27 @@ pub fn guard(frame: Frame<'_>) -> u8
     }
 }
 
+/// The highest level of an operand that the frame waits for.
+pub fn ceiling(frame: Frame<'_>) -> u8
+    ensures { result ≡ specs.ceiling (frame_in frame.entry) }
+{
+    match frame {
+        Frame::Minus => ATOM,
+        _ => LITERAL,
+    }
+}
+
 /// The level of the frame with its operand.
 pub fn whole(frame: Frame<'_>) -> u8
     ensures { result ≡ specs.whole (frame_in frame.entry) }
 {
     match frame {
-        Frame::Open | Frame::Cast | Frame::Arguments(..) => ATOM,
+        Frame::Open | Frame::Cast | Frame::Arguments(..) | Frame::Case(..) => ATOM,
         Frame::Not => NOT,
         Frame::Join(operator) => own(operator),
-        Frame::Between(_) | Frame::Bounded(_) | Frame::Like(_) => PREDICATE,
+        Frame::Minus => SIGN,
+        Frame::Distinct(_) => DISTINCT,
+        Frame::Between(_) | Frame::Bounded(_) | Frame::Like(_) | Frame::Items(..) => PREDICATE,
     }
 }
 
@@ -90,8 +129,15 @@ pub fn closing(frame: Frame<'_>) -> Call
     ensures { called result ≡ specs.closing (frame_in frame.entry) }
 {
     match frame {
-        Frame::Open | Frame::Cast | Frame::Not | Frame::Arguments(..) => Call::Not,
+        Frame::Open
+        | Frame::Cast
+        | Frame::Not
+        | Frame::Arguments(..)
+        | Frame::Items(..)
+        | Frame::Case(..) => Call::Not,
         Frame::Join(operator) => Call::Join(operator),
+        Frame::Minus => Call::Minus,
+        Frame::Distinct(negated) => Call::Distinct(negated),
         Frame::Between(negated) | Frame::Bounded(negated) => Call::Between(negated),
         Frame::Like(kind) => Call::Like(kind),
     }

@@ -12,19 +12,27 @@ pub const AND: u8 = 1;
 
 pub const NOT: u8 = 2;
 
-pub const IS: u8 = 3;
+pub const DISTINCT: u8 = 3;
 
-pub const COMPARISON: u8 = 4;
+pub const IS: u8 = 4;
 
-pub const PREDICATE: u8 = 5;
+pub const COMPARISON: u8 = 5;
 
-pub const SUM: u8 = 6;
+pub const PREDICATE: u8 = 6;
 
-pub const PRODUCT: u8 = 7;
+pub const CONCAT: u8 = 7;
 
-pub const ATOM: u8 = 8;
+pub const SUM: u8 = 8;
 
-pub const LITERAL: u8 = 9;
+pub const PRODUCT: u8 = 9;
+
+pub const SIGN: u8 = 10;
+
+pub const ATOM: u8 = 11;
+
+pub const TYPED: u8 = 12;
+
+pub const LITERAL: u8 = 13;
 
 pub fn own(operator: WrittenOperator) -> u8
     ensures { result ≡ levels.own operator }
@@ -32,8 +40,9 @@ pub fn own(operator: WrittenOperator) -> u8
     match operator {
         WrittenOperator::Or => OR,
         WrittenOperator::And => AND,
+        WrittenOperator::Concat => CONCAT,
         WrittenOperator::Add | WrittenOperator::Sub => SUM,
-        WrittenOperator::Mul | WrittenOperator::Div => PRODUCT,
+        WrittenOperator::Mul | WrittenOperator::Div | WrittenOperator::Mod => PRODUCT,
         _ => COMPARISON,
     }
 }
@@ -44,8 +53,9 @@ pub fn left(operator: WrittenOperator) -> u8
     match operator {
         WrittenOperator::Or => OR,
         WrittenOperator::And => AND,
+        WrittenOperator::Concat => CONCAT,
         WrittenOperator::Add | WrittenOperator::Sub => SUM,
-        WrittenOperator::Mul | WrittenOperator::Div => PRODUCT,
+        WrittenOperator::Mul | WrittenOperator::Div | WrittenOperator::Mod => PRODUCT,
         _ => PREDICATE,
     }
 }
@@ -56,8 +66,9 @@ pub fn right(operator: WrittenOperator) -> u8
     match operator {
         WrittenOperator::Or => AND,
         WrittenOperator::And => NOT,
+        WrittenOperator::Concat => SUM,
         WrittenOperator::Add | WrittenOperator::Sub => PRODUCT,
-        WrittenOperator::Mul | WrittenOperator::Div => ATOM,
+        WrittenOperator::Mul | WrittenOperator::Div | WrittenOperator::Mod => SIGN,
         _ => PREDICATE,
     }
 }

@@ -4,6 +4,7 @@
 mod after_operand;
 pub mod answer_list;
 mod before_operand;
+mod branches;
 mod error;
 mod expected;
 mod frame;
@@ -27,7 +28,7 @@ pub use error::SyntaxError;
 pub use expected::Expected;
 pub use lexing::{Tokens, read_tokens};
 pub use nesting::DEPTH;
-pub use step::{Call, LikeKind, Step, WrittenOperator};
+pub use step::{Call, LikeKind, Step, Test, WrittenOperator};
 pub use syntax::read_syntax;
 pub use token::{Sign, Token};
 pub use tree::SyntaxTree;

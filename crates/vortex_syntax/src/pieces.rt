@@ -1,5 +1,5 @@
 //! The pieces of a text: gaps and tokens.
-ghost use Rattle.std.specs.Prelude.{◌≡◌, ◌<◌, ◌≤◌, suc, length, option_map, IfSome, take, drop};
+ghost use Rattle.std.specs.Prelude.{◌==◌, ◌&&◌, ◌≡◌, ◌<◌, ◌≤◌, suc, length, option_map, IfSome, take, drop};
 ghost use Rattle.vortex_syntax.specs.Keywords.{same_word, keyword_of};
 ghost use Rattle.vortex_syntax.specs.Tokens.{token_in};
 ghost use Rattle.vortex_syntax.specs.Pieces.{piece_in, is_blank, begins_word, is_in, front, behind};
@@ -8,7 +8,7 @@ ghost use Rattle.vortex_syntax.specs.Pieces.{quoted_by, sign_of_two, sign_of_one
 ghost use Rattle.vortex_syntax.specs.Pieces.{minus_or_comment, first_piece, behind_fraction};
 ghost use Rattle.vortex_syntax.specs.Pieces.{behind_sign, begins_digits, begins_exponent};
 ghost use Rattle.vortex_syntax.specs.Pieces.{behind_exponent, begins_number, behind_number};
-ghost use Rattle.vortex_syntax.specs.Pieces.{front_number};
+ghost use Rattle.vortex_syntax.specs.Pieces.{front_number, behind_comment, divide_or_comment};
 
 use crate::token::{Sign, Token};
 
@@ -112,6 +112,24 @@ pub(crate) fn keyword_of(word: &[u8]) -> Option<Sign>
         Some(Sign::Cast)
     } else if is_same_word(word, b"as") {
         Some(Sign::As)
+    } else if is_same_word(word, b"unknown") {
+        Some(Sign::Unknown)
+    } else if is_same_word(word, b"distinct") {
+        Some(Sign::Distinct)
+    } else if is_same_word(word, b"from") {
+        Some(Sign::From)
+    } else if is_same_word(word, b"in") {
+        Some(Sign::In)
+    } else if is_same_word(word, b"case") {
+        Some(Sign::Case)
+    } else if is_same_word(word, b"when") {
+        Some(Sign::When)
+    } else if is_same_word(word, b"then") {
+        Some(Sign::Then)
+    } else if is_same_word(word, b"else") {
+        Some(Sign::Else)
+    } else if is_same_word(word, b"end") {
+        Some(Sign::End)
     } else {
         None
     }
@@ -268,6 +286,7 @@ fn sign_of_two(first: u8, second: u8) -> Option<Sign>
         (b'>', b'=') => Some(Sign::GreaterOrEqual),
         (b'!', b'=') => Some(Sign::NotEqual),
         (b':', b':') => Some(Sign::Typed),
+        (b'|', b'|') => Some(Sign::Concat),
         _ => None,
     }
 }
@@ -281,7 +300,7 @@ fn sign_of_one(byte: u8) -> Option<Sign>
         b'>' => Some(Sign::Greater),
         b'+' => Some(Sign::Plus),
         b'*' => Some(Sign::Times),
-        b'/' => Some(Sign::Divide),
+        b'%' => Some(Sign::Modulo),
         b'(' => Some(Sign::Open),
         b')' => Some(Sign::Close),
         b',' => Some(Sign::Comma),
@@ -317,6 +336,60 @@ fn minus_or_comment(rest: &[u8]) -> Option<(Piece<'_>, &[u8])>
     }
 }
 
+/// Whether two bytes are these.
+fn are_bytes(first: u8, second: u8, one: u8, other: u8) -> bool
+    ensures { result ≡ ((first == one) && (second == other)) }
+{
+    first == one && second == other
+}
+
+/// How many bytes there are up to the end of a comment, after its `/*`. Comments nest.
+fn comment_len(text: &[u8]) -> Option<usize>
+    ensures behind { option_map (λ n. drop n text.now) result ≡ behind_comment 0 text.now }
+    ensures within { IfSome result (λ n. n ≤ length text.now) }
+{
+    let mut depth = 0usize;
+    let mut i = 0usize;
+    while i + 1 < text.len() {
+        if are_bytes(text[i], text[i + 1], b'/', b'*') {
+            depth += 1;
+            i += 2;
+        } else if are_bytes(text[i], text[i + 1], b'*', b'/') {
+            if depth == 0 {
+                return Some(i + 2);
+            }
+            depth -= 1;
+            i += 2;
+        } else {
+            i += 1;
+        }
+    }
+    None
+}
+
+/// What follows a comment, after its `/*`.
+fn behind_comment(text: &[u8]) -> Option<&[u8]>
+    ensures behind { option_map (λ x. x.now) result ≡ behind_comment 0 text.now }
+    ensures shorter { IfSome result (λ x. length x.now ≤ length text.now) }
+{
+    let n = comment_len(text)?;
+    Some(&text[n..])
+}
+
+/// Divide, or a comment if an asterisk follows.
+fn divide_or_comment(rest: &[u8]) -> Option<(Piece<'_>, &[u8])>
+    ensures piece { option_map (λ x. (piece_in x.0, x.1.now)) result ≡ divide_or_comment rest.now }
+    ensures shorter { IfSome result (λ x. length x.1.now ≤ length rest.now) }
+{
+    match rest {
+        [b'*', comment @ ..] => {
+            let behind = behind_comment(comment)?;
+            Some((Piece::Gap, behind))
+        }
+        _ => Some((Piece::Token(Token::Sign(Sign::Divide)), rest)),
+    }
+}
+
 /// The first piece of the text, and what follows it; nothing where none begins.
 #[tactic(auto, unfolding(crate::specs::Pieces::first_piece))]
 pub(crate) fn first_piece(text: &[u8]) -> Option<(Piece<'_>, &[u8])>
@@ -328,6 +401,8 @@ pub(crate) fn first_piece(text: &[u8]) -> Option<(Piece<'_>, &[u8])>
         Some((Piece::Gap, rest))
     } else if *first == b'-' {
         minus_or_comment(rest)
+    } else if *first == b'/' {
+        divide_or_comment(rest)
     } else if begins_word(*first) {
         let (word, behind) = split_run(Run::Word, text);
         Some(word_before(word, behind))

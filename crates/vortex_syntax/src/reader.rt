@@ -20,7 +20,12 @@ use std::alloc::{AllocError, Global};
 /// Where a token is reported: its own byte, unless it belongs to an earlier token.
 fn reported_at(mode: Mode, before: usize, place: usize) -> usize {
     match mode {
-        Mode::Signed | Mode::Is | Mode::IsNot | Mode::Negating(_) | Mode::Escaping(_) => before,
+        Mode::Signed
+        | Mode::Is(_)
+        | Mode::Distinct(_)
+        | Mode::Listing(_)
+        | Mode::Negating(_)
+        | Mode::Escaping(_) => before,
         _ => place,
     }
 }
@@ -40,11 +45,12 @@ impl<'a> Reading<'a> {
         self.at = reported_at(mode, self.at, place);
         match mode {
             Mode::Want => self.before_operand(token),
-            Mode::Signed => self.digits_expected(token),
+            Mode::Signed => self.signed(token, place),
             Mode::Have(level) => self.behind(level, token),
             Mode::Typing => self.type_expected(token),
-            Mode::Is => self.after_is(token),
-            Mode::IsNot => self.after_is_not(token),
+            Mode::Is(negated) => self.after_is(negated, token),
+            Mode::Distinct(negated) => self.after_distinct(negated, token),
+            Mode::Listing(negated) => self.after_in(negated, token),
             Mode::Negating(level) => self.negating(level, token),
             Mode::Casting => self.after_cast(token),
             Mode::CastType => self.cast_expected(token),

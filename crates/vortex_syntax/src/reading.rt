@@ -4,12 +4,11 @@ ghost use Rattle.std.specs.Prelude.{IfOk, OnOk, IfSome, MatchOption};
 ghost use Rattle.vortex_syntax.specs.Postfix.{step_in};
 ghost use Rattle.vortex_syntax.specs.Frames as seen;
 ghost use Rattle.vortex_syntax.specs.Frames.{frame_in};
-ghost use Rattle.vortex_syntax.specs.Reading as specs;
 ghost use Rattle.vortex_syntax.specs.Reading.{frames_in, steps_in, operand_of, settled};
 ghost use Rattle.vortex_syntax.specs.Reading.{closed_once, Gives, waiting, shifted};
 
-use crate::frame::{Frame, Mode, closing, guard, hole, whole};
-use crate::levels::OR;
+use crate::frame::{Frame, Mode, ceiling, closing, guard, hole, whole};
+use crate::levels::{LITERAL, OR};
 use crate::step::Step;
 use crate::tree::SyntaxTree;
 use std::alloc::{AllocError, Global};
@@ -95,11 +94,21 @@ impl<'a> Reading<'a> {
 
     /// The least level of an operand that the last frame waits for.
     pub fn top_hole(&self) -> u8
-        ensures { result ≡ specs.top_hole (frames_in self.now) }
+        ensures { result ≡ seen.top_hole (frames_in self.now) }
     {
         match self.top() {
             Some(frame) => hole(frame),
             None => OR,
+        }
+    }
+
+    /// The highest level of an operand that the last frame waits for.
+    pub fn top_ceiling(&self) -> u8
+        ensures { result ≡ seen.top_ceiling (frames_in self.now) }
+    {
+        match self.top() {
+            Some(frame) => ceiling(frame),
+            None => LITERAL,
         }
     }
 

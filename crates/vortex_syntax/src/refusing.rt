@@ -1,11 +1,11 @@
 //! What was expected where reading stops.
 use crate::expected::Expected;
-use crate::frame::{Frame, Mode, hole};
+use crate::frame::{CasePart, Frame, Mode, hole};
 use crate::levels::NOT;
 use crate::reading::Reading;
 use crate::token::{Sign, Token};
 
-/// Comparisons, `between` and `like`, and `not` before one.
+/// Comparisons, `is`, `between`, `in` and `like`, and `not` before one.
 fn is_unchained(sign: Sign) -> bool {
     matches!(
         sign,
@@ -15,7 +15,9 @@ fn is_unchained(sign: Sign) -> bool {
             | Sign::LessOrEqual
             | Sign::Greater
             | Sign::GreaterOrEqual
+            | Sign::Is
             | Sign::Between
+            | Sign::In
             | Sign::Like
             | Sign::Ilike
             | Sign::Not
@@ -38,14 +40,25 @@ fn in_place_of(sign: Sign, expected: Expected) -> Expected {
     }
 }
 
+/// What may follow an operand in that part of a CASE.
+fn expected_in(part: CasePart) -> Expected {
+    match part {
+        CasePart::Operand => Expected::OperatorOrWhen,
+        CasePart::When => Expected::OperatorOrThen,
+        CasePart::Then => Expected::OperatorOrBranch,
+        CasePart::Else => Expected::OperatorOrCaseEnd,
+    }
+}
+
 impl<'a> Reading<'a> {
-    /// What may follow an operand, by the brackets that are open.
+    /// What may follow an operand, by the brackets and the CASE that are open.
     fn expected_after(&self, whole: Expected) -> Expected {
         for frame in self.frames.iter().rev() {
             match frame {
                 Frame::Open => return Expected::OperatorOrClose,
                 Frame::Cast => return Expected::OperatorOrAs,
-                Frame::Arguments(..) => return Expected::OperatorOrComma,
+                Frame::Arguments(..) | Frame::Items(..) => return Expected::OperatorOrComma,
+                Frame::Case(part, ..) => return expected_in(*part),
                 Frame::Between(_) => return Expected::OperatorOrAnd,
                 _ => {}
             }
@@ -56,8 +69,16 @@ impl<'a> Reading<'a> {
     fn operand_expected(&self) -> Expected {
         match self.top() {
             Some(Frame::Arguments(_, 0)) => Expected::ArgumentOrClose,
+            Some(Frame::Case(CasePart::Operand, ..)) => Expected::OperandOrWhen,
             Some(frame) if NOT < hole(frame) => Expected::TightOperand,
             _ => Expected::Operand,
+        }
+    }
+
+    fn signed_expected(&self) -> Expected {
+        match self.top() {
+            Some(Frame::Minus) => Expected::UnsignedOperand,
+            _ => Expected::SignedOperand,
         }
     }
 
@@ -71,16 +92,17 @@ impl<'a> Reading<'a> {
     ) -> Expected {
         match (mode, found) {
             (Mode::Want, _) => self.operand_expected(),
-            (Mode::Signed, _) => Expected::Digits,
+            (Mode::Signed, _) => self.signed_expected(),
             (Mode::Have(_), Some(Token::Sign(sign))) => {
                 in_place_of(sign, self.expected_after(whole))
             }
             (Mode::Have(_), _) => self.expected_after(whole),
             (Mode::Typing | Mode::CastType, _) => Expected::TypeName,
-            (Mode::Is, _) => Expected::NullOrNot,
-            (Mode::IsNot, _) => Expected::Null,
+            (Mode::Is(false), _) => Expected::TestOrNot,
+            (Mode::Is(true), _) => Expected::Test,
+            (Mode::Distinct(_), _) => Expected::From,
             (Mode::Negating(_), _) => Expected::PredicateWord,
-            (Mode::Casting, _) => Expected::OpenBracket,
+            (Mode::Casting | Mode::Listing(_), _) => Expected::OpenBracket,
             (Mode::CastEnd, _) => Expected::CloseBracket,
             (Mode::Escaping(_), _) => Expected::EscapeText,
         }

@@ -16,6 +16,18 @@ pub enum WrittenOperator {
     Sub,
     Mul,
     Div,
+    Mod,
+    Concat,
+}
+
+/// What IS tests for.
+#[derive(Clone, Copy, Debug, PartialEq, Eq)]
+pub enum Test {
+    Null,
+    True,
+    False,
+    /// The null of truth values.
+    Unknown,
 }
 
 /// Which LIKE is meant.
@@ -29,9 +41,13 @@ pub struct LikeKind {
 #[derive(Clone, Copy, Debug, PartialEq, Eq)]
 pub enum Call {
     Not,
+    /// Minus before a tree that is no literal.
+    Minus,
     Join(WrittenOperator),
-    IsNull,
-    IsNotNull,
+    /// IS of a test, or IS NOT.
+    Is(Test, bool),
+    /// IS DISTINCT FROM of two trees, or IS NOT DISTINCT FROM.
+    Distinct(bool),
     /// BETWEEN of three trees, or NOT BETWEEN.
     Between(bool),
     /// LIKE without an escape.
@@ -53,5 +69,10 @@ pub enum Step<'a> {
     Escaped(LikeKind, &'a [u8]),
     /// The function of that name, of as many trees before it.
     Apply(&'a [u8], usize),
+    /// IN of a tree and as many items after it, or NOT IN.
+    In(bool, usize),
+    /// CASE with an operand if the first flag is true, of as many pairs of a condition and a value
+    /// after it, and of what follows `else` if the second flag is true.
+    Case(bool, usize, bool),
     Call(Call),
 }

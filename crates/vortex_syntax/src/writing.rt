@@ -52,6 +52,15 @@ fn sign_text(sign: Sign) -> &'static str
         Sign::False => "false",
         Sign::Cast => "cast",
         Sign::As => "as",
+        Sign::Unknown => "unknown",
+        Sign::Distinct => "distinct",
+        Sign::From => "from",
+        Sign::In => "in",
+        Sign::Case => "case",
+        Sign::When => "when",
+        Sign::Then => "then",
+        Sign::Else => "else",
+        Sign::End => "end",
         Sign::Equal => "=",
         Sign::NotEqual => "<>",
         Sign::Less => "<",
@@ -62,6 +71,8 @@ fn sign_text(sign: Sign) -> &'static str
         Sign::Minus => "-",
         Sign::Times => "*",
         Sign::Divide => "/",
+        Sign::Modulo => "%",
+        Sign::Concat => "||",
         Sign::Open => "(",
         Sign::Close => ")",
         Sign::Comma => ",",
@@ -137,7 +148,9 @@ fn sign_ending(ending: Ending, sign: Sign) -> Ending
         Sign::Open | Sign::Typed => Ending::Tight,
         Sign::Cast => Ending::Called,
         Sign::Minus => minus_ending(ending),
-        Sign::Close | Sign::Null | Sign::True | Sign::False => Ending::Operand,
+        Sign::Close | Sign::Null | Sign::True | Sign::False | Sign::Unknown | Sign::End => {
+            Ending::Operand
+        }
         _ => Ending::Loose,
     }
 }

@@ -1,0 +1,147 @@
+-- What closing brackets and commas do to what was read.
+use Rattle.std.proofs.Common.{◌≡◌, ℕ, suc, List, [], ◌∷◌, ◌++◌, Some, ap, sym, subst, ◌∙◌}
+use Rattle.std.proofs.Common.{append_assoc}
+use Rattle.std.proofs.lemmas.List.{append-nil}
+use Rattle.vortex_syntax.specs.declared.token.Sign.{Sign}
+use Rattle.vortex_syntax.specs.declared.token.Sign.TheVariants as sign
+use Rattle.vortex_syntax.specs.Frames.{Frame}
+use Rattle.vortex_syntax.specs.Frames as frame
+use Rattle.vortex_syntax.specs.declared.frame.Mode.TheVariants as mode
+use Rattle.vortex_syntax.specs.Tokens.{Token, function, sign}
+use Rattle.vortex_syntax.specs.Syntax as tree
+use Rattle.vortex_syntax.specs.Syntax.{Syntax, Arguments}
+use Rattle.vortex_syntax.specs.Levels.{Fits, AllFit, predicate_level, atom_level}
+use Rattle.vortex_syntax.specs.Spelling.{spelling, all_spelled}
+use Rattle.vortex_syntax.specs.Postfix.{Step, applied, listed, argument_count, postfix, all_postfix}
+use Rattle.vortex_syntax.specs.Reading.{State, state, close_behind, comma_behind}
+use Rattle.vortex_syntax.proofs.Tables.{top_atom, atom_ceiling}
+use Rattle.vortex_syntax.proofs.Held.{Held, opened, calling, listing, written, held, IsSound}
+use Rattle.vortex_syntax.proofs.Before.{Behind, more, more_tokens, as_tokens, as_steps, pushed}
+use Rattle.vortex_syntax.proofs.Before.{popped, open_is, call_is, items_are, HasOperand, HoldsIn}
+use Rattle.vortex_syntax.proofs.Before.{along, operand_is}
+use Rattle.vortex_syntax.proofs.Grown.{holding_as, sound_as}
+use Rattle.vortex_syntax.proofs.ItemsSound.{item_is, listed_is}
+
+pub grouped_is : (a : Syntax) (h : Held) (fs : List Frame) (out : List Step) (before : List Token)
+    → Fits a → h ≡ opened
+    → Behind fs out before (held h ++ postfix a) (written h ++ (spelling a ++ []))
+    → HasOperand atom_level fs out (before ++ (sign sign.Close ∷ [])) []
+grouped_is a h fs out before f e r =
+    let b : Behind fs out before (postfix a) (sign sign.Open ∷ (spelling a ++ [])) =
+    subst (λ (v : Held). Behind fs out before (held v ++ postfix a)
+    (written v ++ (spelling a ++ []))) e r in
+    operand_is (tree.grouped a) fs out (before ++ (sign sign.Close ∷ [])) f (top_atom fs)
+    (atom_ceiling fs)
+    (as_tokens fs out (before ++ (sign sign.Close ∷ [])) (postfix a)
+    (sign sign.Open ∷ ((spelling a ++ []) ++ (sign sign.Close ∷ [])))
+    (spelling (tree.grouped a))
+    (ap (λ ts. sign sign.Open ∷ (ts ++ (sign sign.Close ∷ []))) (append-nil (spelling a)))
+    (more_tokens fs out before (postfix a) (sign sign.Open ∷ (spelling a ++ []))
+    (sign sign.Close ∷ []) b))
+
+-- a call with its operand
+pub in_call : (w : List ℕ) (args : Arguments) (a : Syntax) (u : Sign)
+    → (function w ∷ (all_spelled args ++ (spelling a ++ []))) ++ (sign u ∷ [])
+    ≡ function w ∷ (all_spelled args ++ (spelling a ++ (sign u ∷ [])))
+in_call w args a u =
+    ap (λ ts. function w ∷ ts) (append_assoc (all_spelled args) (spelling a ++ []) (sign u ∷ [])
+    ∙ ap (λ ts. all_spelled args ++ (ts ++ (sign u ∷ []))) (append-nil (spelling a)))
+
+abbrev pub Called : List ℕ → Arguments → Syntax → List Frame → List Step → List Token → Type 0
+Called w args a fs out before =
+    Behind fs out before (all_postfix args ++ postfix a)
+    (function w ∷ (all_spelled args ++ (spelling a ++ [])))
+
+pub called_is : (w : List ℕ) (args : Arguments) (a : Syntax) (h : Held) (fs : List Frame)
+    (out : List Step) (before : List Token) → h ≡ calling w args
+    → Behind fs out before (held h ++ postfix a) (written h ++ (spelling a ++ []))
+    → Called w args a fs out before
+called_is w args a h fs out before e r =
+    subst (λ (v : Held). Behind fs out before (held v ++ postfix a)
+    (written v ++ (spelling a ++ []))) e r
+
+pub all_fit_is : (w : List ℕ) (args : Arguments) (h : Held) → h ≡ calling w args → IsSound h
+    → AllFit args
+all_fit_is w args h e s = subst (λ (v : Held). IsSound v) e s
+
+pub applied_is : (w : List ℕ) (n : ℕ) (args : Arguments) (a : Syntax) (fs : List Frame)
+    (out : List Step) (before : List Token) → n ≡ argument_count args → AllFit args → Fits a
+    → Called w args a fs out before
+    → HasOperand atom_level fs (out ++ (applied w (suc n) ∷ [])) (before ++
+    (sign sign.Close ∷ [])) []
+applied_is w n args a fs out before e s f b =
+    let last : List Step = applied w (suc n) ∷ [] in
+    let close : List Token = sign sign.Close ∷ [] in
+    let xs = (all_postfix args ++ postfix a) ++ last in
+    operand_is (tree.applied w args a) fs (out ++ last) (before ++ close) (s, f) (top_atom fs)
+    (atom_ceiling fs)
+    (as_steps fs (out ++ last) (before ++ close) xs (postfix (tree.applied w args a))
+    (spelling (tree.applied w args a))
+    (append_assoc (all_postfix args) (postfix a) last
+    ∙ ap (λ m. all_postfix args ++ (postfix a ++ (applied w (suc m) ∷ []))) e)
+    (as_tokens fs (out ++ last) (before ++ close) xs
+    ((function w ∷ (all_spelled args ++ (spelling a ++ []))) ++ close)
+    (spelling (tree.applied w args a)) (in_call w args a sign.Close)
+    (more fs out before (all_postfix args ++ postfix a)
+    (function w ∷ (all_spelled args ++ (spelling a ++ []))) last close b)))
+
+pub argument_is : (w : List ℕ) (n : ℕ) (args : Arguments) (a : Syntax) (fs : List Frame)
+    (out : List Step) (before : List Token) → n ≡ argument_count args → AllFit args → Fits a
+    → Called w args a fs out before
+    → Behind (frame.Arguments w (suc n) ∷ fs) out (before ++ (sign sign.Comma ∷ [])) [] []
+argument_is w n args a fs out before e s f b =
+    let comma : List Token = sign sign.Comma ∷ [] in
+    subst (λ (m : ℕ). Behind (frame.Arguments w (suc m) ∷ fs) out (before ++ comma) [] []) (sym e)
+    (pushed (calling w (tree.argument args a)) fs out (before ++ comma)
+    (as_tokens fs out (before ++ comma) (all_postfix args ++ postfix a)
+    ((function w ∷ (all_spelled args ++ (spelling a ++ []))) ++ comma)
+    (written (calling w (tree.argument args a))) (in_call w args a sign.Comma)
+    (more_tokens fs out before (all_postfix args ++ postfix a)
+    (function w ∷ (all_spelled args ++ (spelling a ++ []))) comma b)) (s, f) (top_atom fs))
+
+pub comma_sound : (l : ℕ) (fs : List Frame) (out : List Step) (s : State) (before : List Token)
+    → comma_behind fs out ≡ Some s → HasOperand l fs out before []
+    → HoldsIn s (before ++ (sign sign.Comma ∷ []))
+comma_sound l (frame.Arguments w n ∷ fs) out s before e a =
+    let r = popped (frame.Arguments w n) fs out before (postfix a.tree) (spelling a.tree ++ [])
+    a.behind in
+    let i = call_is w n r.h r.is in
+    along (state mode.Want (frame.Arguments w (suc n) ∷ fs) out) s
+    (before ++ (sign sign.Comma ∷ [])) e
+    (argument_is w n i.0 a.tree fs out before i.2 (all_fit_is w i.0 r.h i.1 r.sound) a.fits
+    (called_is w i.0 a.tree r.h fs out before i.1 r.behind))
+comma_sound l (frame.Items n k ∷ fs) out s before e a =
+    let r = popped (frame.Items n k) fs out before (postfix a.tree)
+    (spelling a.tree ++ []) a.behind in
+    let i = items_are n k r.h r.is in
+    along (state mode.Want (frame.Items n (suc k) ∷ fs) out) s (before ++ (sign sign.Comma ∷ [])) e
+    (item_is n k i.0 i.1 a.tree fs out before i.3 (sound_as r.h
+    (listing n i.0 i.1) i.2 r.sound) a.fits r.place
+    (holding_as r.h (listing n i.0 i.1) a.tree fs out before i.2 r.behind))
+comma_sound l fs out s before e a = absurd cc
+
+pub close_sound : (l : ℕ) (fs : List Frame) (out : List Step) (s : State) (before : List Token)
+    → close_behind fs out ≡ Some s → HasOperand l fs out before []
+    → HoldsIn s (before ++ (sign sign.Close ∷ []))
+close_sound l (frame.Open ∷ fs) out s before e a =
+    let r = popped frame.Open fs out before (postfix a.tree) (spelling a.tree ++ []) a.behind in
+    along (state (mode.Have atom_level) fs out) s (before ++ (sign sign.Close ∷ [])) e
+    (grouped_is a.tree r.h fs out before a.fits (open_is r.h r.is) r.behind)
+close_sound l (frame.Arguments w n ∷ fs) out s before e a =
+    let r = popped (frame.Arguments w n) fs out before (postfix a.tree) (spelling a.tree ++ [])
+    a.behind in
+    let i = call_is w n r.h r.is in
+    along (state (mode.Have atom_level) fs (out ++ (applied w (suc n) ∷ []))) s
+    (before ++ (sign sign.Close ∷ [])) e
+    (applied_is w n i.0 a.tree fs out before i.2 (all_fit_is w i.0 r.h i.1 r.sound) a.fits
+    (called_is w i.0 a.tree r.h fs out before i.1 r.behind))
+close_sound l (frame.Items n k ∷ fs) out s before e a =
+    let r = popped (frame.Items n k) fs out before (postfix a.tree)
+    (spelling a.tree ++ []) a.behind in
+    let i = items_are n k r.h r.is in
+    along (state (mode.Have predicate_level) fs (out ++ (listed n (suc k) ∷ []))) s
+    (before ++ (sign sign.Close ∷ [])) e
+    (listed_is n k i.0 i.1 a.tree fs out before i.3 (sound_as r.h
+    (listing n i.0 i.1) i.2 r.sound) a.fits
+    r.place (holding_as r.h (listing n i.0 i.1) a.tree fs out before i.2 r.behind))
+close_sound l fs out s before e a = absurd cc

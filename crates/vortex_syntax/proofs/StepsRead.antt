@@ -1,0 +1,250 @@
+-- What each token of a tree's spelling leads to.
+use Rattle.std.proofs.Common.{◌≡◌, ℕ, suc, ◌≤◌, Bool, true, false, List, [], ◌∷◌, ◌++◌, Some, refl}
+use Rattle.std.proofs.Common.{ap, ◌∙◌, append_assoc, arith}
+use Rattle.vortex_syntax.specs.declared.step.WrittenOperator.{WrittenOperator}
+use Rattle.vortex_syntax.specs.declared.step.WrittenOperator.TheVariants as operator
+use Rattle.vortex_syntax.specs.declared.step.Test.{Test}
+use Rattle.vortex_syntax.specs.declared.step.Test.TheVariants as test
+use Rattle.vortex_syntax.specs.declared.step.LikeKind.{LikeKind}
+use Rattle.vortex_syntax.specs.declared.step.Call.TheVariants as call
+use Rattle.vortex_syntax.specs.declared.token.Sign.TheVariants as sign
+use Rattle.vortex_syntax.specs.Frames.{Frame, hole, top_hole, top_ceiling}
+use Rattle.vortex_syntax.specs.Frames as frame
+use Rattle.vortex_syntax.specs.declared.frame.Mode.TheVariants as mode
+use Rattle.vortex_syntax.specs.Tokens.{Token, function, number, text, sign}
+use Rattle.vortex_syntax.specs.Levels.{typed_level, own, left, is_operand, operand_level, and_level}
+use Rattle.vortex_syntax.specs.Levels.{not_level, distinct_level, is_level, predicate_level}
+use Rattle.vortex_syntax.specs.Levels.{concat_level, atom_level, literal_level}
+use Rattle.vortex_syntax.specs.Spelling.{operator_sign, type_token, with_not, is_tokens, test_sign}
+use Rattle.vortex_syntax.specs.Spelling.{test_tokens, distinct_tokens, in_tokens, like_sign}
+use Rattle.vortex_syntax.specs.Postfix.{Step, operand, negative, typed, cast, escaped, applied}
+use Rattle.vortex_syntax.specs.Postfix.{listed, called}
+use Rattle.vortex_syntax.specs.Reading as specs
+use Rattle.vortex_syntax.specs.Reading.{state, settled, shifted, joining, and_behind, predicate}
+use Rattle.vortex_syntax.specs.Reading.{word_after, next, run}
+use Rattle.vortex_syntax.proofs.Tables.{at_most}
+use Rattle.vortex_syntax.proofs.Closes.{settled_none, shifts, ran, want, have}
+
+and_joins : (l : ℕ) (fs : List Frame) (out : List Step) → and_level ≤ l → top_hole fs ≤ and_level
+    → and_behind l fs out ≡ Some (state mode.Want (frame.Join operator.And ∷ fs) out)
+and_joins l [] out h k = rw (at_most and_level l h) refl
+and_joins l (frame.Between n ∷ fs) out h k = absurd (let j : ⊥ = omega (arith, k) in j)
+and_joins l (frame.Open ∷ fs) out h k = rw (at_most and_level l h) refl
+and_joins l (frame.Cast ∷ fs) out h k = rw (at_most and_level l h) refl
+and_joins l (frame.Not ∷ fs) out h k = absurd (let j : ⊥ = omega (arith, k) in j)
+and_joins l (frame.Minus ∷ fs) out h k = absurd (let j : ⊥ = omega (arith, k) in j)
+and_joins l (frame.Join o ∷ fs) out h k =
+    rw (at_most and_level l h, at_most (hole (frame.Join o)) and_level k) refl
+and_joins l (frame.Distinct n ∷ fs) out h k = absurd (let j : ⊥ = omega (arith, k) in j)
+and_joins l (frame.Bounded n ∷ fs) out h k = absurd (let j : ⊥ = omega (arith, k) in j)
+and_joins l (frame.Like n ∷ fs) out h k = absurd (let j : ⊥ = omega (arith, k) in j)
+and_joins l (frame.Arguments w n ∷ fs) out h k = rw (at_most and_level l h) refl
+and_joins l (frame.Items m n ∷ fs) out h k = rw (at_most and_level l h) refl
+and_joins l (frame.Case p m n ∷ fs) out h k = rw (at_most and_level l h) refl
+
+join_read : (o : WrittenOperator) (l : ℕ) (fs : List Frame) (out : List Step) (ts : List Token)
+    → left o ≤ l → top_hole fs ≤ own o
+    → ran ts (joining o l fs out) ≡ want (frame.Join o ∷ fs) out ts
+join_read o l fs out ts h k = ap (ran ts) (shifts (own o) (left o) (frame.Join o) l fs out h k)
+
+pub step_join : (o : WrittenOperator) (l : ℕ) (fs : List Frame) (out : List Step)
+    (ts : List Token) → left o ≤ l → top_hole fs ≤ own o
+    → have l fs out (sign (operator_sign o) ∷ ts) ≡ want (frame.Join o ∷ fs) out ts
+unfolding run next word_after
+step_join operator.And l fs out ts h k =
+    ap (λ a. ran ts (and_behind a.level a.frames a.steps)) (settled_none and_level l fs out k)
+    ∙ ap (ran ts) (and_joins l fs out h k)
+step_join o l fs out ts h k = join_read o l fs out ts h k
+
+pub step_negating : (l : ℕ) (fs : List Frame) (out : List Step) (ts : List Token) → concat_level ≤ l
+    → top_hole fs ≤ predicate_level
+    → have l fs out (sign sign.Not ∷ ts) ≡ run (state (mode.Negating l) fs out) ts
+unfolding run next word_after
+step_negating l fs out ts h k =
+    ap (λ a. ran ts (specs.not_behind a.level a.frames a.steps))
+    (settled_none predicate_level l fs out k)
+    ∙ rw (at_most concat_level l h, at_most (top_hole fs) predicate_level k) refl
+
+predicate_read : (f : Frame) (l : ℕ) (fs : List Frame) (out : List Step) (ts : List Token)
+    → concat_level ≤ l → top_hole fs ≤ predicate_level
+    → ran ts (shifted predicate_level concat_level f l fs out) ≡ want (f ∷ fs) out ts
+predicate_read f l fs out ts h k =
+    ap (ran ts) (shifts predicate_level concat_level f l fs out h k)
+
+pub step_between : (n : Bool) (l : ℕ) (fs : List Frame) (out : List Step) (ts : List Token)
+    → concat_level ≤ l → top_hole fs ≤ predicate_level
+    → have l fs out (with_not n sign.Between ++ ts) ≡ want (frame.Between n ∷ fs) out ts
+unfolding run next word_after predicate
+step_between true l fs out ts h k = step_negating l fs out (sign sign.Between ∷ ts) h k
+    ∙ predicate_read (frame.Between true) l fs out ts h k
+step_between false l fs out ts h k = predicate_read (frame.Between false) l fs out ts h k
+
+pub step_like : (n i : Bool) (l : ℕ) (fs : List Frame) (out : List Step) (ts : List Token)
+    → concat_level ≤ l → top_hole fs ≤ predicate_level
+    → have l fs out (like_sign (specs.like_kind n i) ++ ts)
+    ≡ want (frame.Like (specs.like_kind n i) ∷ fs) out ts
+unfolding run next word_after predicate
+step_like true true l fs out ts h k = step_negating l fs out (sign sign.Ilike ∷ ts) h k
+    ∙ predicate_read (frame.Like (specs.like_kind true true)) l fs out ts h k
+step_like true false l fs out ts h k = step_negating l fs out (sign sign.Like ∷ ts) h k
+    ∙ predicate_read (frame.Like (specs.like_kind true false)) l fs out ts h k
+step_like false true l fs out ts h k =
+    predicate_read (frame.Like (specs.like_kind false true)) l fs out ts h k
+step_like false false l fs out ts h k =
+    predicate_read (frame.Like (specs.like_kind false false)) l fs out ts h k
+
+pub step_in : (n : Bool) (l : ℕ) (fs : List Frame) (out : List Step) (ts : List Token)
+    → concat_level ≤ l → top_hole fs ≤ predicate_level
+    → have l fs out (in_tokens n ++ ts) ≡ want (frame.Items n 0 ∷ fs) out ts
+unfolding run next word_after predicate
+step_in true l fs out ts h k =
+    let last : List Token = sign sign.Open ∷ ts in
+    step_negating l fs out (sign sign.In ∷ last) h k
+    ∙ ap (λ a. ran last (specs.in_behind true a.level a.frames a.steps))
+    (settled_none predicate_level l fs out k)
+    ∙ rw (at_most concat_level l h, at_most (top_hole fs) predicate_level k) refl
+step_in false l fs out ts h k =
+    let last : List Token = sign sign.Open ∷ ts in
+    ap (λ a. ran last (specs.in_behind false a.level a.frames a.steps))
+    (settled_none predicate_level l fs out k)
+    ∙ rw (at_most concat_level l h, at_most (top_hole fs) predicate_level k) refl
+
+pub step_bound : (n : Bool) (l : ℕ) (fs : List Frame) (out : List Step) (ts : List Token)
+    → have l (frame.Between n ∷ fs) out (sign sign.And ∷ ts) ≡ want (frame.Bounded n ∷ fs) out ts
+unfolding run next word_after settled
+step_bound n l fs out ts = refl
+
+is_read : (n : Bool) (l : ℕ) (fs : List Frame) (out : List Step) (ts : List Token) → is_level ≤ l
+    → top_hole fs ≤ is_level → have l fs out (is_tokens n ++ ts) ≡ run (state (mode.Is n) fs out) ts
+unfolding run next word_after
+is_read true l fs out ts h k =
+    ap (λ a. ran (sign sign.Not ∷ ts) (specs.is_behind a.level a.frames a.steps))
+    (settled_none is_level l fs out k)
+    ∙ rw (at_most is_level l h, at_most (top_hole fs) is_level k) refl
+is_read false l fs out ts h k =
+    ap (λ a. ran ts (specs.is_behind a.level a.frames a.steps)) (settled_none is_level l fs out k)
+    ∙ rw (at_most is_level l h, at_most (top_hole fs) is_level k) refl
+
+test_read : (k : Test) (n : Bool) (fs : List Frame) (out : List Step) (ts : List Token)
+    → run (state (mode.Is n) fs out) (sign (test_sign k) ∷ ts)
+    ≡ have is_level fs (out ++ (called (call.Is k n) ∷ [])) ts
+unfolding run next
+test_read test.Null n fs out ts = refl
+test_read test.True n fs out ts = refl
+test_read test.False n fs out ts = refl
+test_read test.Unknown n fs out ts = refl
+
+pub step_test : (k : Test) (n : Bool) (l : ℕ) (fs : List Frame) (out : List Step)
+    (ts : List Token) → is_level ≤ l → top_hole fs ≤ is_level
+    → have l fs out (test_tokens k n ++ ts)
+    ≡ have is_level fs (out ++ (called (call.Is k n) ∷ [])) ts
+step_test k n l fs out ts h j =
+    ap (have l fs out) (append_assoc (is_tokens n) (sign (test_sign k) ∷ []) ts)
+    ∙ is_read n l fs out (sign (test_sign k) ∷ ts) h j ∙ test_read k n fs out ts
+
+distinct_read : (n : Bool) (fs : List Frame) (out : List Step) (ts : List Token)
+    → top_hole fs ≤ distinct_level
+    → run (state (mode.Is n) fs out) (sign sign.Distinct ∷ sign sign.From ∷ ts)
+    ≡ want (frame.Distinct n ∷ fs) out ts
+unfolding run next
+distinct_read n fs out ts h = rw (at_most (top_hole fs) distinct_level h) refl
+
+pub step_distinct : (n : Bool) (l : ℕ) (fs : List Frame) (out : List Step) (ts : List Token)
+    → is_level ≤ l → top_hole fs ≤ distinct_level
+    → have l fs out (distinct_tokens n ++ ts) ≡ want (frame.Distinct n ∷ fs) out ts
+step_distinct n l fs out ts h j =
+    ap (have l fs out) (append_assoc (is_tokens n) (sign sign.Distinct ∷ sign sign.From ∷ []) ts)
+    ∙ is_read n l fs out (sign sign.Distinct ∷ sign sign.From ∷ ts) h (omega (arith, j))
+    ∙ distinct_read n fs out ts j
+
+pub step_close : (l : ℕ) (fs : List Frame) (out : List Step) (ts : List Token)
+    → have l (frame.Open ∷ fs) out (sign sign.Close ∷ ts) ≡ have atom_level fs out ts
+unfolding run next word_after settled
+step_close l fs out ts = refl
+
+pub step_typed : (l : ℕ) (fs : List Frame) (out : List Step) (w : List ℕ) (n : Bool)
+    (ts : List Token)
+    → literal_level ≤ l
+    → have l fs out (sign sign.Typed ∷ type_token w n ∷ ts)
+    ≡ have typed_level fs (out ++ (typed w n ∷ [])) ts
+unfolding run next word_after
+step_typed l fs out w true ts h = rw (at_most literal_level l h) refl
+step_typed l fs out w false ts h = rw (at_most literal_level l h) refl
+
+pub step_cast : (l : ℕ) (fs : List Frame) (out : List Step) (w : List ℕ) (n : Bool)
+    (ts : List Token)
+    → have l (frame.Cast ∷ fs) out (sign sign.As ∷ type_token w n ∷ sign sign.Close ∷ ts)
+    ≡ have atom_level fs (out ++ (cast w n ∷ [])) ts
+unfolding run next word_after settled
+step_cast l fs out w true ts = refl
+step_cast l fs out w false ts = refl
+
+pub step_escape : (k : LikeKind) (e : List ℕ) (l : ℕ) (fs : List Frame) (out : List Step)
+    (ts : List Token)
+    → have l (frame.Like k ∷ fs) out (sign sign.Escape ∷ text e ∷ ts)
+    ≡ have predicate_level fs (out ++ (escaped k e ∷ [])) ts
+unfolding run next word_after settled
+step_escape k e l fs out ts = refl
+
+pub step_operand : (t : Token) (fs : List Frame) (out : List Step) (ts : List Token)
+    → is_operand t ≡ true → operand_level t ≤ top_ceiling fs
+    → want fs out (t ∷ ts) ≡ have (operand_level t) fs (out ++ (operand t ∷ [])) ts
+unfolding run next
+step_operand t fs out ts h k = rw h (rw (at_most (operand_level t) (top_ceiling fs) k) refl)
+
+pub step_negative : (ds : List ℕ) (fs : List Frame) (out : List Step) (ts : List Token)
+    → literal_level ≤ top_ceiling fs
+    → want fs out (sign sign.Minus ∷ number ds ∷ ts)
+    ≡ have literal_level fs (out ++ (negative ds ∷ [])) ts
+unfolding run next
+step_negative ds fs out ts h = rw (at_most literal_level (top_ceiling fs) h) refl
+
+pub step_not : (fs : List Frame) (out : List Step) (ts : List Token) → top_hole fs ≤ not_level
+    → want fs out (sign sign.Not ∷ ts) ≡ want (frame.Not ∷ fs) out ts
+unfolding run next
+step_not fs out ts h = rw (at_most (top_hole fs) not_level h) refl
+
+pub step_open : (fs : List Frame) (out : List Step) (ts : List Token)
+    → want fs out (sign sign.Open ∷ ts) ≡ want (frame.Open ∷ fs) out ts
+unfolding run next
+step_open fs out ts = refl
+
+pub step_cast_open : (fs : List Frame) (out : List Step) (ts : List Token)
+    → want fs out (sign sign.Cast ∷ sign sign.Open ∷ ts) ≡ want (frame.Cast ∷ fs) out ts
+unfolding run next
+step_cast_open fs out ts = refl
+
+pub step_function : (w : List ℕ) (fs : List Frame) (out : List Step) (ts : List Token)
+    → want fs out (function w ∷ ts) ≡ want (frame.Arguments w 0 ∷ fs) out ts
+unfolding run next
+step_function w fs out ts = refl
+
+pub step_nullary : (w : List ℕ) (fs : List Frame) (out : List Step) (ts : List Token)
+    → want (frame.Arguments w 0 ∷ fs) out (sign sign.Close ∷ ts)
+    ≡ have atom_level fs (out ++ (applied w 0 ∷ [])) ts
+unfolding run next
+step_nullary w fs out ts = refl
+
+pub step_comma : (w : List ℕ) (n l : ℕ) (fs : List Frame) (out : List Step) (ts : List Token)
+    → have l (frame.Arguments w n ∷ fs) out (sign sign.Comma ∷ ts)
+    ≡ want (frame.Arguments w (suc n) ∷ fs) out ts
+unfolding run next word_after settled
+step_comma w n l fs out ts = refl
+
+pub step_applied : (w : List ℕ) (n l : ℕ) (fs : List Frame) (out : List Step) (ts : List Token)
+    → have l (frame.Arguments w n ∷ fs) out (sign sign.Close ∷ ts)
+    ≡ have atom_level fs (out ++ (applied w (suc n) ∷ [])) ts
+unfolding run next word_after settled
+step_applied w n l fs out ts = refl
+
+pub step_item : (n : Bool) (k l : ℕ) (fs : List Frame) (out : List Step) (ts : List Token)
+    → have l (frame.Items n k ∷ fs) out (sign sign.Comma ∷ ts)
+    ≡ want (frame.Items n (suc k) ∷ fs) out ts
+unfolding run next word_after settled
+step_item n k l fs out ts = refl
+
+pub step_listed : (n : Bool) (k l : ℕ) (fs : List Frame) (out : List Step) (ts : List Token)
+    → have l (frame.Items n k ∷ fs) out (sign sign.Close ∷ ts)
+    ≡ have predicate_level fs (out ++ (listed n (suc k) ∷ [])) ts
+unfolding run next word_after settled
+step_listed n k l fs out ts = refl
