@@ -1,64 +1,10 @@
-//! Calls of functions over constants, each row with what PostgreSQL 15.18 answers.
+//! Calls of functions over constants, each row with what PostgreSQL 15.18 returns.
 
-use fixtures::{Ask, integer, same};
-use std::alloc::Global;
-use std::process::Abort;
-use tree_fixtures::makers::{Bound, literal, one, three, two};
+use crate::asking::{faults, gives, int, no_int, sure, text, truth};
+use fixtures::integer;
+use tree_fixtures::makers::{literal, one, three, two};
 use vortex_columns::*;
-use vortex_functions::*;
-use vortex_standard::extremes::Extreme;
-use vortex_standard::faults::RowFault;
-use vortex_standard::integer_casts::{Cast, Widen};
-use vortex_standard::letters::Letters;
-use vortex_standard::standard::Standard;
-use vortex_standard::texts::Measure;
-
-type Children = VortexResult<Vec<BoundExpression<Standard>>>;
-
-fn int(alloc: Global, value: i128) -> Bound<Standard> {
-    literal(alloc, integer(PType::I64, value))
-}
-
-fn no_int(alloc: Global) -> Bound<Standard> {
-    let dtype = DType::Primitive(PType::I64, Nullability::Nullable);
-    literal(alloc, Ok(Scalar::null(dtype)))
-}
-
-fn truth(alloc: Global, value: bool) -> Bound<Standard> {
-    literal(alloc, Ok(Scalar::bool(value, Nullability::NonNullable)))
-}
-
-fn text(alloc: Global, chars: &str) -> Bound<Standard> {
-    literal(alloc, Scalar::try_from_str(alloc, chars))
-}
-
-/// Whether a call over constants has that column of one row.
-fn gives(rt: HostRuntime, f: Standard, children: Children, wanted: &str) -> VortexResult<bool> {
-    let alloc = rt.alloc();
-    let tree = BoundExpression::try_new(alloc, ScalarFnRef::custom(f, EmptyOptions), children?)?;
-    let columns: Vec<Column> = Vec::new(alloc);
-    let answer = Box::new(
-        alloc,
-        tree.execute(&columns, 1, &mut ExecutionCtx::new(alloc))?,
-    )?;
-    Ok(same(rt, answer.text(alloc)?.as_str(), wanted))
-}
-
-/// Whether a call over constants faults with that text.
-fn faults(rt: HostRuntime, f: Standard, children: Children, wanted: &str) -> bool {
-    match gives(rt, f, children, "") {
-        Err(VortexError::Custom(number)) => match RowFault::of_number(number) {
-            Some(fault) => same(rt, fault.text(), wanted),
-            None => false,
-        },
-        _ => false,
-    }
-}
-
-/// Ends the test unless the result is `true`.
-fn sure<R: Abort + Ask>(test: &R, answer: VortexResult<bool>) {
-    assert!(test; test.yes(answer));
-}
+use vortex_standard::*;
 
 #[test]
 fn remainders_have_the_sign_of_the_dividend(rt: HostRuntime) {

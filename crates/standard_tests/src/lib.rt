@@ -1,5 +1,17 @@
-//! Tests of SQL's functions. The rows are what PostgreSQL 15 answers.
+//! Tests of SQL's functions. The rows are what PostgreSQL 15 returns.
 #![tactic(auto)]
 
 #[cfg(test)]
+mod asking;
+#[cfg(test)]
+mod bits;
+#[cfg(test)]
+mod casts;
+#[cfg(test)]
+mod ends;
+#[cfg(test)]
 mod functions;
+#[cfg(test)]
+mod lists;
+#[cfg(test)]
+mod parts;

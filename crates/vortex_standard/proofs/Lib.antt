@@ -1,5 +1,1 @@
-mod Columns
-mod MadeRows
-mod Maps
-mod Rows
-mod TextRoom
+mod Finds

@@ -3,58 +3,92 @@ use Rattle.std.specs.Prelude.{codes}
 use Rattle.vortex_interface.specs.Meaning.{Meaning}
 use Rattle.vortex_standard.specs.declared.standard.Standard.{Standard}
 use Rattle.vortex_standard.specs.declared.standard.Standard.TheVariants as standard
-use Rattle.vortex_standard.specs.Abs.{abs_row, abs_lawful}
-use Rattle.vortex_standard.specs.Case.{case_row, case_lawful}
-use Rattle.vortex_standard.specs.Casts.{cast_row, cast_lawful, widen_row, widen_lawful}
-use Rattle.vortex_standard.specs.Casts.{truth_row, truth_lawful, nonzero_row, nonzero_lawful}
-use Rattle.vortex_standard.specs.Casts.{truth_word_row, truth_word_lawful}
-use Rattle.vortex_standard.specs.Coalesce.{coalesce_row, coalesce_lawful}
-use Rattle.vortex_standard.specs.Extremes.{extreme_row, extreme_lawful}
-use Rattle.vortex_standard.specs.MadeTexts.{concat_row, concat_lawful, int_text_row}
-use Rattle.vortex_standard.specs.MadeTexts.{int_text_lawful}
-use Rattle.vortex_standard.specs.MadeTexts.{letters_row, letters_lawful}
-use Rattle.vortex_standard.specs.NullIf.{nullif_row, nullif_lawful}
-use Rattle.vortex_standard.specs.Remainder.{remainder_row, remainder_lawful}
-use Rattle.vortex_standard.specs.Row.{Row, LawfulRow, row_type, row_means}
-use Rattle.vortex_standard.specs.Sign.{sign_row, sign_lawful}
-use Rattle.vortex_standard.specs.Texts.{begins_row, begins_lawful, measure_row, measure_lawful}
+use Rattle.vortex_sql_numbers.specs.Abs.{abs_row, abs_lawful}
+use Rattle.vortex_sql_choices.specs.Case.{case_row, case_lawful}
+use Rattle.vortex_sql_numbers.specs.Bits.{bit_not_row, bit_not_lawful, operator_row, operator_lawful}
+use Rattle.vortex_sql_numbers.specs.Bits.{shift_row, shift_lawful}
+use Rattle.vortex_sql_texts.specs.Parts.{side_row, side_lawful, substr_row, substr_lawful}
+use Rattle.vortex_sql_numbers.specs.Casts.{cast_row, cast_lawful, widen_row, widen_lawful}
+use Rattle.vortex_sql_numbers.specs.Casts.{truth_row, truth_lawful, nonzero_row, nonzero_lawful}
+use Rattle.vortex_sql_numbers.specs.Casts.{truth_word_row, truth_word_lawful}
+use Rattle.vortex_sql_choices.specs.Coalesce.{coalesce_row, coalesce_lawful}
+use Rattle.vortex_sql_choices.specs.Extremes.{extreme_row, extreme_lawful}
+use Rattle.vortex_sql_texts.specs.MadeTexts.{concat_row, concat_lawful, int_text_row}
+use Rattle.vortex_sql_texts.specs.MadeTexts.{int_text_lawful}
+use Rattle.vortex_sql_texts.specs.MadeTexts.{letters_row, letters_lawful}
+use Rattle.vortex_sql_choices.specs.Distinct.{distinct_row, distinct_lawful}
+use Rattle.vortex_sql_choices.specs.InList.{in_list_row, in_list_lawful}
+use Rattle.vortex_sql_choices.specs.TruthTests.{test_row, test_lawful}
+use Rattle.vortex_sql_choices.specs.NullIf.{nullif_row, nullif_lawful}
+use Rattle.vortex_sql_numbers.specs.Remainder.{remainder_row, remainder_lawful}
+use Rattle.vortex_sql_rows.specs.Row.{Row, LawfulRow, row_type, row_means}
+use Rattle.vortex_sql_numbers.specs.Sign.{sign_row, sign_lawful}
+use Rattle.vortex_sql_texts.specs.Places.{strpos_row, strpos_lawful}
+use Rattle.vortex_sql_texts.specs.TextCasts.{int_cast_row, int_cast_lawful, truth_cast_row}
+use Rattle.vortex_sql_texts.specs.TextCasts.{truth_cast_lawful}
+use Rattle.vortex_sql_texts.specs.Trims.{trim_row, trim_lawful}
+use Rattle.vortex_sql_texts.specs.Texts.{begins_row, begins_lawful, measure_row, measure_lawful}
 
 abbrev pub row_of : Standard → Row
 row_of standard.Coalesce = coalesce_row
 row_of standard.NullIf = nullif_row
 row_of standard.Case = case_row
+row_of standard.InList = in_list_row
+row_of standard.IsDistinct = distinct_row
 row_of standard.Remainder = remainder_row
 row_of standard.Sign = sign_row
 row_of standard.Abs = abs_row
+row_of standard.BitNot = bit_not_row
 row_of standard.IntToTruth = nonzero_row
 row_of standard.TruthToText = truth_word_row
 row_of standard.StartsWith = begins_row
+row_of standard.Substr = substr_row
+row_of standard.StrPos = strpos_row
+row_of standard.TextToTruth = truth_cast_row
 row_of standard.Concat = concat_row
 row_of standard.IntToText = int_text_row
 row_of (standard.Extreme x) = extreme_row x
+row_of (standard.TruthTest t) = test_row t
+row_of (standard.BitOperator o) = operator_row o
+row_of (standard.Shift s) = shift_row s
 row_of (standard.Cast f) = cast_row f.ptype
 row_of (standard.Widen f) = widen_row f.ptype
 row_of (standard.TruthToInt f) = truth_row f.ptype
 row_of (standard.Measure m) = measure_row m
+row_of (standard.Side s) = side_row s
+row_of (standard.Trim t) = trim_row t
+row_of (standard.TextToInt f) = int_cast_row f.ptype
 row_of (standard.Letters l) = letters_row l
 
 pub lawful_of : (f : Standard) → LawfulRow (row_of f)
 lawful_of standard.Coalesce = coalesce_lawful
 lawful_of standard.NullIf = nullif_lawful
 lawful_of standard.Case = case_lawful
+lawful_of standard.InList = in_list_lawful
+lawful_of standard.IsDistinct = distinct_lawful
 lawful_of standard.Remainder = remainder_lawful
 lawful_of standard.Sign = sign_lawful
 lawful_of standard.Abs = abs_lawful
+lawful_of standard.BitNot = bit_not_lawful
 lawful_of standard.IntToTruth = nonzero_lawful
 lawful_of standard.TruthToText = truth_word_lawful
 lawful_of standard.StartsWith = begins_lawful
+lawful_of standard.Substr = substr_lawful
+lawful_of standard.StrPos = strpos_lawful
+lawful_of standard.TextToTruth = truth_cast_lawful
 lawful_of standard.Concat = concat_lawful
 lawful_of standard.IntToText = int_text_lawful
 lawful_of (standard.Extreme x) = extreme_lawful x
+lawful_of (standard.TruthTest t) = test_lawful t
+lawful_of (standard.BitOperator o) = operator_lawful o
+lawful_of (standard.Shift s) = shift_lawful s
 lawful_of (standard.Cast f) = cast_lawful f.ptype
 lawful_of (standard.Widen f) = widen_lawful f.ptype
 lawful_of (standard.TruthToInt f) = truth_lawful f.ptype
 lawful_of (standard.Measure m) = measure_lawful m
+lawful_of (standard.Side s) = side_lawful s
+lawful_of (standard.Trim t) = trim_lawful t
+lawful_of (standard.TextToInt f) = int_cast_lawful f.ptype
 lawful_of (standard.Letters l) = letters_lawful l
 
 -- What follows comes of the list.

@@ -8,7 +8,7 @@ use Rattle.vortex_interface.specs.Rewrites.{LawfulRules}
 use Rattle.vortex_interface.specs.ValidityRules.{default_rules}
 use Rattle.vortex_interface.proofs.Validities.{default_rules_lawful}
 use Rattle.vortex_rewriting.specs.Identities.{IsOwnIdentity, first_letter}
-use Rattle.vortex_standard.specs.Laws as laws
+use Rattle.vortex_sql_rows.specs.Laws as laws
 use Rattle.vortex_standard.specs.Standard.{row_of, lawful_of, standard_meaning}
 
 pub standard_lawful : {O : Type 0} → Lawful (standard_meaning {O = O})

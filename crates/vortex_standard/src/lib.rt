@@ -1,23 +1,23 @@
-//! SQL's functions, each a caller's function that is lawful by its rows.
+//! SQL's functions: the list, and the names by which texts call them.
 #![tactic(auto)]
 
-pub mod abs;
-pub mod call;
-pub mod case;
-pub mod cells;
-pub mod coalesce;
-pub mod column;
-pub mod extremes;
-pub mod faults;
-pub mod integer_casts;
-pub mod letters;
-pub mod maker;
-pub mod nullif;
-pub mod ranges;
-pub mod remainder;
-pub mod row;
-pub mod sign;
+pub mod error_texts;
+pub mod names;
 pub mod standard;
-pub mod texts;
-pub mod truth_casts;
-pub mod types;
+
+pub use error_texts::ErrorText;
+pub use names::{FUNCTIONS, named};
+pub use standard::Standard;
+pub use vortex_sql_choices::extremes::Extreme;
+pub use vortex_sql_choices::truth_tests::TruthTest;
+pub use vortex_sql_numbers::bits::{BitOperator, Shift};
+pub use vortex_sql_numbers::integer_casts::{Cast, Widen};
+pub use vortex_sql_numbers::truth_casts::TruthToInt;
+pub use vortex_sql_rows::faults::RowFault;
+pub use vortex_sql_rows::ranges::has_all_of;
+pub use vortex_sql_rows::types::{Gives, Kind, Nulls, Takes, Types};
+pub use vortex_sql_texts::letters::Letters;
+pub use vortex_sql_texts::parts::Side;
+pub use vortex_sql_texts::text_casts::TextToInt;
+pub use vortex_sql_texts::texts::Measure;
+pub use vortex_sql_texts::trims::Trim;

@@ -1,17 +1,10 @@
 //! The list of the functions.
+ghost use Rattle.std.specs.Prelude.{◌≡◌};
 ghost use Rattle.vortex_interface.specs.ValidityRules.{default_rules};
-ghost use Rattle.vortex_standard.specs.Standard.{standard_meaning};
+ghost use Rattle.vortex_standard.specs.Standard.{row_of, standard_meaning};
 ghost use Rattle.vortex_standard.specs.StandardLaws.{standard_lawful, standard_rules_lawful};
 ghost use Rattle.vortex_standard.specs.StandardLaws.{standard_identity};
 
-use crate::call::{execute_rows, row_dtype};
-use crate::extremes::Extreme;
-use crate::integer_casts::{Cast, Widen};
-use crate::letters::Letters;
-use crate::maker::{TextFn, execute_texts, text_dtype};
-use crate::row::RowFn;
-use crate::texts::Measure;
-use crate::truth_casts::TruthToInt;
 use std::alloc::Global;
 use vortex_columns::{Arity, Column, DType, ExecutionCtx, VortexResult};
 use vortex_functions::{
@@ -19,61 +12,105 @@ use vortex_functions::{
     ScalarFnVTable,
 };
 use vortex_rewriting::{ReduceNodeValidity, ReduceTree, ScalarFnRules, default_validity};
+use vortex_sql_calls::call::{execute_rows, row_dtype};
+use vortex_sql_calls::maker::{execute_texts, text_dtype};
+use vortex_sql_choices::extremes::Extreme;
+use vortex_sql_choices::truth_tests::TruthTest;
+use vortex_sql_numbers::bits::{BitOperator, Shift};
+use vortex_sql_numbers::integer_casts::{Cast, Widen};
+use vortex_sql_numbers::truth_casts::TruthToInt;
+use vortex_sql_rows::row::{RowFn, TextFn};
+use vortex_sql_rows::types::Takes;
+use vortex_sql_texts::letters::Letters;
+use vortex_sql_texts::parts::Side;
+use vortex_sql_texts::text_casts::TextToInt;
+use vortex_sql_texts::texts::Measure;
+use vortex_sql_texts::trims::Trim;
 
-/// Runs the first expression for a function whose answers are cells, the second for one that makes
+/// Runs the first expression for a function whose results are cells, the second for one that makes
 /// texts.
 macro_rules! with_row {
     ($function:expr, $f:ident => $rows:expr, $texts:expr) => {
         match $function {
             Standard::Coalesce => {
-                let $f = &crate::coalesce::Coalesce;
+                let $f = &vortex_sql_choices::coalesce::Coalesce;
                 $rows
             }
             Standard::NullIf => {
-                let $f = &crate::nullif::NullIf;
+                let $f = &vortex_sql_choices::nullif::NullIf;
                 $rows
             }
             Standard::Case => {
-                let $f = &crate::case::Case;
+                let $f = &vortex_sql_choices::case::Case;
+                $rows
+            }
+            Standard::InList => {
+                let $f = &vortex_sql_choices::in_list::InList;
+                $rows
+            }
+            Standard::IsDistinct => {
+                let $f = &vortex_sql_choices::distinct::IsDistinct;
                 $rows
             }
             Standard::Remainder => {
-                let $f = &crate::remainder::Remainder;
+                let $f = &vortex_sql_numbers::remainder::Remainder;
                 $rows
             }
             Standard::Sign => {
-                let $f = &crate::sign::Sign;
+                let $f = &vortex_sql_numbers::sign::Sign;
                 $rows
             }
             Standard::Abs => {
-                let $f = &crate::abs::Abs;
+                let $f = &vortex_sql_numbers::abs::Abs;
+                $rows
+            }
+            Standard::BitNot => {
+                let $f = &vortex_sql_numbers::bits::BitNot;
                 $rows
             }
             Standard::IntToTruth => {
-                let $f = &crate::truth_casts::IntToTruth;
+                let $f = &vortex_sql_numbers::truth_casts::IntToTruth;
                 $rows
             }
             Standard::TruthToText => {
-                let $f = &crate::truth_casts::TruthToText;
+                let $f = &vortex_sql_numbers::truth_casts::TruthToText;
                 $rows
             }
             Standard::StartsWith => {
-                let $f = &crate::texts::StartsWith;
+                let $f = &vortex_sql_texts::texts::StartsWith;
+                $rows
+            }
+            Standard::Substr => {
+                let $f = &vortex_sql_texts::parts::Substr;
+                $rows
+            }
+            Standard::StrPos => {
+                let $f = &vortex_sql_texts::places::StrPos;
+                $rows
+            }
+            Standard::TextToTruth => {
+                let $f = &vortex_sql_texts::text_casts::TextToTruth;
                 $rows
             }
             Standard::Concat => {
-                let $f = &crate::letters::Concat;
+                let $f = &vortex_sql_texts::letters::Concat;
                 $texts
             }
             Standard::IntToText => {
-                let $f = &crate::letters::IntToText;
+                let $f = &vortex_sql_texts::letters::IntToText;
                 $texts
             }
             Standard::Extreme($f) => $rows,
+            Standard::TruthTest($f) => $rows,
+            Standard::BitOperator($f) => $rows,
+            Standard::Shift($f) => $rows,
             Standard::Cast($f) => $rows,
             Standard::Widen($f) => $rows,
             Standard::TruthToInt($f) => $rows,
             Standard::Measure($f) => $rows,
+            Standard::Side($f) => $rows,
+            Standard::Trim($f) => $rows,
+            Standard::TextToInt($f) => $rows,
             Standard::Letters($f) => $texts,
         }
     };
@@ -85,20 +122,41 @@ pub enum Standard {
     Coalesce,
     NullIf,
     Case,
+    InList,
+    IsDistinct,
     Remainder,
     Sign,
     Abs,
+    BitNot,
     IntToTruth,
     TruthToText,
     StartsWith,
+    Substr,
+    StrPos,
+    TextToTruth,
     Concat,
     IntToText,
     Extreme(Extreme),
+    TruthTest(TruthTest),
+    BitOperator(BitOperator),
+    Shift(Shift),
     Cast(Cast),
     Widen(Widen),
     TruthToInt(TruthToInt),
     Measure(Measure),
+    Side(Side),
+    Trim(Trim),
+    TextToInt(TextToInt),
     Letters(Letters),
+}
+
+impl Standard {
+    /// Which arguments the function takes.
+    pub fn takes(&self) -> Takes
+        ensures { result ≡ (row_of self.now).types.takes }
+    {
+        with_row!(self, f => f.signature().types.takes, f.signature().types.takes)
+    }
 }
 
 impl ScalarFnVTable for Standard {
@@ -109,11 +167,11 @@ impl ScalarFnVTable for Standard {
     ghost rules = { default_rules standard_meaning };
 
     fn id(&self) -> ScalarFnId {
-        with_row!(self, f => f.id(), f.id())
+        with_row!(self, f => f.signature().id, f.signature().id)
     }
 
     fn arity(&self, _options: &EmptyOptions) -> Arity {
-        with_row!(self, f => f.arity(), f.arity())
+        with_row!(self, f => f.signature().arity, f.signature().arity)
     }
 
     fn child_name(&self, _options: &EmptyOptions, _index: usize) -> ChildName {
@@ -139,11 +197,11 @@ impl ScalarFnVTable for Standard {
     }
 
     fn is_strict(&self, _options: &EmptyOptions) -> bool {
-        with_row!(self, f => f.is_strict(), f.is_strict())
+        with_row!(self, f => f.signature().is_strict, f.signature().is_strict)
     }
 
     fn is_infallible(&self, _options: &EmptyOptions) -> bool {
-        with_row!(self, f => f.is_infallible(), f.is_infallible())
+        with_row!(self, f => f.signature().is_infallible, f.signature().is_infallible)
     }
 
     fn try_clone(&self, _alloc: Global) -> VortexResult<Standard> {

@@ -1,0 +1,3 @@
+mod Columns
+mod MadeRows
+mod Rows

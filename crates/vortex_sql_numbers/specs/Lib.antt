@@ -1,0 +1,5 @@
+pub mod Abs
+pub mod Bits
+pub mod Casts
+pub mod Remainder
+pub mod Sign

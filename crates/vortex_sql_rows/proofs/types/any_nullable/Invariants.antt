@@ -1,0 +1,9 @@
+use Rattle.std.proofs.Common.{◌≡◌, false, take}
+use Rattle.std.specs.List.{list_any}
+use Rattle.vortex_types.specs.LogicalTypes.{is_nullable}
+use Rattle.vortex_types.specs.TypeOf.{type_of}
+use Rattle.vortex_sql_rows.proofs.types.any_nullable.Given as goal
+
+-- none so far
+abbrev pub invariant-loop-dtype : goal.invariant-loop-dtype
+invariant-loop-dtype l = list_any (λ t. is_nullable (type_of t)) (take l.dtype-index l.types) ≡ false

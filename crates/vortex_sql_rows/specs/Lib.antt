@@ -1,0 +1,9 @@
+pub mod AcceptedTypes
+pub mod AnsweredRows
+pub mod Faults
+pub mod Integers
+pub mod Laws
+pub mod Row
+pub mod Shapes
+pub mod Signatures
+pub mod Types

@@ -1,0 +1,3 @@
+mod CharacterParts
+mod Ends
+mod TextRoom

@@ -1,0 +1,11 @@
+//! SQL's functions of texts.
+#![tactic(auto)]
+
+mod characters;
+pub mod letters;
+mod made;
+pub mod parts;
+pub mod places;
+pub mod text_casts;
+pub mod texts;
+pub mod trims;

@@ -1,7 +1,0 @@
-use Rattle.vortex_standard.specs.Calls.{AreTypedBelow}
-use Rattle.vortex_standard.proofs.call.typed_inputs.Given as goal
-
--- the inputs so far
-abbrev pub invariant-loop-k : goal.invariant-loop-k
-invariant-loop-k g l =
-    AreTypedBelow l.k (g.A.ExecutionArgs.inputs l.args) (g.A.ExecutionArgs.rows l.args)

@@ -1,7 +1,0 @@
-use Rattle.vortex_columns.specs.Made.{borrowed_texts}
-use Rattle.vortex_standard.specs.Columns.{AreTexts}
-use Rattle.vortex_standard.proofs.column.text_values.Given as goal
-
--- the texts of the cells so far
-abbrev pub invariant-loop-i : goal.invariant-loop-i
-invariant-loop-i l = AreTexts l.cells l.i (borrowed_texts l.values.items)

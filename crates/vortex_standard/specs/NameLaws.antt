@@ -1,0 +1,133 @@
+-- A name is a word, and names its function alone.
+use Rattle.std.specs.Prelude.{◌≡◌, ◌∷◌, ◌&&◌, [], Bool, List, None, Option, Some, false, refl, true}
+use Rattle.std.specs.List.{find, list_all}
+use Rattle.std.proofs.Common.{cond}
+use Rattle.vortex_types.specs.declared.dtype.PType.{PType}
+use Rattle.vortex_types.specs.declared.dtype.PType.TheVariants.{I8, I16, I32, I64, U8, U16, U32}
+use Rattle.vortex_types.specs.declared.dtype.PType.TheVariants.{U64}
+use Rattle.vortex_sql_choices.specs.declared.extremes.Extreme.TheVariants.{Greatest, Least}
+use Rattle.vortex_sql_numbers.specs.declared.integer_casts.Cast.{Cast}
+use Rattle.vortex_sql_numbers.specs.declared.integer_casts.Widen.{Widen}
+use Rattle.vortex_sql_texts.specs.declared.letters.Letters.TheVariants.{Lower, Upper}
+use Rattle.vortex_sql_choices.specs.declared.truth_tests.TruthTest.TheVariants.{IsTrue, IsFalse, IsUnknown}
+use Rattle.vortex_sql_numbers.specs.declared.bits.BitOperator.TheVariants.{And, Or, Xor}
+use Rattle.vortex_sql_numbers.specs.declared.bits.Shift.TheVariants as shift
+use Rattle.vortex_sql_texts.specs.declared.parts.Side.TheVariants as side
+use Rattle.vortex_sql_texts.specs.declared.trims.Trim.TheVariants.{Both, Start, End}
+use Rattle.vortex_sql_texts.specs.declared.text_casts.TextToInt.{TextToInt}
+use Rattle.vortex_standard.specs.declared.standard.Standard.{Standard}
+use Rattle.vortex_standard.specs.declared.standard.Standard.TheVariants as standard
+use Rattle.vortex_sql_texts.specs.declared.texts.Measure.TheVariants.{Characters, Bytes}
+use Rattle.vortex_sql_numbers.specs.declared.truth_casts.TruthToInt.{TruthToInt}
+use Rattle.vortex_standard.specs.declared.names.TheConstants.{FUNCTIONS}
+use Rattle.vortex_standard.specs.Names.{has_name, is_name, name_of, standard_named}
+
+-- a function is the first that has its name
+abbrev IsFirst : Standard → Type 0
+IsFirst f = find (has_name (name_of f)) FUNCTIONS ≡ Some f
+
+first_cast : (p : PType) → IsFirst (standard.Cast (record { ptype = p }))
+first_cast I8 = refl
+first_cast I16 = refl
+first_cast I32 = refl
+first_cast I64 = refl
+first_cast U8 = refl
+first_cast U16 = refl
+first_cast U32 = refl
+first_cast U64 = refl
+
+first_widen : (p : PType) → IsFirst (standard.Widen (record { ptype = p }))
+first_widen I8 = refl
+first_widen I16 = refl
+first_widen I32 = refl
+first_widen I64 = refl
+first_widen U8 = refl
+first_widen U16 = refl
+first_widen U32 = refl
+first_widen U64 = refl
+
+first_text : (p : PType) → IsFirst (standard.TextToInt (record { ptype = p }))
+first_text I8 = refl
+first_text I16 = refl
+first_text I32 = refl
+first_text I64 = refl
+first_text U8 = refl
+first_text U16 = refl
+first_text U32 = refl
+first_text U64 = refl
+
+first_truth : (p : PType) → IsFirst (standard.TruthToInt (record { ptype = p }))
+first_truth I8 = refl
+first_truth I16 = refl
+first_truth I32 = refl
+first_truth I64 = refl
+first_truth U8 = refl
+first_truth U16 = refl
+first_truth U32 = refl
+first_truth U64 = refl
+
+first : (f : Standard) → IsFirst f
+first standard.Coalesce = refl
+first standard.NullIf = refl
+first standard.Case = refl
+first standard.InList = refl
+first standard.IsDistinct = refl
+first standard.Remainder = refl
+first standard.Sign = refl
+first standard.Abs = refl
+first standard.BitNot = refl
+first standard.IntToTruth = refl
+first standard.TruthToText = refl
+first standard.StartsWith = refl
+first standard.Substr = refl
+first standard.StrPos = refl
+first standard.TextToTruth = refl
+first standard.Concat = refl
+first standard.IntToText = refl
+first (standard.Extreme Greatest) = refl
+first (standard.Extreme Least) = refl
+first (standard.TruthTest IsTrue) = refl
+first (standard.TruthTest IsFalse) = refl
+first (standard.TruthTest IsUnknown) = refl
+first (standard.BitOperator And) = refl
+first (standard.BitOperator Or) = refl
+first (standard.BitOperator Xor) = refl
+first (standard.Shift shift.Left) = refl
+first (standard.Shift shift.Right) = refl
+first (standard.Cast f) = first_cast f.ptype
+first (standard.Widen f) = first_widen f.ptype
+first (standard.TruthToInt f) = first_truth f.ptype
+first (standard.Measure Characters) = refl
+first (standard.Measure Bytes) = refl
+first (standard.Side side.Left) = refl
+first (standard.Side side.Right) = refl
+first (standard.Trim Both) = refl
+first (standard.Trim Start) = refl
+first (standard.Trim End) = refl
+first (standard.TextToInt f) = first_text f.ptype
+first (standard.Letters Lower) = refl
+first (standard.Letters Upper) = refl
+
+-- a function's name names that function
+pub named_back : (f : Standard) → standard_named (name_of f) ≡ Some f
+named_back f = rw (first f) refl
+
+found_passes : {X : Type 0} (p q : X → Bool) (xs : List X) (x : X) → find p xs ≡ Some x
+    → list_all q xs ≡ true → q x ≡ true
+found_passes p q [] x e h = cc
+found_passes p q (y ∷ ys) x e h =
+    by (p y) (q y) refl refl (λ l m. found_passes p q ys x l m) e h
+  where
+    by : (b c : Bool) → p y ≡ b → q y ≡ c
+        → (find p ys ≡ Some x → list_all q ys ≡ true → q x ≡ true)
+        → cond b (Some y) (find p ys) ≡ Some x → (c && list_all q ys) ≡ true → q x ≡ true
+    by true true k l later m n = cc
+    by false true k l later m n = later m n
+    by b false k l later m n = cc
+
+-- what holds of each function of the list holds of any
+pub of_each : (q : Standard → Bool) → list_all q FUNCTIONS ≡ true → (f : Standard) → q f ≡ true
+of_each q e f = found_passes (has_name (name_of f)) q FUNCTIONS f (first f) e
+
+pub name_is_word : (f : Standard) → is_name (name_of f) ≡ true
+name_is_word = of_each (λ f. is_name (name_of f)) refl

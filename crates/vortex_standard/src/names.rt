@@ -1,0 +1,163 @@
+//! The names by which texts call the functions.
+ghost use Rattle.std.specs.Prelude.{◌≡◌, Some, true};
+ghost use Rattle.std.specs.List.{find};
+ghost use Rattle.vortex_standard.specs.Names.{name_of, same_word, has_name, alias_of};
+ghost use Rattle.vortex_standard.specs.Names.{is_name, standard_named};
+
+use crate::standard::Standard;
+use vortex_columns::PType;
+use vortex_functions::ScalarFnVTable;
+use vortex_sql_choices::extremes::Extreme;
+use vortex_sql_choices::truth_tests::TruthTest;
+use vortex_sql_numbers::bits::{BitOperator, Shift};
+use vortex_sql_numbers::integer_casts::{Cast, Widen};
+use vortex_sql_numbers::truth_casts::TruthToInt;
+use vortex_sql_texts::letters::Letters;
+use vortex_sql_texts::parts::Side;
+use vortex_sql_texts::text_casts::TextToInt;
+use vortex_sql_texts::texts::Measure;
+use vortex_sql_texts::trims::Trim;
+
+/// The functions, each once.
+pub const FUNCTIONS: [Standard; 68] = [
+    Standard::Coalesce,
+    Standard::NullIf,
+    Standard::Case,
+    Standard::InList,
+    Standard::IsDistinct,
+    Standard::Remainder,
+    Standard::Sign,
+    Standard::Abs,
+    Standard::BitNot,
+    Standard::IntToTruth,
+    Standard::TruthToText,
+    Standard::StartsWith,
+    Standard::Substr,
+    Standard::StrPos,
+    Standard::TextToTruth,
+    Standard::Concat,
+    Standard::IntToText,
+    Standard::Extreme(Extreme::Greatest),
+    Standard::Extreme(Extreme::Least),
+    Standard::TruthTest(TruthTest::IsTrue),
+    Standard::TruthTest(TruthTest::IsFalse),
+    Standard::TruthTest(TruthTest::IsUnknown),
+    Standard::BitOperator(BitOperator::And),
+    Standard::BitOperator(BitOperator::Or),
+    Standard::BitOperator(BitOperator::Xor),
+    Standard::Shift(Shift::Left),
+    Standard::Shift(Shift::Right),
+    Standard::Cast(Cast { ptype: PType::I8 }),
+    Standard::Cast(Cast { ptype: PType::I16 }),
+    Standard::Cast(Cast { ptype: PType::I32 }),
+    Standard::Cast(Cast { ptype: PType::I64 }),
+    Standard::Cast(Cast { ptype: PType::U8 }),
+    Standard::Cast(Cast { ptype: PType::U16 }),
+    Standard::Cast(Cast { ptype: PType::U32 }),
+    Standard::Cast(Cast { ptype: PType::U64 }),
+    Standard::Widen(Widen { ptype: PType::I8 }),
+    Standard::Widen(Widen { ptype: PType::I16 }),
+    Standard::Widen(Widen { ptype: PType::I32 }),
+    Standard::Widen(Widen { ptype: PType::I64 }),
+    Standard::Widen(Widen { ptype: PType::U8 }),
+    Standard::Widen(Widen { ptype: PType::U16 }),
+    Standard::Widen(Widen { ptype: PType::U32 }),
+    Standard::Widen(Widen { ptype: PType::U64 }),
+    Standard::TruthToInt(TruthToInt { ptype: PType::I8 }),
+    Standard::TruthToInt(TruthToInt { ptype: PType::I16 }),
+    Standard::TruthToInt(TruthToInt { ptype: PType::I32 }),
+    Standard::TruthToInt(TruthToInt { ptype: PType::I64 }),
+    Standard::TruthToInt(TruthToInt { ptype: PType::U8 }),
+    Standard::TruthToInt(TruthToInt { ptype: PType::U16 }),
+    Standard::TruthToInt(TruthToInt { ptype: PType::U32 }),
+    Standard::TruthToInt(TruthToInt { ptype: PType::U64 }),
+    Standard::Measure(Measure::Characters),
+    Standard::Measure(Measure::Bytes),
+    Standard::Side(Side::Left),
+    Standard::Side(Side::Right),
+    Standard::Trim(Trim::Both),
+    Standard::Trim(Trim::Start),
+    Standard::Trim(Trim::End),
+    Standard::TextToInt(TextToInt { ptype: PType::I8 }),
+    Standard::TextToInt(TextToInt { ptype: PType::I16 }),
+    Standard::TextToInt(TextToInt { ptype: PType::I32 }),
+    Standard::TextToInt(TextToInt { ptype: PType::I64 }),
+    Standard::TextToInt(TextToInt { ptype: PType::U8 }),
+    Standard::TextToInt(TextToInt { ptype: PType::U16 }),
+    Standard::TextToInt(TextToInt { ptype: PType::U32 }),
+    Standard::TextToInt(TextToInt { ptype: PType::U64 }),
+    Standard::Letters(Letters::Lower),
+    Standard::Letters(Letters::Upper),
+];
+
+fn is_same_word(word: &[u8], other: &[u8]) -> bool
+    ensures { result ≡ same_word word.now other.now }
+{
+    word.eq_ignore_ascii_case(other)
+}
+
+/// The function that a word is another name of.
+fn alias_of(word: &[u8]) -> Option<Standard>
+    ensures { result ≡ alias_of word.now }
+{
+    if is_same_word(word, b"ifnull") {
+        Some(Standard::Coalesce)
+    } else if is_same_word(word, b"substring") {
+        Some(Standard::Substr)
+    } else if is_same_word(word, b"trim") {
+        Some(Standard::Trim(Trim::Both))
+    } else if is_same_word(word, b"char_length") {
+        Some(Standard::Measure(Measure::Characters))
+    } else if is_same_word(word, b"character_length") {
+        Some(Standard::Measure(Measure::Characters))
+    } else {
+        None
+    }
+}
+
+fn has_name(word: &[u8], function: Standard) -> bool
+    ensures { result ≡ has_name word.now function }
+{
+    is_same_word(word, function.name().as_bytes())
+}
+
+/// The first function that has the name.
+fn first_named(word: &[u8], functions: &[Standard]) -> Option<Standard>
+    ensures { result ≡ find (has_name word.now) functions.now }
+{
+    for function in functions {
+        if has_name(word, *function) {
+            return Some(*function);
+        }
+    }
+    None
+}
+
+/// The function that a word names, ignoring the case of ASCII letters.
+pub fn named(word: &[u8]) -> Option<Standard>
+    ensures { result ≡ standard_named word.now }
+{
+    first_named(word, &FUNCTIONS).or(alias_of(word))
+}
+
+impl Standard {
+    /// The name by which texts call the function: its identity without `sql.`.
+    pub fn name(&self) -> &'static str
+        ensures { result.now ≡ name_of self.now }
+    {
+        let id = self.id();
+        id.strip_prefix("sql.").unwrap_or(id)
+    }
+}
+
+/// A function's name names that function.
+#[tactic(auto, using(crate::specs::NameLaws::named_back))]
+pub fn names_are_read_back()
+    ensures { (f : Standard) → standard_named (name_of f) ≡ Some f }
+{}
+
+/// A function's name is a lower-case letter, and lower-case letters, digits and `_`.
+#[tactic(auto, using(crate::specs::NameLaws::name_is_word))]
+pub fn names_are_words()
+    ensures { (f : Standard) → is_name (name_of f) ≡ true }
+{}
