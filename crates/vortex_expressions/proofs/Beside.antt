@@ -19,6 +19,8 @@ use Rattle.vortex_interface.specs.Shipped.BetweenFunction.{bounded_type}
 use Rattle.vortex_operators.specs.OperatorValues.{comparison_type}
 use Rattle.vortex_operators.specs.Between.{between_type}
 use Rattle.vortex_interface.specs.Eval.{tree_type}
+use Rattle.vortex_interface.specs.Functions.{ours}
+use Rattle.vortex_interface.specs.Shipped.{Binary}
 use Rattle.vortex_expressions.specs.Literals as literal
 use Rattle.vortex_expressions.specs.Literals.{Literal, own_type, number_type, type_beside}
 use Rattle.vortex_expressions.specs.Outcomes.{answers, and_then, or_refuses}
@@ -26,7 +28,7 @@ use Rattle.vortex_expressions.specs.declared.refusal.Refusal.TheVariants.{Untype
 use Rattle.vortex_expressions.specs.Items.{Item, literal, bound, Tree, meaning, bound_type}
 use Rattle.vortex_expressions.specs.Items.{literal_type, first_some, common_type, constant_at}
 use Rattle.vortex_expressions.specs.Items.{settled}
-use Rattle.vortex_expressions.specs.Calls.{truth_type, operator_of, joined_type}
+use Rattle.vortex_expressions.specs.Calls.{truth_type, written_function, joined_type}
 use Rattle.vortex_expressions.specs.Writing.{written_operator}
 use Rattle.vortex_expressions.proofs.Options.{some_is}
 use Rattle.vortex_expressions.proofs.LiteralsBack.{Stands}
@@ -35,9 +37,10 @@ use Rattle.vortex_expressions.proofs.LiteralsBack.{Stands}
 abbrev pub alike : LogicalType → LogicalType → Type 0
 alike t u = without_nullability t ≡ without_nullability u
 
--- an item next to a literal leaves it its default type
+-- an item next to a literal leaves it its default type: only a number takes another
 abbrev pub Beside : Option LogicalType → LogicalType → Type 0
-Beside o t = (u : LogicalType) → o ≡ Some u → is_integer_type u ≡ true → alike u t
+Beside o t =
+    (u : LogicalType) → o ≡ Some u → is_integer_type u ≡ true → is_integer_type t ≡ true → alike u t
 
 number_takes : (u : LogicalType) → (is_integer_type u ≡ true → alike u (integer_type I64 false))
     → number_type u ≡ integer_type I64 false
@@ -57,7 +60,9 @@ takes_own None l t e h = e
 takes_own (Some u) (literal.number w) t e h =
     let is : integer_type I64 false ≡ t = some_is (integer_type I64 false) t e in
     ap (λ v. Some v)
-    (number_takes u (λ i. subst (λ (v : LogicalType). alike u v) (sym is) (h u refl i))) ∙ e
+    (number_takes u
+    (λ i. subst (λ (v : LogicalType). alike u v) (sym is) (h u refl i (ap is_integer_type (sym is)))))
+    ∙ e
 takes_own (Some u) (literal.text bs) t e h = e
 takes_own (Some u) (literal.truth b) t e h = e
 takes_own (Some u) literal.null t e h = absurd cc
@@ -73,19 +78,19 @@ settles o (literal l) t ty st e h =
     ∙ ap (constant_at l) (sym is) ∙ st.3 ∙ ap (λ v. answers v) st.1
 
 -- the type of an item, if it has one
-bound_is : (i : Item) (t : Tree) (ty u : LogicalType) → Stands i t → tree_type meaning t ≡ Some ty
+pub bound_is : (i : Item) (t : Tree) (ty u : LogicalType) → Stands i t → tree_type meaning t ≡ Some ty
     → bound_type i ≡ Some u → u ≡ ty
 bound_is (bound v) t ty u st e h = some_is u ty (sym h ∙ ap (tree_type meaning) st ∙ e)
 bound_is (literal l) t ty u st e h = absurd cc
 
-literal_type_is : (i : Item) (t : Tree) (ty u : LogicalType) → Stands i t
+pub literal_type_is : (i : Item) (t : Tree) (ty u : LogicalType) → Stands i t
     → tree_type meaning t ≡ Some ty → literal_type i ≡ Some u → u ≡ ty
 literal_type_is (bound v) t ty u st e h = absurd cc
 literal_type_is (literal l) t ty u st e h =
     some_is u ty (sym h ∙ st.2 ∙ ap (tree_type meaning) st.1 ∙ e)
 
 -- the type that literals take is that of one of the items
-or_is : (x y : Option LogicalType) (u : LogicalType) → option_or x y ≡ Some u
+pub or_is : (x y : Option LogicalType) (u : LogicalType) → option_or x y ≡ Some u
     → (x ≡ Some u) ⊎ (y ≡ Some u)
 or_is None y u h = inr h
 or_is (Some t) y u h = inl h
@@ -93,7 +98,7 @@ or_is (Some t) y u h = inl h
 pub no_option : {A : Type 0} (a : A) → None ≡ Some a → ⊥
 no_option a e = cc
 
-pick : {A B C : Type 0} → A ⊎ B → (A → C) → (B → C) → C
+pub pick : {A B C : Type 0} → A ⊎ B → (A → C) → (B → C) → C
 pick (inl a) f g = f a
 pick (inr b) f g = g b
 
@@ -137,7 +142,7 @@ pub record Operand (t : Tree) : Type 0 where
   pub dtype : LogicalType
   pub typed : tree_type meaning t ≡ Some dtype
 
-along : (u t v : LogicalType) → u ≡ t → alike t v → alike u v
+pub along : (u t v : LogicalType) → u ≡ t → alike t v → alike u v
 along u t v e h = ap without_nullability e ∙ h
 
 bound_along : {t : Tree} (x : Operand t) (u v : LogicalType) → alike x.dtype v
@@ -151,30 +156,35 @@ literal_along {t} x u v h e =
 
 two_beside : {s t : Tree} (x : Operand s) (y : Operand t) (v : LogicalType) → alike x.dtype v
     → alike y.dtype v → Beside (common_type (x.item ∷ y.item ∷ [])) v
-two_beside x y v h k = λ u e i.
+two_beside x y v h k = λ u e i n.
     common_two (alike u v) u x.item y.item (bound_along x u v h) (literal_along x u v h)
     (bound_along y u v k) (literal_along y u v k) e
 
 pub three_beside : {s t r : Tree} (x : Operand s) (y : Operand t) (z : Operand r) (v : LogicalType)
     → alike x.dtype v → alike y.dtype v → alike z.dtype v
     → Beside (common_type (x.item ∷ y.item ∷ z.item ∷ [])) v
-three_beside x y z v h k j = λ u e i.
+three_beside x y z v h k j = λ u e i n.
     common_three (alike u v) u x.item y.item z.item (bound_along x u v h) (literal_along x u v h)
     (bound_along y u v k) (literal_along y u v k) (bound_along z u v j)
     (literal_along z u v j) e
 
 pub none_beside : (v : LogicalType) → Beside None v
-none_beside v = λ u e i. absurd cc
+none_beside v = λ u e i n. absurd cc
 
 pub other_beside : (w v : LogicalType) → is_integer_type w ≡ false → Beside (Some w) v
-other_beside w v h = λ u e i. absurd (false≢true (sym h ∙ ap is_integer_type (some_is w u e) ∙ i))
+other_beside w v h = λ u e i n.
+    absurd (false≢true (sym h ∙ ap is_integer_type (some_is w u e) ∙ i))
+
+pub no_integer_beside : (o : Option LogicalType) (v : LogicalType) → is_integer_type v ≡ false
+    → Beside o v
+no_integer_beside o v h = λ u e i n. absurd (false≢true (sym h ∙ n))
 
 pub settled_operand : {t : Tree} (o : Option LogicalType) (x : Operand t) → Beside o x.dtype
     → settled o x.item ≡ answers t
 settled_operand {t} o x h = settles o x.item t x.dtype x.stands x.typed h
 
 -- operators and BETWEEN take types that agree
-same_alike : (t u : LogicalType) → alike_types t u ≡ true → alike t u
+pub same_alike : (t u : LogicalType) → alike_types t u ≡ true → alike t u
 same_alike t u h = (type_eq-decides (without_nullability t) (without_nullability u)).0 h
 
 compared_alike : (t u : LogicalType) → is_some (compared_type (t ∷ u ∷ [])) ≡ true → alike t u
@@ -235,7 +245,7 @@ operator_pair operator.Lte x y h = common_pair x y (compared_alike x.dtype y.dty
 operator_pair operator.Gt x y h = common_pair x y (compared_alike x.dtype y.dtype h)
 operator_pair operator.Gte x y h = common_pair x y (compared_alike x.dtype y.dtype h)
 
-pub operator_back : (o : Operator) → operator_of (written_operator o) ≡ o
+pub operator_back : (o : Operator) → written_function (written_operator o) ≡ ours (Binary o)
 operator_back operator.And = refl
 operator_back operator.Or = refl
 operator_back operator.Add = refl

@@ -21,10 +21,11 @@ use Rattle.vortex_interface.specs.Eval.{tree_type, leaf_type}
 use Rattle.vortex_interface.specs.Trees as trees
 use Rattle.vortex_interface.specs.Trees.{place, held, leaf, constant, call, no_trees, list_of}
 use Rattle.vortex_interface.specs.declared.options.EmptyOptions.{EmptyOptions}
-use Rattle.vortex_functions.specs.declared.custom.NoCustom.{NoCustom}
+use Rattle.vortex_standard.specs.declared.standard.Standard.{Standard}
+use Rattle.vortex_syntax.specs.declared.step.Test.TheVariants.{Null}
 use Rattle.vortex_syntax.specs.declared.step.LikeKind.{LikeKind}
 use Rattle.vortex_syntax.specs.Syntax.{Syntax, operand, negated, tested, cast}
-use Rattle.vortex_syntax.specs.Levels.{left, right, not_level, is_level, sum_level}
+use Rattle.vortex_syntax.specs.Levels.{left, right, not_level, is_level, concat_level}
 use Rattle.vortex_syntax.specs.Writing.{name_token, doubled}
 use Rattle.vortex_expressions.specs.Outcomes.{answers, and_then, or_refuses}
 use Rattle.vortex_expressions.specs.declared.refusal.Refusal.TheVariants.{NoEscape}
@@ -49,9 +50,10 @@ use Rattle.vortex_expressions.proofs.Beside.{operator_back, bounded_alike}
 use Rattle.vortex_expressions.proofs.TypedCalls.{arity_is, not_one, not_two, not_three, one_called}
 use Rattle.vortex_expressions.proofs.TypedCalls.{two_called, three_called, typed_one, typed_two}
 use Rattle.vortex_expressions.proofs.TypedCalls.{typed_three}
+use Rattle.vortex_expressions.proofs.NamedBack.{EachStood, named_stands}
 
 abbrev Trees : Type 0
-Trees = trees.Trees NoCustom EmptyOptions
+Trees = trees.Trees Standard EmptyOptions
 
 -- the options of BETWEEN and of LIKE
 within_by : (x y : StrictComparison) → (is_non_strict x && is_non_strict y) ≡ true
@@ -89,13 +91,6 @@ escape_back k (Some c) a p h = by (c == backslash) refl
 
 -- calls
 module _ (scope : Fields) where
-  abbrev Stood : Tree → Type 0
-  Stood t = (a : Syntax) → syntax_of t ≡ Some a → Standing scope a t
-
-  abbrev EachStood : Trees → Type 0
-  EachStood no_trees = Unit {0}
-  EachStood (trees.tree t ts) = Stood t × EachStood ts
-
   placed : (l : ℕ) (a : Syntax) (t : Tree) (s : Standing scope a t)
       → item_of scope (at_level l a) ≡ answers s.item
   placed l a t s = at_level_item scope l a ∙ s.is
@@ -105,7 +100,7 @@ module _ (scope : Fields) where
   operand_of a t s ty e = record { item = s.item; stands = s.stands; dtype = ty; typed = e }
 
   not_stands : (ts : Trees) (a : Syntax) → is_some (tree_type meaning (call (ours Not) ts)) ≡ true
-      → EachStood ts → shipped_syntax Not (syntaxes_of ts) ≡ Some a
+      → EachStood scope ts → shipped_syntax Not (syntaxes_of ts) ≡ Some a
       → Standing scope a (call (ours Not) ts)
   not_stands no_trees a h k e = absurd cc
   not_stands (trees.tree x (trees.tree y ts)) a h k e =
@@ -124,7 +119,7 @@ module _ (scope : Fields) where
       (settled_operand truth_type p (other_beside (bool_type false) p.dtype refl)) h))
 
   test_stands : (n : Bool) (ts : Trees) (a : Syntax)
-      → is_some (tree_type meaning (call (ours (NullTest n)) ts)) ≡ true → EachStood ts
+      → is_some (tree_type meaning (call (ours (NullTest n)) ts)) ≡ true → EachStood scope ts
       → shipped_syntax (NullTest n) (syntaxes_of ts) ≡ Some a
       → Standing scope a (call (ours (NullTest n)) ts)
   test_stands n no_trees a h k e = absurd cc
@@ -132,19 +127,19 @@ module _ (scope : Fields) where
       absurd (not_one (length (list_of ts))
       (arity_is (ours (NullTest n)) (trees.tree x (trees.tree y ts)) h))
   test_stands n (trees.tree x no_trees) a h k e =
-      let m = mapped_is (λ b. tested n (at_level is_level b)) (syntax_of x) a e in
+      let m = mapped_is (λ b. tested Null n (at_level is_level b)) (syntax_of x) a e in
       let s = k.0 m.a m.there in
       let t = typed_one (ours (NullTest n)) x h in
       let p = operand_of m.a x s t.first t.first_typed in
       tree_standing scope a (call (ours (NullTest n)) (trees.tree x no_trees))
       (ap (item_of scope) (sym m.made)
-      ∙ ap (λ i. and_then i (tested_item n)) (placed is_level m.a x s)
+      ∙ ap (λ i. and_then i (tested_item Null n)) (placed is_level m.a x s)
       ∙ ap as_item
       (one_called (ours (NullTest n)) None p.item x
       (settled_operand None p (none_beside p.dtype)) h))
 
   cast_stands : (ts : Trees) (a : Syntax) → is_some (tree_type meaning (call (ours Cast) ts)) ≡ true
-      → EachStood ts → shipped_syntax Cast (syntaxes_of ts) ≡ Some a
+      → EachStood scope ts → shipped_syntax Cast (syntaxes_of ts) ≡ Some a
       → Standing scope a (call (ours Cast) ts)
   cast_stands no_trees a h k e = absurd cc
   cast_stands (trees.tree x (trees.tree y ts)) a h k e =
@@ -165,7 +160,7 @@ module _ (scope : Fields) where
       h))
 
   binary_stands : (o : Operator) (ts : Trees) (a : Syntax)
-      → is_some (tree_type meaning (call (ours (Binary o)) ts)) ≡ true → EachStood ts
+      → is_some (tree_type meaning (call (ours (Binary o)) ts)) ≡ true → EachStood scope ts
       → shipped_syntax (Binary o) (syntaxes_of ts) ≡ Some a
       → Standing scope a (call (ours (Binary o)) ts)
   binary_stands o no_trees a h k e = absurd cc
@@ -191,13 +186,13 @@ module _ (scope : Fields) where
       (λ v. and_then (item_of scope (at_level (right w) m.b)) (joined_item w v)))
       (placed (left w) m.a x s)
       ∙ ap (λ i. and_then i (joined_item w p.item)) (placed (right w) m.b y r)
-      ∙ ap (λ v. as_item (called (ours (Binary v)) beside (p.item ∷ q.item ∷ []))) (operator_back o)
+      ∙ ap (λ f. as_item (called f beside (p.item ∷ q.item ∷ []))) (operator_back o)
       ∙ ap as_item
       (two_called (ours (Binary o)) beside p.item q.item x y
       (settled_operand beside p pair.first) (settled_operand beside q pair.second) h))
 
   like_stands : (o : LikeOptions) (ts : Trees) (a : Syntax) → HasCharacters (Like o)
-      → is_some (tree_type meaning (call (ours (Like o)) ts)) ≡ true → EachStood ts
+      → is_some (tree_type meaning (call (ours (Like o)) ts)) ≡ true → EachStood scope ts
       → shipped_syntax (Like o) (syntaxes_of ts) ≡ Some a
       → Standing scope a (call (ours (Like o)) ts)
   like_stands o no_trees a c h k e = absurd cc
@@ -217,10 +212,10 @@ module _ (scope : Fields) where
       tree_standing scope a (call (ours (Like o)) (trees.tree x (trees.tree y no_trees)))
       (ap (item_of scope) (sym m.made)
       ∙ ap (λ i. and_then i
-      (λ v. and_then (item_of scope (at_level sum_level m.b))
-      (matched_item (like_kind o) (escape_written o.escape) v))) (placed sum_level m.a x s)
+      (λ v. and_then (item_of scope (at_level concat_level m.b))
+      (matched_item (like_kind o) (escape_written o.escape) v))) (placed concat_level m.a x s)
       ∙ ap (λ i. and_then i (matched_item (like_kind o) (escape_written o.escape) p.item))
-      (placed sum_level m.b y r)
+      (placed concat_level m.b y r)
       ∙ escape_back (like_kind o) o.escape p.item q.item c
       ∙ ap as_item
       (two_called (ours (Like o)) beside p.item q.item x y
@@ -228,7 +223,7 @@ module _ (scope : Fields) where
       (settled_operand beside q (other_beside (text_type false) q.dtype refl)) h))
 
   between_stands : (o : BetweenOptions) (ts : Trees) (a : Syntax)
-      → is_some (tree_type meaning (call (ours (Between o)) ts)) ≡ true → EachStood ts
+      → is_some (tree_type meaning (call (ours (Between o)) ts)) ≡ true → EachStood scope ts
       → shipped_syntax (Between o) (syntaxes_of ts) ≡ Some a
       → Standing scope a (call (ours (Between o)) ts)
   between_stands o no_trees a h k e = absurd (no_option a (where_is (is_within o) None a e).there)
@@ -259,8 +254,8 @@ module _ (scope : Fields) where
       let is = p.item ∷ q.item ∷ w.item ∷ [] in
       let beside = common_type is in
       let b = bounded_alike t.first t.second t.third t.taken in
-      let low = at_level sum_level m.b in
-      let high = at_level sum_level m.c in
+      let low = at_level concat_level m.b in
+      let high = at_level concat_level m.c in
       let first = three_beside p q w t.first refl (sym b.lower) (sym b.upper) in
       let second = three_beside p q w t.second b.lower refl (sym b.upper ∙ b.lower) in
       let third = three_beside p q w t.third b.upper (sym b.lower ∙ b.upper) refl in
@@ -269,10 +264,10 @@ module _ (scope : Fields) where
       (ap (item_of scope) (sym m.made)
       ∙ ap (λ i. and_then i
       (λ v. and_then (item_of scope low)
-      (λ l. and_then (item_of scope high) (between_item false v l)))) (placed sum_level m.a x s)
+      (λ l. and_then (item_of scope high) (between_item false v l)))) (placed concat_level m.a x s)
       ∙ ap (λ i. and_then i (λ l. and_then (item_of scope high) (between_item false p.item l)))
-      (placed sum_level m.b y r)
-      ∙ ap (λ i. and_then i (between_item false p.item q.item)) (placed sum_level m.c z u)
+      (placed concat_level m.b y r)
+      ∙ ap (λ i. and_then i (between_item false p.item q.item)) (placed concat_level m.c z u)
       ∙ ap (λ v. as_item (and_then (called (ours (Between v)) beside is) (λ t. answers t)))
       (within_is o g.so)
       ∙ ap (λ v. as_item (and_then v (λ t. answers t)))
@@ -281,7 +276,7 @@ module _ (scope : Fields) where
       (settled_operand beside w third) h))
 
   call_stands : (s : Shipped) (ts : Trees) (a : Syntax) → HasCharacters s
-      → is_some (tree_type meaning (call (ours s) ts)) ≡ true → EachStood ts
+      → is_some (tree_type meaning (call (ours s) ts)) ≡ true → EachStood scope ts
       → shipped_syntax s (syntaxes_of ts) ≡ Some a
       → Standing scope a (call (ours s) ts)
   call_stands (Binary o) ts a c h k e = binary_stands o ts a h k e
@@ -301,9 +296,10 @@ module _ (scope : Fields) where
     standing_of (leaf (held c)) a o e = absurd o
     standing_of (constant s) a o e = constant_standing scope s a o e
     standing_of (call (ours s) ts) a o e = call_stands s ts a o.0 o.1 (each_stood ts o.2) e
-    standing_of (call (custom f c) ts) a o e = absurd cc
+    standing_of (call (custom f c) ts) a o e =
+        named_stands scope f c ts a o.1 (each_stood ts o.2) e
 
-    each_stood : (ts : Trees) → AllOver scope ts → EachStood ts
+    each_stood : (ts : Trees) → AllOver scope ts → EachStood scope ts
     each_stood no_trees o = tt
     each_stood (trees.tree t ts) o = (λ a e. standing_of t a o.0 e, each_stood ts o.1)
 

@@ -18,3 +18,10 @@ pub and_then-answers : {A : Type 0} (o : Outcome A) → and_then o answers ≡ o
 and_then-answers (answers a) = refl
 and_then-answers (refuses r) = refl
 and_then-answers missing = refl
+
+-- where what comes next is equal for the result that there is
+pub and_then-there : {A B : Type 0} (o : Outcome A) (f g : A → Outcome B)
+    → ((a : A) → o ≡ answers a → f a ≡ g a) → and_then o f ≡ and_then o g
+and_then-there (answers a) f g h = h a refl
+and_then-there (refuses r) f g h = refl
+and_then-there missing f g h = refl

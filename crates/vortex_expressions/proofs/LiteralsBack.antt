@@ -29,7 +29,7 @@ use Rattle.vortex_types.specs.Values as value
 use Rattle.vortex_types.specs.Values.{Value}
 use Rattle.vortex_interface.specs.Trees.{place, leaf, constant}
 use Rattle.vortex_cells.specs.Ranges.{in_range}
-use Rattle.vortex_cells.specs.TypeWords.{type_named}
+use Rattle.vortex_expressions.specs.TypeNames.{named_type}
 use Rattle.vortex_cells.specs.CellValues.{decimal_from, digits_of, integer_of}
 use Rattle.vortex_cells.specs.CellValues as cells
 use Rattle.vortex_cells.proofs.Numbers as numbers
@@ -213,10 +213,10 @@ value_item scope t (value.bytes bs) w a n h e = absurd cc
 value_item scope t (value.list vs) w a n h e = absurd cc
 
 -- literals with their types
-word_back : (w : List ℕ) (n : Bool) (t : LogicalType) → IsUtf8 w → type_named n w ≡ Some t
+word_back : (w : List ℕ) (n : Bool) (t : LogicalType) → IsUtf8 w → named_type n w ≡ Some t
     → type_of_name w n ≡ answers t
 word_back w n t u e =
-    ap (λ o. and_then o (λ v. or_refuses UnknownType (type_named n v))) (utf8_text w u)
+    ap (λ o. and_then o (λ v. or_refuses UnknownType (named_type n v))) (utf8_text w u)
     ∙ ap (or_refuses UnknownType) e
 
 ptype_back : (p : PType) (n : Bool) → type_of_name (ptype_text p) n ≡ answers (integer_type p n)

@@ -1,167 +1,48 @@
 -- The tokens of a tree are those of its parts.
-use Rattle.std.proofs.Common.{◌≡◌, ℕ, zero, suc, Bool, true, false, ◌&&◌, List, [], ◌∷◌, ◌++◌, map}
-use Rattle.std.proofs.Common.{Option, Some, None, refl, ap, sym, ◌∙◌, append_assoc, arith}
+use Rattle.std.specs.Prelude.{if◌then◌else◌}
+use Rattle.std.proofs.Common.{◌≡◌, ℕ, suc, Bool, true, false, ◌&&◌, List, [], ◌∷◌, ◌++◌, map}
+use Rattle.std.proofs.Common.{Option, Some, None, refl, ap, sym, ◌∙◌}
 use Rattle.std.proofs.Common.{option_map, nat_lt}
-use Rattle.std.specs.Prelude.{codes, slice_get, nat_le, if◌then◌else◌}
+use Rattle.std.specs.Prelude.{codes, slice_get, nat_le}
 use Rattle.std.specs.Option.{option_and_then}
-use Rattle.std.proofs.lemmas.List.{append-nil}
-use Rattle.std.proofs.lemmas.Bool.{le-leb}
 use Rattle.vortex_like.specs.declared.options.LikeOptions.{LikeOptions}
 use Rattle.vortex_interface.specs.Shipped.{Binary, Not, NullTest, Cast, Between, Like}
 use Rattle.vortex_interface.specs.Functions.{ours, custom}
 use Rattle.vortex_interface.specs.Trees as trees
-use Rattle.vortex_interface.specs.Trees.{call, no_trees, list_of}
+use Rattle.vortex_interface.specs.Trees.{call, list_of}
 use Rattle.vortex_interface.specs.declared.options.EmptyOptions.{EmptyOptions}
-use Rattle.vortex_functions.specs.declared.custom.NoCustom.{NoCustom}
+use Rattle.vortex_standard.specs.declared.standard.Standard.{Standard}
 use Rattle.vortex_syntax.specs.Nesting.{nesting_limit}
 use Rattle.vortex_syntax.specs.declared.step.WrittenOperator as syntax
+use Rattle.vortex_syntax.specs.declared.step.Test.TheVariants.{Null}
 use Rattle.vortex_syntax.specs.declared.token.Sign.TheVariants as sign
 use Rattle.vortex_syntax.specs.Tokens.{Token, nullable, sign}
 use Rattle.vortex_syntax.specs.Syntax.{Syntax, negated, tested, cast}
-use Rattle.vortex_syntax.specs.Levels.{level, left, right, not_level, is_level, sum_level}
-use Rattle.vortex_syntax.specs.Spelling.{spelling, operator_sign, null_test, like_sign}
+use Rattle.vortex_syntax.specs.Levels.{level, left, right, not_level, is_level, concat_level}
+use Rattle.vortex_syntax.specs.Spelling.{spelling, operator_sign, like_sign}
+use Rattle.vortex_expressions.specs.Writing.{null_test}
 use Rattle.vortex_syntax.specs.Spelling.{escape_tokens}
+use Rattle.vortex_standard.specs.Names.{name_of}
 use Rattle.vortex_expressions.specs.Items.{Tree, Callable}
 use Rattle.vortex_expressions.specs.Writing.{at_level, joined_syntax, written_operator, is_within}
 use Rattle.vortex_expressions.specs.Writing.{between_syntax, matched_syntax, like_kind}
 use Rattle.vortex_expressions.specs.Writing.{escape_written, both, all_three, nth, syntax_of}
-use Rattle.vortex_expressions.specs.Writing.{syntaxes_of}
-use Rattle.vortex_expressions.specs.WritingSteps.{nests_behind, tokens_behind, Part, token, tree}
+use Rattle.vortex_expressions.specs.Writing.{syntaxes_of, all_present, named_syntax}
+use Rattle.vortex_expressions.specs.WritingSteps.{nests_behind, tokens_behind, token, tree}
 use Rattle.vortex_expressions.specs.WritingSteps.{joined_tokens, part_tokens, all_tokens}
 use Rattle.vortex_expressions.specs.WritingSteps.{binary_parts, between_parts, like_parts}
 use Rattle.vortex_expressions.specs.WritingSteps.{cast_parts, call_plan, bracket_plan}
+use Rattle.vortex_expressions.specs.WritingSteps.{argument_parts}
+use Rattle.vortex_expressions.proofs.JoinedTokens.{joined_none, all_append, all_signs, fused}
+use Rattle.vortex_expressions.proofs.JoinedTokens.{both_none, three_none, no_third, nth_is, if_so}
+use Rattle.vortex_expressions.proofs.JoinedTokens.{prefix_if, suffix_if, two_if, three_if, like_if}
+use Rattle.vortex_expressions.proofs.JoinedTokens.{within_if, operand_tokens, bare_operand}
+use Rattle.vortex_expressions.proofs.NamedTokens.{as_call, arguments_are, named_case, planned_case}
 
 abbrev Trees : Type 0
-Trees = trees.Trees NoCustom EmptyOptions
-
--- tokens after others
-abbrev pub behind : List Token → Option (List Token) → Option (List Token)
-behind ts o = option_map (λ us. ts ++ us) o
-
-pub joined_none : (o : Option (List Token)) → joined_tokens o None ≡ None
-joined_none None = refl
-joined_none (Some ts) = refl
-
-pub joined_nil : (o : Option (List Token)) → joined_tokens o (Some []) ≡ o
-joined_nil None = refl
-joined_nil (Some ts) = ap (λ us. Some us) (append-nil ts)
-
-joined_empty : (o : Option (List Token)) → joined_tokens (Some []) o ≡ o
-joined_empty None = refl
-joined_empty (Some ts) = refl
-
-pub behind_nil : (o : Option (List Token)) → behind [] o ≡ o
-behind_nil None = refl
-behind_nil (Some ts) = refl
-
-pub joined_behind : (ts : List Token) (a b : Option (List Token))
-    → joined_tokens (behind ts a) b ≡ behind ts (joined_tokens a b)
-joined_behind ts None b = refl
-joined_behind ts (Some us) None = refl
-joined_behind ts (Some us) (Some vs) = ap (λ ws. Some ws) (append_assoc ts us vs)
-
-pub behind_twice : (ts us : List Token) (o : Option (List Token))
-    → behind ts (behind us o) ≡ behind (ts ++ us) o
-behind_twice ts us None = refl
-behind_twice ts us (Some vs) = ap (λ ws. Some ws) (sym (append_assoc ts us vs))
-
-joined_assoc : (a b c : Option (List Token))
-    → joined_tokens (joined_tokens a b) c ≡ joined_tokens a (joined_tokens b c)
-joined_assoc None b c = refl
-joined_assoc (Some ts) None c = refl
-joined_assoc (Some ts) (Some bs) None = refl
-joined_assoc (Some ts) (Some bs) (Some cs) = ap (λ ws. Some ws) (append_assoc ts bs cs)
-
-pub all_append : (ps qs : List Part)
-    → all_tokens (ps ++ qs) ≡ joined_tokens (all_tokens ps) (all_tokens qs)
-all_append [] qs = sym (joined_empty (all_tokens qs))
-all_append (p ∷ ps) qs = ap (joined_tokens (part_tokens p)) (all_append ps qs)
-    ∙ sym (joined_assoc (part_tokens p) (all_tokens ps) (all_tokens qs))
-
-all_signs : (ts : List Token) → all_tokens (map token ts) ≡ Some ts
-all_signs [] = refl
-all_signs (t ∷ ts) = ap (joined_tokens (Some (t ∷ []))) (all_signs ts)
-
--- options with a consequence
-fused : {A B C : Type 0} (f : B → Option C) (g : A → B) (o : Option A)
-    → option_and_then f (option_map g o) ≡ option_and_then (λ a. f (g a)) o
-fused f g None = refl
-fused f g (Some a) = refl
-
-both_none : {A B : Type 0} (f : A → A → B) (x : Option A) → both f x None ≡ None
-both_none f None = refl
-both_none f (Some a) = refl
-
-three_none : {A B : Type 0} (f : A → A → A → B) (x z : Option A) → all_three f x None z ≡ None
-three_none f None z = refl
-three_none f (Some a) z = refl
-
-no_third : {A B : Type 0} (f : A → A → A → B) (x y : Option A) → all_three f x y None ≡ None
-no_third f None y = refl
-no_third f (Some a) None = refl
-no_third f (Some a) (Some b) = refl
-
-pub at_zero : (a : Syntax) → at_level 0 a ≡ a
-at_zero a = let low : nat_le 0 (level a) ≡ true = le-leb 0 (level a) (omega arith) in rw low refl
-
--- the operands at their places
-nth_is : (ts : Trees) (k : ℕ)
-    → nth k (syntaxes_of ts) ≡ option_and_then syntax_of (slice_get (list_of ts) k)
-nth_is no_trees k = refl
-nth_is (trees.tree t ts) zero = refl
-nth_is (trees.tree t ts) (suc k) = nth_is ts k
-
--- texts of parts, if each is present
-abbrev if_so : Bool → List Token → Option (List Token)
-if_so b ts = if b then Some ts else None
-
-prefix_if : (p : Bool) (t : Token) (ts : List Token)
-    → if_so p (t ∷ ts) ≡ joined_tokens (Some (t ∷ [])) (joined_tokens (if_so p ts) (Some []))
-prefix_if true t ts = ap (λ ys. Some (t ∷ ys)) (sym (append-nil ts))
-prefix_if false t ts = refl
-
-suffix_if : (p : Bool) (ts bs : List Token)
-    → if_so p (ts ++ bs) ≡ joined_tokens (if_so p ts) (Some bs)
-suffix_if true ts bs = refl
-suffix_if false ts bs = refl
-
-two_if : (p q : Bool) (ts bs : List Token) (t : Token)
-    → if_so (p && q) (ts ++ (t ∷ bs)) ≡ joined_tokens (if_so p ts)
-    (joined_tokens (Some (t ∷ [])) (joined_tokens (if_so q bs) (Some [])))
-two_if true true ts bs t = ap (λ ys. Some (ts ++ (t ∷ ys))) (sym (append-nil bs))
-two_if true false ts bs t = refl
-two_if false q ts bs t = refl
-
-three_if : (p q r : Bool) (ts bs cs : List Token) (t u : Token)
-    → if_so (p && (q && r)) (ts ++ ((t ∷ []) ++ (bs ++ (u ∷ cs))))
-    ≡ joined_tokens (if_so p ts)
-    (joined_tokens (Some (t ∷ []))
-    (joined_tokens (if_so q bs)
-    (joined_tokens (Some (u ∷ [])) (joined_tokens (if_so r cs) (Some [])))))
-three_if true true true ts bs cs t u =
-    ap (λ ys. Some (ts ++ (t ∷ (bs ++ (u ∷ ys))))) (sym (append-nil cs))
-three_if true true false ts bs cs t u = refl
-three_if true false r ts bs cs t u = refl
-three_if false q r ts bs cs t u = refl
-
-like_if : (p q : Bool) (ts ls bs es : List Token)
-    → if_so (p && q) (ts ++ (ls ++ (bs ++ es))) ≡ joined_tokens (if_so p ts)
-    (joined_tokens (Some ls) (joined_tokens (if_so q bs) (Some es)))
-like_if true true ts ls bs es = refl
-like_if true false ts ls bs es = refl
-like_if false q ts ls bs es = refl
-
-within_if : (b p : Bool) (ts : List Token) (xs ys : List Token)
-    → if_so (b && p) (xs ++ (ts ++ ys))
-    ≡ (if b then joined_tokens (Some xs) (joined_tokens (if_so p ts) (Some ys)) else None)
-within_if true true ts xs ys = refl
-within_if true false ts xs ys = refl
-within_if false p ts xs ys = refl
+Trees = trees.Trees Standard EmptyOptions
 
 -- each form, from the syntax of its operands
-abbrev operand_tokens : ℕ → ℕ → Option Syntax → Option (List Token)
-operand_tokens d l o = option_and_then (λ a. tokens_behind d (at_level l a)) o
-
 binary_made : (d : ℕ) (o : syntax.WrittenOperator) (x y : Option Syntax)
     → option_and_then (tokens_behind d) (both (joined_syntax o) x y)
     ≡ joined_tokens (operand_tokens d (left o) x)
@@ -201,7 +82,7 @@ not_case d None = refl
 not_case d (Some t) = not_made d (syntax_of t)
 
 test_made : (d : ℕ) (n : Bool) (x : Option Syntax)
-    → option_and_then (tokens_behind d) (option_map (λ a. tested n (at_level is_level a)) x)
+    → option_and_then (tokens_behind d) (option_map (λ a. tested Null n (at_level is_level a)) x)
     ≡ joined_tokens (operand_tokens d is_level x) (Some (null_test n))
 test_made d n None = refl
 test_made d n (Some a) = let first = at_level is_level a in
@@ -209,16 +90,11 @@ test_made d n (Some a) = let first = at_level is_level a in
 
 test_case : (d : ℕ) (n : Bool) (x : Option Tree)
     → option_and_then (tokens_behind d)
-    (option_map (λ a. tested n (at_level is_level a)) (option_and_then syntax_of x))
+    (option_map (λ a. tested Null n (at_level is_level a)) (option_and_then syntax_of x))
     ≡ option_and_then all_tokens (option_map (λ t. tree d is_level t ∷ map token (null_test n)) x)
 test_case d n None = refl
 test_case d n (Some t) = test_made d n (syntax_of t)
     ∙ ap (joined_tokens (part_tokens (tree d is_level t))) (sym (all_signs (null_test n)))
-
-bare_operand : (d : ℕ) (x : Option Syntax)
-    → operand_tokens d 0 x ≡ option_and_then (tokens_behind d) x
-bare_operand d None = refl
-bare_operand d (Some a) = ap (tokens_behind d) (at_zero a)
 
 abbrev cast_end : List Token
 cast_end = sign sign.As ∷ nullable (codes "bool") ∷ sign sign.Close ∷ []
@@ -267,21 +143,21 @@ cast_case false d (Some t) = enclosed_case false d cast_begin cast_end t
 
 between_made : (d : ℕ) (x y z : Option Syntax)
     → option_and_then (tokens_behind d) (all_three between_syntax x y z)
-    ≡ joined_tokens (operand_tokens d sum_level x)
-    (joined_tokens (Some (sign sign.Between ∷ [])) (joined_tokens (operand_tokens d sum_level y)
+    ≡ joined_tokens (operand_tokens d concat_level x)
+    (joined_tokens (Some (sign sign.Between ∷ [])) (joined_tokens (operand_tokens d concat_level y)
     (joined_tokens (Some (sign sign.And ∷ []))
-    (joined_tokens (operand_tokens d sum_level z) (Some [])))))
+    (joined_tokens (operand_tokens d concat_level z) (Some [])))))
 between_made d None y z = refl
-between_made d (Some a) None z = sym (joined_none (operand_tokens d sum_level (Some a)))
+between_made d (Some a) None z = sym (joined_none (operand_tokens d concat_level (Some a)))
 between_made d (Some a) (Some b) None =
-    sym (ap (λ o. joined_tokens (operand_tokens d sum_level (Some a))
+    sym (ap (λ o. joined_tokens (operand_tokens d concat_level (Some a))
     (joined_tokens (Some (sign sign.Between ∷ [])) o))
-    (joined_none (operand_tokens d sum_level (Some b)))
-    ∙ joined_none (operand_tokens d sum_level (Some a)))
+    (joined_none (operand_tokens d concat_level (Some b)))
+    ∙ joined_none (operand_tokens d concat_level (Some a)))
 between_made d (Some a) (Some b) (Some c) =
-    let first = at_level sum_level a in
-    let second = at_level sum_level b in
-    let third = at_level sum_level c in
+    let first = at_level concat_level a in
+    let second = at_level concat_level b in
+    let third = at_level concat_level c in
     three_if (nests_behind d first) (nests_behind d second) (nests_behind d third) (spelling first)
     (spelling second) (spelling third) (sign sign.Between) (sign sign.And)
 
@@ -308,31 +184,31 @@ between_case false d x y z = refl
 
 like_made : (d : ℕ) (o : LikeOptions) (x y : Option Syntax)
     → option_and_then (tokens_behind d) (both (matched_syntax o) x y)
-    ≡ joined_tokens (operand_tokens d sum_level x)
+    ≡ joined_tokens (operand_tokens d concat_level x)
     (joined_tokens (Some (like_sign (like_kind o)))
-    (joined_tokens (operand_tokens d sum_level y)
+    (joined_tokens (operand_tokens d concat_level y)
     (Some (escape_tokens (escape_written o.escape)))))
 like_made d o None y = refl
-like_made d o (Some a) None = sym (joined_none (operand_tokens d sum_level (Some a)))
+like_made d o (Some a) None = sym (joined_none (operand_tokens d concat_level (Some a)))
 like_made d o (Some a) (Some p) =
-    let first = at_level sum_level a in
-    let second = at_level sum_level p in
+    let first = at_level concat_level a in
+    let second = at_level concat_level p in
     like_if (nests_behind d first) (nests_behind d second) (spelling first)
     (like_sign (like_kind o)) (spelling second) (escape_tokens (escape_written o.escape))
 
 like_tokens : (d : ℕ) (o : LikeOptions) (a p : Tree)
     → all_tokens (like_parts d o a p)
-    ≡ joined_tokens (part_tokens (tree d sum_level a))
+    ≡ joined_tokens (part_tokens (tree d concat_level a))
     (joined_tokens (Some (like_sign (like_kind o)))
-    (joined_tokens (part_tokens (tree d sum_level p))
+    (joined_tokens (part_tokens (tree d concat_level p))
     (Some (escape_tokens (escape_written o.escape)))))
 like_tokens d o a p =
     let ls = like_sign (like_kind o) in
     let es = escape_tokens (escape_written o.escape) in
-    let first = part_tokens (tree d sum_level a) in
-    let second = part_tokens (tree d sum_level p) in
+    let first = part_tokens (tree d concat_level a) in
+    let second = part_tokens (tree d concat_level p) in
     ap (joined_tokens first)
-    (all_append (map token ls) (tree d sum_level p ∷ map token es)
+    (all_append (map token ls) (tree d concat_level p ∷ map token es)
     ∙ ap (λ o. joined_tokens o (joined_tokens second (all_tokens (map token es)))) (all_signs ls)
     ∙ ap (λ o. joined_tokens (Some ls) (joined_tokens second o)) (all_signs es))
 
@@ -361,7 +237,7 @@ call_tokens d (ours Not) ts =
     ap (λ x. option_and_then (tokens_behind d) (option_map (λ a. negated (at_level not_level a)) x))
     (nth_is ts 0) ∙ not_case d (slice_get (list_of ts) 0)
 call_tokens d (ours (NullTest n)) ts =
-    ap (λ x. option_and_then (tokens_behind d) (option_map (λ a. tested n (at_level is_level a)) x))
+    ap (λ x. option_and_then (tokens_behind d) (option_map (λ a. tested Null n (at_level is_level a)) x))
     (nth_is ts 0) ∙ test_case d n (slice_get (list_of ts) 0)
 call_tokens d (ours Cast) ts =
     ap (λ x. option_and_then (tokens_behind d) (option_map (λ a. cast a (codes "bool") true) x))
@@ -390,7 +266,12 @@ call_tokens d (ours (Like o)) ts =
     (both (matched_syntax o) (option_and_then syntax_of (slice_get (list_of ts) 0)) y))
     (nth_is ts 1)
     ∙ like_case d o (slice_get (list_of ts) 0) (slice_get (list_of ts) 1)
-call_tokens d (custom f o) ts = refl
+call_tokens d (custom f o) ts =
+    let w = name_of f in
+    fused (tokens_behind d) (named_syntax w) (all_present (syntaxes_of ts))
+    ∙ named_case d w (all_present (syntaxes_of ts))
+    ∙ planned_case (nat_lt d nesting_limit) w (argument_parts (suc d) (list_of ts))
+    (option_and_then (as_call (suc d)) (all_present (syntaxes_of ts))) (arguments_are (suc d) ts)
 
 -- a tree's tokens, in brackets and without
 abbrev open_only : List Token

@@ -1,170 +1,73 @@
 -- The meaning of an expression fits the scope that it is read over.
+use Rattle.std.specs.Prelude.{codes, if◌then◌else◌}
 use Rattle.std.proofs.Common.{◌≡◌, ℕ, Bool, true, false, List, [], ◌∷◌, length, Option, Some, None}
-use Rattle.std.proofs.Common.{refl, ap, subst, option_map, ℤ}
-use Rattle.std.specs.Prelude.{if◌then◌else◌, is_some, IsUtf8, ⊤, MatchOption}
-use Rattle.std.specs.Option.{option_and_then}
+use Rattle.std.proofs.Common.{refl, sym, subst, reverse, ◌++◌}
+use Rattle.std.proofs.lemmas.List.{reverse-append}
+use Rattle.std.specs.Prelude.{is_some, IsUtf8, ⊤, MatchOption}
 use Rattle.std.specs.Char.{IsScalar}
-use Rattle.std.specs.Str.{is_utf8, chars}
+use Rattle.std.specs.Str.{chars}
 use Rattle.std.proofs.lemmas.Bool.{and_parts}
-use Rattle.std.proofs.lemmas.Str.{IsUtf8-from_is_utf8, scalars-chars}
+use Rattle.std.proofs.lemmas.Str.{scalars-chars}
 use lib.Utf8.{scalar, scalars}
-use Rattle.vortex_types.specs.declared.dtype.PType.{PType}
-use Rattle.vortex_types.specs.LogicalTypes.{Fields, LogicalType, null_type, bool_type, integer_type}
-use Rattle.vortex_types.specs.LogicalTypes.{text_type, bytes_type, struct_type, list_type}
-use Rattle.vortex_types.specs.LogicalTypes.{fixed_size_list_type, map_type, find_field}
-use Rattle.vortex_types.specs.LogicalTypes.{is_bool_type, is_nullable, with_nullability}
-use Rattle.vortex_types.specs.ScalarView.{ScalarView}
-use Rattle.vortex_types.specs.Typing.{HasType}
-use Rattle.vortex_types.specs.Values as value
-use Rattle.vortex_types.specs.Values.{Value}
+use Rattle.vortex_types.specs.LogicalTypes.{Fields, LogicalType}
+use Rattle.vortex_types.specs.LogicalTypes.{text_type}
+use Rattle.vortex_types.specs.LogicalTypes.{find_field}
+use Rattle.vortex_types.specs.LogicalTypes.{is_bool_type, is_nullable}
 use Rattle.vortex_errors.specs.declared.error.MismatchPlace.{MismatchPlace}
 use Rattle.vortex_like.specs.Tokens.{backslash}
 use Rattle.vortex_interface.specs.Shipped.{Binary, Not, NullTest, Cast, Between, Like}
 use Rattle.vortex_interface.specs.Meaning.{fits}
-use Rattle.vortex_interface.specs.Functions.{ours, function_arity}
+use Rattle.vortex_interface.specs.Functions.{ours, custom, function_arity}
 use Rattle.vortex_interface.specs.Eval.{tree_type, tree_types, types_or_none}
 use Rattle.vortex_interface.specs.Trees.{place, leaf, constant, call, trees_of}
-use Rattle.vortex_cells.specs.Ranges.{in_range}
-use Rattle.vortex_cells.specs.CellValues.{integer_of, number_of, number_where}
 use Rattle.vortex_cells.specs.Escapes.{escape_of}
-use Rattle.vortex_cells.proofs.Numbers as numbers
+use Rattle.vortex_syntax.specs.declared.step.Test.{Test}
+use Rattle.vortex_syntax.specs.declared.step.Test.TheVariants as test
 use Rattle.vortex_syntax.specs.declared.step.WrittenOperator as syntax
+use Rattle.vortex_syntax.specs.declared.step.WrittenOperator.TheVariants as written
 use Rattle.vortex_syntax.specs.declared.step.LikeKind.{LikeKind}
 use Rattle.vortex_syntax.specs.declared.token.Sign.{Sign}
 use Rattle.vortex_syntax.specs.declared.token.Sign.TheVariants as sign
 use Rattle.vortex_syntax.specs.Tokens as token
 use Rattle.vortex_syntax.specs.Syntax.{Syntax, operand, negative, typed, grouped, negated, joined}
-use Rattle.vortex_syntax.specs.Syntax.{tested, between, matched, cast, nullary, applied}
+use Rattle.vortex_syntax.specs.Syntax.{minus, tested, distinct, between, matched, listed, cast}
+use Rattle.vortex_syntax.specs.Syntax.{chosen, chosen_else, nullary, applied, Arguments}
+use Rattle.vortex_syntax.specs.Syntax.{no_arguments, argument, Branches, without_operand}
+use Rattle.vortex_syntax.specs.Syntax.{of_operand, branch}
 use Rattle.vortex_expressions.specs.Literals as literal
 use Rattle.vortex_expressions.specs.Literals.{Literal, type_beside, value_at}
 use Rattle.vortex_expressions.specs.Outcomes.{Outcome, answers, refuses, missing, and_then}
 use Rattle.vortex_expressions.specs.Outcomes.{or_refuses}
-use Rattle.vortex_expressions.specs.declared.refusal.Refusal.{Refusal}
 use Rattle.vortex_expressions.specs.declared.refusal.Refusal.TheVariants.{UntypedNull, NotHeld}
-use Rattle.vortex_expressions.specs.declared.refusal.Refusal.TheVariants.{NoEscape, NoCast, NotUtf8}
+use Rattle.vortex_expressions.specs.declared.refusal.Refusal.TheVariants.{NoEscape, NoCast}
 use Rattle.vortex_expressions.specs.declared.refusal.Refusal.TheVariants.{NoFunction}
+use Rattle.vortex_standard.specs.declared.standard.Standard.{Standard}
+use Rattle.vortex_standard.specs.declared.standard.Standard.TheVariants as standard
+use Rattle.vortex_sql_choices.specs.declared.truth_tests.TruthTest.TheVariants.{IsTrue, IsFalse}
+use Rattle.vortex_sql_choices.specs.declared.truth_tests.TruthTest.TheVariants.{IsUnknown}
+use Rattle.vortex_standard.specs.Standard.{row_of}
+use Rattle.vortex_standard.specs.Names.{standard_named}
 use Rattle.vortex_expressions.specs.Items.{Item, literal, bound, Tree, Callable, meaning}
 use Rattle.vortex_expressions.specs.Items.{common_type, constant_at, settled, all_settled, call_of}
-use Rattle.vortex_expressions.specs.Items.{called, refused_at, place_of}
+use Rattle.vortex_expressions.specs.Items.{called, refused_at, place_of, unfit}
 use Rattle.vortex_expressions.specs.Calls.{unquoted, text_of, between_quotes, as_item, field_found}
 use Rattle.vortex_expressions.specs.Calls.{column_of, sign_item, text_item, operand_item}
 use Rattle.vortex_expressions.specs.Calls.{type_of_name, typed_item, cast_to, cast_item, truth_type}
-use Rattle.vortex_expressions.specs.Calls.{operator_of, joined_type, negated_if, not_item}
-use Rattle.vortex_expressions.specs.Calls.{joined_item, tested_item, within_bounds, between_all}
+use Rattle.vortex_expressions.specs.Calls.{written_function, joined_type, negated_if, not_item}
+use Rattle.vortex_expressions.specs.Calls.{joined_item, tested_item, distinct_item, within_bounds, between_all}
 use Rattle.vortex_expressions.specs.Calls.{between_item, like_options, escape_said, escape_in}
-use Rattle.vortex_expressions.specs.Calls.{liked_item, matched_item}
-use Rattle.vortex_expressions.specs.Binding.{item_of, items_of, tree_of}
+use Rattle.vortex_expressions.specs.Calls.{liked_item, matched_item, minus_item, listed_item}
+use Rattle.vortex_expressions.specs.Calls.{chosen_item}
+use Rattle.vortex_expressions.specs.Applied.{callable, argument_type, function_call}
+use Rattle.vortex_expressions.specs.Applied.{applied_item}
+use Rattle.vortex_expressions.specs.Casts.{cast_function, cast_by, cast_from, cast_tree}
+use Rattle.vortex_types.specs.TypeEquality.{alike_types}
+use Rattle.vortex_expressions.specs.Binding.{with_item, item_of, items_after, branch_items}
+use Rattle.vortex_expressions.specs.Binding.{tree_of}
+use Rattle.vortex_syntax.specs.Postfix.{has_operand}
 use Rattle.vortex_expressions.specs.Writing.{IsCallable, IsOver, AllOver}
-
--- outcomes with a result
-answers_is : {A : Type 0} (a b : A) → answers a ≡ answers b → a ≡ b
-answers_is a b e = cc
-
-record Then {A B : Type 0} (o : Outcome A) (f : A → Outcome B) (b : B) : Type 0 where
-  a : A
-  first : o ≡ answers a
-  second : f a ≡ answers b
-
-then_is : {A B : Type 0} (o : Outcome A) (f : A → Outcome B) (b : B) → and_then o f ≡ answers b
-    → Then o f b
-then_is (answers a) f b e = record { a = a; first = refl; second = e }
-then_is (refuses r) f b e = absurd cc
-then_is missing f b e = absurd cc
-
-there_is : {A : Type 0} (r : Refusal) (o : Option A) (a : A) → or_refuses r o ≡ answers a
-    → o ≡ Some a
-there_is r None a e = absurd cc
-there_is r (Some b) a e = ap (λ v. Some v) (answers_is b a e)
-
-some_is : {A : Type 0} (a b : A) → Some a ≡ Some b → a ≡ b
-some_is a b e = cc
-
--- texts
-record IsRead (w v : List ℕ) : Type 0 where
-  same : w ≡ v
-  utf8 : IsUtf8 v
-
-text_read : (w v : List ℕ) → text_of w ≡ answers v → IsRead w v
-text_read w v e = by (is_utf8 w) refl e
-  where
-    by : (b : Bool) → is_utf8 w ≡ b → (if b then answers w else refuses NotUtf8) ≡ answers v
-        → IsRead w v
-    by true h g = let same = answers_is w v g in
-        record { same = same; utf8 = subst IsUtf8 same (IsUtf8-from_is_utf8 w h) }
-    by false h g = absurd cc
-
--- literals whose texts are texts
-abbrev IsText : Literal → Type 0
-IsText (literal.text bs) = IsUtf8 bs
-IsText l = ⊤
-
-null_typed : (t : LogicalType) → HasType (with_nullability t true) value.null
-null_typed null_type = refl
-null_typed (bool_type n) = refl
-null_typed (integer_type p n) = refl
-null_typed (text_type n) = refl
-null_typed (bytes_type n) = refl
-null_typed (struct_type fs n) = refl
-null_typed (list_type t n) = refl
-null_typed (fixed_size_list_type t k n) = refl
-null_typed (map_type k v n) = refl
-
-record Held (p : PType) (w : List ℕ) (v : Value) : Type 0 where
-  z : ℤ
-  is : value.number z ≡ v
-  held : in_range p z ≡ true
-
-number_held : (p : PType) (w : List ℕ) (v : Value) → number_of p w ≡ Some v → Held p w v
-number_held p w v e = by (integer_of w) e
-  where
-    here : (z : ℤ) (b : Bool) → in_range p z ≡ b → number_where b z ≡ Some v → Held p w v
-    here z true h g = record { z = z; is = some_is (value.number z) v g; held = h }
-    here z false h g = absurd cc
-
-    by : (o : Option ℤ) → option_and_then (λ z. number_where (in_range p z) z) o ≡ Some v
-        → Held p w v
-    by None g = absurd cc
-    by (Some z) g = here z (in_range p z) refl g
-
-number_typed : (p : PType) (n : Bool) (w : List ℕ) (s : ScalarView) (o : Option Value)
-    → number_of p w ≡ o → option_map (λ v. record { dtype = integer_type p n; value = v }) o
-    ≡ Some s
-    → HasType s.dtype s.value
-number_typed p n w s None h e = absurd cc
-number_typed p n w s (Some v) h e =
-    let k = number_held p w v h in
-    let typed_here : HasType (integer_type p n) v =
-    subst (λ (x : Value). HasType (integer_type p n) x) k.is (numbers.fits p k.z k.held) in
-    subst (λ (x : ScalarView). HasType x.dtype x.value)
-    (some_is (record { dtype = integer_type p n; value = v }) s e) typed_here
-
-truth_typed : (n b : Bool) (s : ScalarView) → value_at (bool_type n) (literal.truth b) ≡ Some s
-    → HasType s.dtype s.value
-truth_typed n true s e =
-    subst (λ (x : ScalarView). HasType x.dtype x.value)
-    (some_is (record { dtype = bool_type n; value = value.truth true }) s e) tt
-truth_typed n false s e =
-    subst (λ (x : ScalarView). HasType x.dtype x.value)
-    (some_is (record { dtype = bool_type n; value = value.truth false }) s e) tt
-
-text_typed : (n : Bool) (bs : List ℕ) (s : ScalarView) → IsUtf8 bs
-    → value_at (text_type n) (literal.text bs) ≡ Some s → HasType s.dtype s.value
-text_typed n bs s u e =
-    subst (λ (x : ScalarView). HasType x.dtype x.value)
-    (some_is (record { dtype = text_type n; value = value.text bs }) s e) u
-
-value_typed : (t : LogicalType) (l : Literal) (s : ScalarView) → IsText l → value_at t l ≡ Some s
-    → HasType s.dtype s.value
-value_typed t literal.null s u e =
-    subst (λ (x : ScalarView). HasType x.dtype x.value)
-    (some_is (record { dtype = with_nullability t true; value = value.null }) s e) (null_typed t)
-value_typed (integer_type p n) (literal.number w) s u e =
-    number_typed p n w s (number_of p w) refl e
-value_typed t (literal.number w) s u e = absurd cc
-value_typed (bool_type n) (literal.truth b) s u e = truth_typed n b s e
-value_typed t (literal.truth b) s u e = absurd cc
-value_typed (text_type n) (literal.text bs) s u e = text_typed n bs s u e
-value_typed t (literal.text bs) s u e = absurd cc
+use Rattle.vortex_expressions.proofs.LiteralsOver.{answers_is, then_is, there_is, some_is}
+use Rattle.vortex_expressions.proofs.LiteralsOver.{text_read, IsText, value_typed}
 
 module _ (scope : Fields) where
   abbrev ItemOver : Item → Type 0
@@ -206,6 +109,10 @@ module _ (scope : Fields) where
       by (fits (function_arity meaning f) (length ts))
       (is_some (tree_type meaning (call f (trees_of ts)))) refl e
     where
+      not_unfit : (f : Callable) → unfit f (length ts) ≡ answers t → IsOver scope t
+      not_unfit (ours s) g = absurd cc
+      not_unfit (custom v o) g = absurd cc
+
       refused : (p : Option MismatchPlace) → refused_at p ≡ answers t → IsOver scope t
       refused None g = absurd cc
       refused (Some p) g = absurd cc
@@ -213,11 +120,12 @@ module _ (scope : Fields) where
       by : (a b : Bool) → is_some (tree_type meaning (call f (trees_of ts))) ≡ b
           → (if a then
           (if b then answers (call f (trees_of ts)) else refused_at
-          (place_of f (types_or_none (tree_types meaning (trees_of ts))))) else missing) ≡ answers t
+          (place_of f (types_or_none (tree_types meaning (trees_of ts)))))
+          else unfit f (length ts)) ≡ answers t
           → IsOver scope t
       by true true k g = subst (IsOver scope) (answers_is (call f (trees_of ts)) t g) (c, k, h)
       by true false k g = refused (place_of f (types_or_none (tree_types meaning (trees_of ts)))) g
-      by false b k g = absurd cc
+      by false b k g = not_unfit f g
 
   called_over : (f : Callable) (o : Option LogicalType) (is : List Item) (t : Tree) → IsCallable f
       → AllItems is → called f o is ≡ answers t → IsOver scope t
@@ -278,16 +186,30 @@ module _ (scope : Fields) where
       (λ t g. let m = then_is (type_of_name w n) (constant_at l) t g in
       constant_over l m.a t h m.second) e
 
+  cast_from_over : (o : Option LogicalType) (ty : LogicalType) (u t : Tree) → IsOver scope u
+      → cast_from o ty u ≡ answers t → IsOver scope t
+  cast_from_over None ty u t h e = absurd cc
+  cast_from_over (Some k) ty u t h e = by (alike_types k ty) (cast_function k ty) e
+    where
+      by : (b : Bool) (o : Option Standard)
+          → (if b then answers u else cast_by o u) ≡ answers t → IsOver scope t
+      by true o g = subst (IsOver scope) (answers_is u t g) h
+      by false None g = absurd cc
+      by false (Some f) g = made_over (callable f) (u ∷ []) t tt (h, tt) g
+
   cast_to_over : (j : Item) (ty : LogicalType) (t : Tree) → ItemOver j → cast_to j ty ≡ answers t
       → IsOver scope t
-  cast_to_over j ty t h e = by (is_bool_type ty) (is_nullable ty) e
+  cast_to_over j ty t h e = by (is_nullable ty) (is_bool_type ty) e
     where
       by : (a b : Bool)
           → (if a then (if b then called (ours Cast) (Some ty) (j ∷ []) else refuses NoCast) else
-          refuses NoCast) ≡ answers t → IsOver scope t
+          and_then (settled (Some ty) j) (cast_tree ty)) ≡ answers t → IsOver scope t
       by true true g = called_over (ours Cast) (Some ty) (j ∷ []) t tt (h, tt) g
       by true false g = absurd cc
-      by false b g = absurd cc
+      by false b g =
+          let m = then_is (settled (Some ty) j) (cast_tree ty) t g in
+          cast_from_over (tree_type meaning m.a) ty m.a t (settled_over (Some ty) j m.a h m.first)
+          m.second
 
   cast_over : (w : List ℕ) (n : Bool) (j i : Item) → ItemOver j → cast_item w n j ≡ answers i
       → ItemOver i
@@ -301,23 +223,60 @@ module _ (scope : Fields) where
       as_item_over (called (ours Not) truth_type (j ∷ [])) i
       (λ t g. called_over (ours Not) truth_type (j ∷ []) t tt (h, tt) g) e
 
-  tested_over : (n : Bool) (j i : Item) → ItemOver j → tested_item n j ≡ answers i → ItemOver i
-  tested_over n j i h e =
+  null_over : (n : Bool) (j i : Item) → ItemOver j → tested_item test.Null n j ≡ answers i
+      → ItemOver i
+  null_over n j i h e =
       as_item_over (called (ours (NullTest n)) None (j ∷ [])) i
       (λ t g. called_over (ours (NullTest n)) None (j ∷ []) t tt (h, tt) g) e
+
+  written_callable : (o : syntax.WrittenOperator) → IsCallable (written_function o)
+  written_callable written.Or = tt
+  written_callable written.And = tt
+  written_callable written.Equal = tt
+  written_callable written.NotEqual = tt
+  written_callable written.Less = tt
+  written_callable written.LessOrEqual = tt
+  written_callable written.Greater = tt
+  written_callable written.GreaterOrEqual = tt
+  written_callable written.Add = tt
+  written_callable written.Sub = tt
+  written_callable written.Mul = tt
+  written_callable written.Div = tt
+  written_callable written.Mod = tt
+  written_callable written.Concat = tt
 
   joined_over : (o : syntax.WrittenOperator) (j k i : Item) → ItemOver j → ItemOver k
       → joined_item o j k ≡ answers i → ItemOver i
   joined_over o j k i h g e =
       let is = j ∷ k ∷ [] in
-      let f : Callable = ours (Binary (operator_of o)) in
-      as_item_over (called f (joined_type o is) is) i
-      (λ t m. called_over f (joined_type o is) is t tt (h, (g, tt)) m) e
+      as_item_over (called (written_function o) (joined_type o is) is) i
+      (λ t m. called_over (written_function o) (joined_type o is) is t (written_callable o)
+      (h, (g, tt)) m) e
 
   negated_over : (n : Bool) (u t : Tree) → IsOver scope u → negated_if n u ≡ answers t
       → IsOver scope t
   negated_over true u t h e = called_over (ours Not) None (bound u ∷ []) t tt (h, tt) e
   negated_over false u t h e = subst (IsOver scope) (answers_is u t e) h
+
+  -- a call of SQL's functions, negated where the flag is true
+  negated_call_over : (f : Standard) (o : Option LogicalType) (is : List Item) (n : Bool) (i : Item)
+      → AllItems is → as_item (and_then (called (callable f) o is) (negated_if n)) ≡ answers i
+      → ItemOver i
+  negated_call_over f o is n i h e =
+      as_item_over (and_then (called (callable f) o is) (negated_if n)) i
+      (λ t x.
+      let y = then_is (called (callable f) o is) (negated_if n) t x in
+      negated_over n y.a t (called_over (callable f) o is y.a tt h y.first) y.second) e
+
+  tested_over : (k : Test) (n : Bool) (j i : Item) → ItemOver j → tested_item k n j ≡ answers i
+      → ItemOver i
+  tested_over test.Null n j i h e = null_over n j i h e
+  tested_over test.True n j i h e =
+      negated_call_over (standard.TruthTest IsTrue) truth_type (j ∷ []) n i (h, tt) e
+  tested_over test.False n j i h e =
+      negated_call_over (standard.TruthTest IsFalse) truth_type (j ∷ []) n i (h, tt) e
+  tested_over test.Unknown n j i h e =
+      negated_call_over (standard.TruthTest IsUnknown) truth_type (j ∷ []) n i (h, tt) e
 
   between_over : (n : Bool) (j k l i : Item) → ItemOver j → ItemOver k → ItemOver l
       → between_item n j k l ≡ answers i → ItemOver i
@@ -357,43 +316,136 @@ module _ (scope : Fields) where
       (escape_scalar (chars n.a) m.a (scalars-chars n.a u)
       (there_is NoEscape (escape_of (chars n.a)) m.a n.second)) h g m.second
 
-  item_over : (a : Syntax) (i : Item) → item_of scope a ≡ answers i → ItemOver i
-  item_over (operand t) i e = operand_over t i e
-  item_over (negative ds) i e = number_over (text_of (45 ∷ ds)) i e
-  item_over (typed a w n) i e = let m = then_is (item_of scope a) (typed_item w n) i e in
-      typed_over w n m.a i (item_over a m.a m.first) m.second
-  item_over (grouped a) i e = item_over a i e
-  item_over (negated a) i e = let m = then_is (item_of scope a) not_item i e in
-      not_over m.a i (item_over a m.a m.first) m.second
-  item_over (joined o a b) i e =
-      let m = then_is (item_of scope a) (λ x. and_then (item_of scope b) (joined_item o x)) i e in
-      let n = then_is (item_of scope b) (joined_item o m.a) i m.second in
-      joined_over o m.a n.a i (item_over a m.a m.first) (item_over b n.a n.first) n.second
-  item_over (tested n a) i e = let m = then_is (item_of scope a) (tested_item n) i e in
-      tested_over n m.a i (item_over a m.a m.first) m.second
-  item_over (between n a low high) i e =
-      let m = then_is (item_of scope a)
-      (λ x. and_then (item_of scope low)
-      (λ y. and_then (item_of scope high) (between_item n x y))) i e in
-      let k = then_is (item_of scope low)
-      (λ y. and_then (item_of scope high) (between_item n m.a y)) i m.second in
-      let l = then_is (item_of scope high) (between_item n m.a k.a) i k.second in
-      between_over n m.a k.a l.a i (item_over a m.a m.first) (item_over low k.a k.first)
-      (item_over high l.a l.first) l.second
-  item_over (matched k a p e) i g =
-      let m = then_is (item_of scope a)
-      (λ x. and_then (item_of scope p) (matched_item k e x)) i g in
-      let n = then_is (item_of scope p) (matched_item k e m.a) i m.second in
-      matched_over k e m.a n.a i (item_over a m.a m.first) (item_over p n.a n.first) n.second
-  item_over (cast a w n) i e = let m = then_is (item_of scope a) (cast_item w n) i e in
-      cast_over w n m.a i (item_over a m.a m.first) m.second
-  item_over (nullary w) i e = absurd cc
-  item_over (applied w args a) i e =
-      let m = then_is (items_of scope args)
-      (λ is. and_then (item_of scope a) (λ x. refuses NoFunction)) i e in
-      let n = then_is (item_of scope a) (λ x. refuses NoFunction) i m.second in
-      let k : refuses NoFunction ≡ answers i = n.second in
-      absurd cc
+  -- calls by names
+  all_appended : (is js : List Item) → AllItems is → AllItems js → AllItems (is ++ js)
+  all_appended [] js h k = k
+  all_appended (i ∷ is) js h k = (h.0, all_appended is js h.1 k)
+
+  all_reversed : (is : List Item) → AllItems is → AllItems (reverse is)
+  all_reversed [] h = tt
+  all_reversed (i ∷ is) h =
+      subst AllItems (sym (reverse-append (i ∷ []) is))
+      (all_appended (reverse is) (i ∷ []) (all_reversed is h.1) (h.0, tt))
+
+  abbrev AreOver : Outcome (List Item) → Type 0
+  AreOver o = (is : List Item) → o ≡ answers is → AllItems is
+
+  abbrev IsItemOver : Outcome Item → Type 0
+  IsItemOver p = (i : Item) → p ≡ answers i → ItemOver i
+
+  none_over : AreOver (answers [])
+  none_over is e = subst AllItems (answers_is [] is e) tt
+
+  more_over : (o : Outcome (List Item)) (p : Outcome Item) → AreOver o → IsItemOver p
+      → AreOver (with_item o p)
+  more_over o p h k is e =
+      let m = then_is o (λ js. and_then p (λ i. answers (i ∷ js))) is e in
+      let n = then_is p (λ i. answers (i ∷ m.a)) is m.second in
+      subst AllItems (answers_is (n.a ∷ m.a) is n.second) (k n.a n.first, h m.a m.first)
+
+  pair_over : (o : Outcome (List Item)) (p r : Outcome Item) → AreOver o → IsItemOver p
+      → IsItemOver r → AreOver (with_item (with_item o p) r)
+  pair_over o p r h k j = more_over (with_item o p) r (more_over o p h k) j
+
+  chosen_over : (b : Bool) (is : List Item) (i : Item) → AllItems is
+      → chosen_item b is ≡ answers i → ItemOver i
+  chosen_over true is i h e = absurd cc
+  chosen_over false is i h e =
+      let o = argument_type (row_of standard.Case).types.takes is in
+      as_item_over (function_call standard.Case is) i
+      (λ t g. called_over (callable standard.Case) o is t tt h g) e
+
+  applied_over : (w : List ℕ) (is : List Item) (i : Item) → AllItems is
+      → applied_item w is ≡ answers i → ItemOver i
+  applied_over w is i h e =
+      let m = then_is (or_refuses NoFunction (standard_named w)) (λ f. as_item (function_call f is)) i e in
+      let o = argument_type (row_of m.a).types.takes is in
+      as_item_over (function_call m.a is) i (λ t g. called_over (callable m.a) o is t tt h g) m.second
+
+  mutual
+    item_over : (a : Syntax) (i : Item) → item_of scope a ≡ answers i → ItemOver i
+    item_over (operand t) i e = operand_over t i e
+    item_over (negative ds) i e = number_over (text_of (45 ∷ ds)) i e
+    item_over (typed a w n) i e = let m = then_is (item_of scope a) (typed_item w n) i e in
+        typed_over w n m.a i (item_over a m.a m.first) m.second
+    item_over (grouped a) i e = item_over a i e
+    item_over (negated a) i e = let m = then_is (item_of scope a) not_item i e in
+        not_over m.a i (item_over a m.a m.first) m.second
+    item_over (joined o a b) i e =
+        let m = then_is (item_of scope a) (λ x. and_then (item_of scope b) (joined_item o x)) i e in
+        let n = then_is (item_of scope b) (joined_item o m.a) i m.second in
+        joined_over o m.a n.a i (item_over a m.a m.first) (item_over b n.a n.first) n.second
+    item_over (tested k n a) i e = let m = then_is (item_of scope a) (tested_item k n) i e in
+        tested_over k n m.a i (item_over a m.a m.first) m.second
+    item_over (distinct n a b) i e =
+        let m = then_is (item_of scope a) (λ x. and_then (item_of scope b) (distinct_item n x)) i e in
+        let k = then_is (item_of scope b) (distinct_item n m.a) i m.second in
+        let is = m.a ∷ k.a ∷ [] in
+        negated_call_over standard.IsDistinct (common_type is) is n i
+        (item_over a m.a m.first, (item_over b k.a k.first, tt)) k.second
+    item_over (between n a low high) i e =
+        let m = then_is (item_of scope a)
+        (λ x. and_then (item_of scope low)
+        (λ y. and_then (item_of scope high) (between_item n x y))) i e in
+        let k = then_is (item_of scope low)
+        (λ y. and_then (item_of scope high) (between_item n m.a y)) i m.second in
+        let l = then_is (item_of scope high) (between_item n m.a k.a) i k.second in
+        between_over n m.a k.a l.a i (item_over a m.a m.first) (item_over low k.a k.first)
+        (item_over high l.a l.first) l.second
+    item_over (matched k a p e) i g =
+        let m = then_is (item_of scope a)
+        (λ x. and_then (item_of scope p) (matched_item k e x)) i g in
+        let n = then_is (item_of scope p) (matched_item k e m.a) i m.second in
+        matched_over k e m.a n.a i (item_over a m.a m.first) (item_over p n.a n.first) n.second
+    item_over (cast a w n) i e = let m = then_is (item_of scope a) (cast_item w n) i e in
+        cast_over w n m.a i (item_over a m.a m.first) m.second
+    item_over (minus a) i e = let m = then_is (item_of scope a) minus_item i e in
+        joined_over written.Sub (literal (literal.number (codes "0"))) m.a i tt
+        (item_over a m.a m.first) m.second
+    item_over (listed n a args b) i e =
+        let first = with_item (answers []) (item_of scope a) in
+        let m = then_is (with_item (items_after scope first args) (item_of scope b))
+        (λ is. listed_item n (reverse is)) i e in
+        let o = (row_of standard.InList).types.takes in
+        negated_call_over standard.InList (argument_type o (reverse m.a)) (reverse m.a) n i
+        (all_reversed m.a
+        (more_over (items_after scope first args) (item_of scope b)
+        (items_over args first (more_over (answers []) (item_of scope a) none_over (item_over a)))
+        (item_over b) m.a m.first)) m.second
+    item_over (chosen bs c v) i e =
+        let o = with_item (with_item (branch_items scope bs) (item_of scope c)) (item_of scope v) in
+        let m = then_is o (λ is. chosen_item (has_operand bs) (reverse is)) i e in
+        chosen_over (has_operand bs) (reverse m.a) i
+        (all_reversed m.a (pair_over (branch_items scope bs) (item_of scope c) (item_of scope v)
+        (branches_over bs) (item_over c) (item_over v) m.a m.first)) m.second
+    item_over (chosen_else bs c v d) i e =
+        let p = with_item (with_item (branch_items scope bs) (item_of scope c)) (item_of scope v) in
+        let m = then_is (with_item p (item_of scope d))
+        (λ is. chosen_item (has_operand bs) (reverse is)) i e in
+        chosen_over (has_operand bs) (reverse m.a) i
+        (all_reversed m.a (more_over p (item_of scope d)
+        (pair_over (branch_items scope bs) (item_of scope c) (item_of scope v) (branches_over bs)
+        (item_over c) (item_over v)) (item_over d) m.a m.first)) m.second
+    item_over (nullary w) i e = applied_over w [] i tt e
+    item_over (applied w args a) i e =
+        let some = items_after scope (answers []) args in
+        let m = then_is (with_item some (item_of scope a)) (λ is. applied_item w (reverse is)) i e in
+        applied_over w (reverse m.a) i
+        (all_reversed m.a (more_over some (item_of scope a) (items_over args (answers []) none_over)
+        (item_over a) m.a m.first)) m.second
+
+    items_over : (args : Arguments) (o : Outcome (List Item)) → AreOver o
+        → AreOver (items_after scope o args)
+    items_over no_arguments o h = h
+    items_over (argument args a) o h =
+        more_over (items_after scope o args) (item_of scope a) (items_over args o h) (item_over a)
+
+    branches_over : (bs : Branches) → AreOver (branch_items scope bs)
+    branches_over without_operand = none_over
+    branches_over (of_operand a) = more_over (answers []) (item_of scope a) none_over (item_over a)
+    branches_over (branch bs c v) =
+        pair_over (branch_items scope bs) (item_of scope c) (item_of scope v) (branches_over bs)
+        (item_over c) (item_over v)
 
   pub tree_over : (a : Syntax) (t : Tree) → tree_of scope a ≡ answers t → IsOver scope t
   tree_over a t e = let m = then_is (item_of scope a) (settled None) t e in

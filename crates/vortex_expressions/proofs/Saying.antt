@@ -17,7 +17,8 @@ use Rattle.vortex_expressions.specs.Stacks.{tree_left}
 use Rattle.vortex_expressions.specs.Reading.{Bound, ToldBy, ReadUnlessMemory, RefusesAs}
 use Rattle.vortex_expressions.specs.Reading.{TellsWhy}
 use Rattle.vortex_expressions.proofs.Whole.{tree_left-is}
-use Rattle.vortex_expressions.proofs.Sure.{IsTyped, sure_tree}
+use Rattle.vortex_expressions.proofs.SureCalls.{IsTyped}
+use Rattle.vortex_expressions.proofs.Sure.{sure_tree}
 use Rattle.vortex_expressions.proofs.Why.{why}
 
 module _ (scope : Fields) (text : List ℕ) (t : Syntax) (steps : List written.Step)

@@ -1,152 +1,57 @@
 -- No part of an expression is missing.
-use Rattle.std.proofs.Common.{◌≡◌, ℕ, ◌≤◌, Bool, true, false, cond, List, [], ◌∷◌, length, Option}
-use Rattle.std.proofs.Common.{Some, None, refl, ap, ◌∙◌, arith}
-use Rattle.std.specs.Prelude.{is_some, IfSome}
-use Rattle.std.specs.Str.{is_utf8, chars}
-use Rattle.vortex_errors.specs.declared.error.MismatchPlace.{MismatchPlace}
+use Rattle.std.proofs.Common.{◌≡◌, ℕ, ◌≤◌, Bool, true, false, List, [], ◌∷◌, length, Option}
+use Rattle.std.proofs.Common.{Some, None, refl, ap, sym, subst, arith, reverse, ◌++◌}
+use Rattle.std.proofs.lemmas.List.{reverse-append}
+use Rattle.std.specs.Prelude.{IfSome, codes}
+use Rattle.std.specs.Str.{chars}
 use Rattle.vortex_types.specs.LogicalTypes.{LogicalType, Fields, find_field, is_bool_type}
 use Rattle.vortex_types.specs.LogicalTypes.{is_nullable, text_type}
 use Rattle.vortex_interface.specs.Meaning.{fits}
-use Rattle.vortex_interface.specs.Shipped.{Shipped, Binary, Not, NullTest, Cast, Between, Like}
-use Rattle.vortex_interface.specs.Shipped.{shipped_place}
+use Rattle.vortex_interface.specs.Shipped.{Binary, Not, Cast, Between, Like}
 use Rattle.vortex_interface.specs.Functions.{ours, function_arity}
 use Rattle.vortex_interface.specs.Trees.{call, trees_of}
-use Rattle.vortex_interface.specs.Eval.{tree_type, tree_types, types_or_none}
-use Rattle.vortex_cells.specs.TypeWords.{type_named}
+use Rattle.vortex_interface.specs.Eval.{tree_type}
 use Rattle.vortex_cells.specs.Escapes.{escape_of}
 use Rattle.vortex_syntax.specs.declared.step.WrittenOperator as written
+use Rattle.vortex_syntax.specs.declared.step.WrittenOperator.TheVariants as signs
+use Rattle.vortex_syntax.specs.declared.step.Test.{Test}
+use Rattle.vortex_syntax.specs.declared.step.Test.TheVariants as test
 use Rattle.vortex_syntax.specs.declared.step.LikeKind.{LikeKind}
 use Rattle.vortex_syntax.specs.declared.token.Sign.{Sign}
 use Rattle.vortex_syntax.specs.declared.token.Sign.TheVariants as sign
 use Rattle.vortex_syntax.specs.Tokens.{Token, name, nullable, function, quoted, number, text, sign}
 use Rattle.vortex_syntax.specs.Syntax as tree
-use Rattle.vortex_syntax.specs.Syntax.{Syntax, Arguments}
-use Rattle.vortex_syntax.specs.Levels.{Fits, AllFit, level, is_operand, operand_level}
+use Rattle.vortex_syntax.specs.Syntax.{Syntax, Arguments, Branches}
+use Rattle.vortex_syntax.specs.Levels.{Fits, AllFit, BranchesFit, level, is_operand, operand_level}
 use Rattle.vortex_syntax.specs.AnswerLists as syntax
 use Rattle.vortex_syntax.specs.AnswerLists.{is_name, SpellsAnswers, one, more, SpellsAnswer}
-use Rattle.vortex_syntax.proofs.Tables.{own_right, right_atom}
-use Rattle.vortex_expressions.specs.declared.refusal.Refusal.{Refusal}
-use Rattle.vortex_expressions.specs.Literals.{Literal, value_at, type_beside}
-use Rattle.vortex_expressions.specs.Outcomes.{Outcome, answers, refuses, missing, and_then}
-use Rattle.vortex_expressions.specs.Outcomes.{or_refuses}
+use Rattle.vortex_syntax.proofs.Tables.{own_right, right_sign}
+use Rattle.vortex_standard.specs.declared.standard.Standard.{Standard}
+use Rattle.vortex_standard.specs.declared.standard.Standard.TheVariants as standard
+use Rattle.vortex_sql_choices.specs.declared.truth_tests.TruthTest.TheVariants.{IsTrue, IsFalse}
+use Rattle.vortex_sql_choices.specs.declared.truth_tests.TruthTest.TheVariants.{IsUnknown}
+use Rattle.vortex_errors.specs.declared.error.MismatchPlace.TheVariants.{Scalars}
+use Rattle.vortex_operators.specs.declared.operators.Operator.{Operator}
+use Rattle.vortex_operators.specs.declared.operators.Operator.TheVariants as operator
+use Rattle.vortex_standard.specs.Standard.{row_of}
+use Rattle.vortex_standard.specs.Names.{standard_named}
+use Rattle.vortex_expressions.specs.declared.refusal.Refusal.TheVariants.{NoFunction}
+use Rattle.vortex_expressions.specs.Outcomes.{Outcome, answers, or_refuses}
 use Rattle.vortex_expressions.specs.Items.{Tree, Item, literal, bound, meaning, settled, all_settled}
-use Rattle.vortex_expressions.specs.Items.{constant_at, refused_at, call_of, called}
+use Rattle.vortex_expressions.specs.Items.{call_of, called}
 use Rattle.vortex_expressions.specs.Calls as calls
-use Rattle.vortex_expressions.specs.Binding.{item_of, items_of, tree_of}
+use Rattle.vortex_expressions.specs.Applied.{callable, argument_type, function_call, applied_item}
+use Rattle.vortex_expressions.specs.Casts.{cast_function, cast_by, cast_from, cast_tree}
+use Rattle.vortex_types.specs.TypeEquality.{alike_types}
+use Rattle.vortex_expressions.specs.Binding.{with_item, item_of, items_after, branch_items}
+use Rattle.vortex_expressions.specs.Binding.{tree_of}
+use Rattle.vortex_syntax.specs.Postfix.{has_operand}
+use Rattle.vortex_expressions.specs.Literals as literals
 use Rattle.vortex_expressions.specs.Answers.{name_of, written_name, answer_of, answers_of}
-
--- there is a result with P, or an error
-abbrev pub Sure : {A : Type 0} → (A → Type 0) → Outcome A → Type 0
-Sure P (answers a) = P a
-Sure P (refuses r) = Unit {0}
-Sure P missing = ⊥
-
-pub sure_then : {A B : Type 0} (P : A → Type 0) (Q : B → Type 0) (o : Outcome A)
-    (f : A → Outcome B) → Sure P o → ((a : A) → P a → Sure Q (f a)) → Sure Q (and_then o f)
-sure_then P Q (answers a) f h k = k a h
-sure_then P Q (refuses r) f h k = tt
-sure_then P Q missing f h k = h
-
-sure_or : {A : Type 0} (r : Refusal) (o : Option A) → Sure (λ a. Unit {0}) (or_refuses r o)
-sure_or r None = tt
-sure_or r (Some a) = tt
-
-sure_if : {A : Type 0} (P : A → Type 0) (b : Bool) (o u : Outcome A) → Sure P o → Sure P u
-    → Sure P (cond b o u)
-sure_if P true o u h k = h
-sure_if P false o u h k = k
-
--- trees with a type, and items of such trees
-abbrev pub IsTyped : Tree → Type 0
-IsTyped t = is_some (tree_type meaning t) ≡ true
-
-abbrev pub IsItem : Item → Type 0
-IsItem (literal l) = Unit {0}
-IsItem (bound t) = IsTyped t
-
-abbrev pub AllTyped : List Tree → Type 0
-AllTyped [] = Unit {0}
-AllTyped (t ∷ ts) = IsTyped t × AllTyped ts
-
-abbrev pub AllItems : List Item → Type 0
-AllItems [] = Unit {0}
-AllItems (i ∷ is) = IsItem i × AllItems is
-
-sure_constant : (l : Literal) (t : LogicalType) → Sure IsTyped (constant_at l t)
-sure_constant l t = sure_then (λ s. Unit {0}) IsTyped _ _ (sure_or _ (value_at t l)) (λ s k. refl)
-
-sure_settled : (o : Option LogicalType) (i : Item) → IsItem i → Sure IsTyped (settled o i)
-sure_settled o (bound t) h = h
-sure_settled o (literal l) h =
-    sure_then (λ t. Unit {0}) IsTyped _ _ (sure_or _ (type_beside o l)) (λ t k. sure_constant l t)
-
-sure_all : (o : Option LogicalType) (is : List Item) → AllItems is
-    → Sure (λ ts. AllTyped ts × (length ts ≡ length is)) (all_settled o is)
-sure_all o [] h = (tt, refl)
-sure_all o (i ∷ is) h =
-    sure_then IsTyped _ (settled o i) _ (sure_settled o i h.0)
-    (λ t k. sure_then (λ ts. AllTyped ts × (length ts ≡ length is)) _ (all_settled o is) _
-    (sure_all o is h.1) (λ ts j. ((k, j.0), omega (arith, j.1))))
-
--- calls of shipped functions on as many trees as they take
-sure_refused : (o : Option MismatchPlace) → is_some o ≡ true → Sure IsTyped (refused_at o)
-sure_refused None h = absurd cc
-sure_refused (Some p) h = tt
-
-sure_type : (b : Bool) (t : Tree) (o : Option MismatchPlace) → is_some (tree_type meaning t) ≡ b
-    → is_some o ≡ true → Sure IsTyped (cond b (answers t) (refused_at o))
-sure_type true t o k h = k
-sure_type false t o k h = sure_refused o h
-
--- functions that have a place for each type that they do not accept
-sure_call : (s : Shipped) (ts : List Tree) → fits (function_arity meaning (ours s)) (length ts) ≡ true
-    → is_some (shipped_place s (types_or_none (tree_types meaning (trees_of ts)))) ≡ true
-    → Sure IsTyped (call_of (ours s) ts)
-sure_call s ts h k = rw h (sure_type _ (call (ours s) (trees_of ts)) _ refl k)
-
--- the tests for null accept all types
-null_typed : (n : Bool) (t : Tree) (o : Option LogicalType) → tree_type meaning t ≡ o
-    → is_some o ≡ true → IsTyped (call (ours (NullTest n)) (trees_of (t ∷ [])))
-null_typed n t None e h = absurd cc
-null_typed n t (Some k) e h = rw e refl
-
-sure_typed_call : (b : Bool) (t : Tree) (o : Option MismatchPlace)
-    → is_some (tree_type meaning t) ≡ b → b ≡ true → Sure IsTyped (cond b (answers t) (refused_at o))
-sure_typed_call true t o k h = k
-sure_typed_call false t o k h = absurd cc
-
-sure_null : (n : Bool) (ts : List Tree) → AllTyped ts → length ts ≡ 1
-    → Sure IsTyped (call_of (ours (NullTest n)) ts)
-sure_null n [] h e = absurd (let k : ⊥ = omega (arith, e) in k)
-sure_null n (t ∷ []) h e =
-    sure_typed_call _ (call (ours (NullTest n)) (trees_of (t ∷ []))) None refl
-    (null_typed n t (tree_type meaning t) refl h.0)
-sure_null n (t ∷ u ∷ ts) h e = absurd (let k : ⊥ = omega (arith, e) in k)
-
-sure_called : (s : Shipped) (o : Option LogicalType) (is : List Item)
-    → fits (function_arity meaning (ours s)) (length is) ≡ true
-    → ((ks : List LogicalType) → is_some (shipped_place s ks) ≡ true) → AllItems is
-    → Sure IsTyped (called (ours s) o is)
-sure_called s o is h k items =
-    sure_then _ IsTyped (all_settled o is) (call_of (ours s)) (sure_all o is items)
-    (λ ts j. sure_call s ts (ap (fits (function_arity meaning (ours s))) j.1 ∙ h) (k _))
-
-sure_item : (o : Outcome Tree) → Sure IsTyped o → Sure IsItem (calls.as_item o)
-sure_item o h = sure_then IsTyped IsItem o _ h (λ t k. k)
-
--- texts and names
-sure_text : (bs : List ℕ) → Sure (λ w. Unit {0}) (calls.text_of bs)
-sure_text bs = sure_if _ (is_utf8 bs) _ _ tt tt
-
-sure_quoted : (q : ℕ) (bs : List ℕ) → Sure (λ w. Unit {0}) (calls.between_quotes q bs)
-sure_quoted q bs = sure_text (calls.unquoted q bs)
-
-sure_field : (w : List ℕ) (o : Option (ℕ × LogicalType)) → Sure IsItem (calls.field_found w o)
-sure_field w None = tt
-sure_field w (Some p) = refl
-
-sure_named : (w : List ℕ) (n : Bool) → Sure (λ t. Unit {0}) (calls.type_of_name w n)
-sure_named w n = sure_then _ _ (calls.text_of w) _ (sure_text w) (λ v k. sure_or _ (type_named n v))
+use Rattle.vortex_expressions.proofs.SureCalls.{Sure, sure_then, sure_or, sure_if, IsTyped, IsItem}
+use Rattle.vortex_expressions.proofs.SureCalls.{AllItems, sure_constant, sure_settled, sure_all}
+use Rattle.vortex_expressions.proofs.SureCalls.{sure_type, sure_null, sure_called, sure_item}
+use Rattle.vortex_expressions.proofs.SureCalls.{sure_text, sure_quoted, sure_field, sure_named}
 
 module _ (scope : Fields) where
   sure_sign : (s : Sign) → is_operand (sign s) ≡ true → Sure IsItem (calls.sign_item s)
@@ -180,7 +85,7 @@ module _ (scope : Fields) where
   literal_sign sign.Null h = tt
   literal_sign s h = absurd cc
 
-  literal_token : (t : Token) → is_operand t ≡ true → 9 ≤ operand_level t
+  literal_token : (t : Token) → is_operand t ≡ true → 13 ≤ operand_level t
       → Sure IsLiteral (calls.operand_item scope t)
   literal_token (name w) h le = absurd (let k : ⊥ = omega (arith, le) in k)
   literal_token (nullable w) h le = absurd cc
@@ -192,7 +97,7 @@ module _ (scope : Fields) where
       sure_then _ IsLiteral (calls.between_quotes 39 bs) _ (sure_quoted 39 bs) (λ v k. tt)
   literal_token (sign s) h le = literal_sign s h
 
-  sure_literal : (t : Syntax) → Fits t → 9 ≤ level t → Sure IsLiteral (item_of scope t)
+  sure_literal : (t : Syntax) → Fits t → 13 ≤ level t → Sure IsLiteral (item_of scope t)
   sure_literal (tree.operand t) f le = literal_token t f le
   sure_literal (tree.negative ds) f le =
       sure_then _ IsLiteral (calls.text_of (45 ∷ ds)) _ (sure_text (45 ∷ ds)) (λ v k. tt)
@@ -200,11 +105,16 @@ module _ (scope : Fields) where
   sure_literal (tree.grouped a) f le = absurd (let k : ⊥ = omega (arith, le) in k)
   sure_literal (tree.negated a) f le = absurd (let k : ⊥ = omega (arith, le) in k)
   sure_literal (tree.joined o a b) f le =
-      absurd (let k : ⊥ = omega (arith, le, own_right o, right_atom o) in k)
-  sure_literal (tree.tested n a) f le = absurd (let k : ⊥ = omega (arith, le) in k)
+      absurd (let k : ⊥ = omega (arith, le, own_right o, right_sign o) in k)
+  sure_literal (tree.tested k n a) f le = absurd (let j : ⊥ = omega (arith, le) in j)
+  sure_literal (tree.distinct n a b) f le = absurd (let k : ⊥ = omega (arith, le) in k)
   sure_literal (tree.between n a b c) f le = absurd (let k : ⊥ = omega (arith, le) in k)
   sure_literal (tree.matched k a p e) f le = absurd (let j : ⊥ = omega (arith, le) in j)
   sure_literal (tree.cast a w n) f le = absurd (let k : ⊥ = omega (arith, le) in k)
+  sure_literal (tree.minus a) f le = absurd (let k : ⊥ = omega (arith, le) in k)
+  sure_literal (tree.listed n a args b) f le = absurd (let k : ⊥ = omega (arith, le) in k)
+  sure_literal (tree.chosen bs c v) f le = absurd (let k : ⊥ = omega (arith, le) in k)
+  sure_literal (tree.chosen_else bs c v e) f le = absurd (let k : ⊥ = omega (arith, le) in k)
   sure_literal (tree.nullary w) f le = absurd (let k : ⊥ = omega (arith, le) in k)
   sure_literal (tree.applied w args a) f le = absurd (let k : ⊥ = omega (arith, le) in k)
 
@@ -215,18 +125,67 @@ module _ (scope : Fields) where
       sure_item _ (sure_then _ IsTyped (calls.type_of_name w n) _ (sure_named w n)
       (λ t k. sure_constant l t))
 
+  -- calls of SQL's functions
+  sure_named_call : (f : Standard) (ts : List Tree) → Sure IsTyped (call_of (callable f) ts)
+  sure_named_call f ts =
+      sure_if IsTyped (fits (row_of f).arity (length ts)) _ _
+      (sure_type _ (call (callable f) (trees_of ts)) (Some Scalars) refl refl) tt
+
+  sure_function : (f : Standard) (o : Option LogicalType) (is : List Item) → AllItems is
+      → Sure IsTyped (called (callable f) o is)
+  sure_function f o is h =
+      sure_then _ IsTyped (all_settled o is) (call_of (callable f)) (sure_all o is h)
+      (λ ts j. sure_named_call f ts)
+
+  sure_cast_by : (o : Option Standard) (u : Tree) → Sure IsTyped (cast_by o u)
+  sure_cast_by None u = tt
+  sure_cast_by (Some f) u = sure_named_call f (u ∷ [])
+
+  sure_cast_from : (o : Option LogicalType) (t : LogicalType) (u : Tree) → IsTyped u
+      → Sure IsTyped (cast_from o t u)
+  sure_cast_from None t u h = tt
+  sure_cast_from (Some k) t u h =
+      sure_if IsTyped (alike_types k t) _ _ h (sure_cast_by (cast_function k t) u)
+
+  sure_cast_tree : (t : LogicalType) (u : Tree) → IsTyped u → Sure IsTyped (cast_tree t u)
+  sure_cast_tree t u h = sure_cast_from (tree_type meaning u) t u h
+
   sure_cast : (w : List ℕ) (n : Bool) (i : Item) → IsItem i → Sure IsItem (calls.cast_item w n i)
   sure_cast w n i h =
       sure_item _ (sure_then _ IsTyped (calls.type_of_name w n) _ (sure_named w n)
-      (λ t k. sure_if IsTyped (is_bool_type t) _ _
-      (sure_if IsTyped (is_nullable t) _ _
-      (sure_called Cast (Some t) (i ∷ []) refl (λ ks. refl) (h, tt)) tt) tt))
+      (λ t k. sure_if IsTyped (is_nullable t) _ _
+      (sure_if IsTyped (is_bool_type t) _ _
+      (sure_called Cast (Some t) (i ∷ []) refl (λ ks. refl) (h, tt)) tt)
+      (sure_then IsTyped IsTyped (settled (Some t) i) _ (sure_settled (Some t) i h)
+      (λ u j. sure_cast_tree t u j))))
+
+  sure_operator : (o : Operator) (u : Option LogicalType) (is : List Item) → length is ≡ 2
+      → AllItems is → Sure IsTyped (called (ours (Binary o)) u is)
+  sure_operator o u is e h =
+      sure_called (Binary o) u is (ap (fits (function_arity meaning (ours (Binary o)))) e)
+      (λ ks. refl) h
+
+  sure_written : (o : written.WrittenOperator) (u : Option LogicalType) (is : List Item)
+      → length is ≡ 2 → AllItems is → Sure IsTyped (called (calls.written_function o) u is)
+  sure_written signs.Or u is e h = sure_operator operator.Or u is e h
+  sure_written signs.And u is e h = sure_operator operator.And u is e h
+  sure_written signs.Equal u is e h = sure_operator operator.Eq u is e h
+  sure_written signs.NotEqual u is e h = sure_operator operator.NotEq u is e h
+  sure_written signs.Less u is e h = sure_operator operator.Lt u is e h
+  sure_written signs.LessOrEqual u is e h = sure_operator operator.Lte u is e h
+  sure_written signs.Greater u is e h = sure_operator operator.Gt u is e h
+  sure_written signs.GreaterOrEqual u is e h = sure_operator operator.Gte u is e h
+  sure_written signs.Add u is e h = sure_operator operator.Add u is e h
+  sure_written signs.Sub u is e h = sure_operator operator.Sub u is e h
+  sure_written signs.Mul u is e h = sure_operator operator.Mul u is e h
+  sure_written signs.Div u is e h = sure_operator operator.Div u is e h
+  sure_written signs.Mod u is e h = sure_function standard.Remainder u is h
+  sure_written signs.Concat u is e h = sure_function standard.Concat u is h
 
   sure_joined : (o : written.WrittenOperator) (a b : Item) → IsItem a → IsItem b
       → Sure IsItem (calls.joined_item o a b)
   sure_joined o a b h k =
-      sure_item _ (sure_called (Binary (calls.operator_of o)) _ (a ∷ b ∷ []) refl (λ ks. refl)
-      (h, (k, tt)))
+      sure_item _ (sure_written o (calls.joined_type o (a ∷ b ∷ [])) (a ∷ b ∷ []) refl (h, (k, tt)))
 
   sure_not : (o : Option LogicalType) (i : Item) → IsItem i
       → Sure IsTyped (called (ours Not) o (i ∷ []))
@@ -258,10 +217,65 @@ module _ (scope : Fields) where
       (λ v q. sure_or _ (escape_of (chars v))))
       (λ c q. sure_liked k c a p h j)
 
-  sure_tested : (n : Bool) (i : Item) → IsItem i → Sure IsItem (calls.tested_item n i)
-  sure_tested n i h =
+  sure_null_test : (n : Bool) (i : Item) → IsItem i
+      → Sure IsItem (calls.tested_item test.Null n i)
+  sure_null_test n i h =
       sure_item _ (sure_then _ IsTyped (all_settled None (i ∷ [])) _
       (sure_all None (i ∷ []) (h, tt)) (λ ts j. sure_null n ts j.0 j.1))
+
+  sure_truth_test : (f : Standard) (n : Bool) (i : Item) → IsItem i
+      → Sure IsItem (calls.truth_test f n i)
+  sure_truth_test f n i h =
+      sure_item _ (sure_then IsTyped IsTyped (called (callable f) calls.truth_type (i ∷ [])) _
+      (sure_function f calls.truth_type (i ∷ []) (h, tt)) (sure_negated n))
+
+  sure_tested : (k : Test) (n : Bool) (i : Item) → IsItem i → Sure IsItem (calls.tested_item k n i)
+  sure_tested test.Null n i h = sure_null_test n i h
+  sure_tested test.True n i h = sure_truth_test (standard.TruthTest IsTrue) n i h
+  sure_tested test.False n i h = sure_truth_test (standard.TruthTest IsFalse) n i h
+  sure_tested test.Unknown n i h = sure_truth_test (standard.TruthTest IsUnknown) n i h
+
+  sure_distinct : (n : Bool) (a b : Item) → IsItem a → IsItem b
+      → Sure IsItem (calls.distinct_item n a b)
+  sure_distinct n a b h k =
+      sure_item _ (sure_then IsTyped IsTyped (function_call standard.IsDistinct (a ∷ b ∷ [])) _
+      (sure_function standard.IsDistinct _ (a ∷ b ∷ []) (h, (k, tt))) (sure_negated n))
+
+  -- calls by names
+  all_appended : (is js : List Item) → AllItems is → AllItems js → AllItems (is ++ js)
+  all_appended [] js h k = k
+  all_appended (i ∷ is) js h k = (h.0, all_appended is js h.1 k)
+
+  all_reversed : (is : List Item) → AllItems is → AllItems (reverse is)
+  all_reversed [] h = tt
+  all_reversed (i ∷ is) h =
+      subst AllItems (sym (reverse-append (i ∷ []) is))
+      (all_appended (reverse is) (i ∷ []) (all_reversed is h.1) (h.0, tt))
+
+  sure_more : (o : Outcome (List Item)) (p : Outcome Item) → Sure AllItems o → Sure IsItem p
+      → Sure AllItems (with_item o p)
+  sure_more o p h k =
+      sure_then AllItems AllItems o _ h
+      (λ is j. sure_then IsItem AllItems p _ k (λ i l. (l, j)))
+
+  sure_pair : (o : Outcome (List Item)) (p r : Outcome Item) → Sure AllItems o → Sure IsItem p
+      → Sure IsItem r → Sure AllItems (with_item (with_item o p) r)
+  sure_pair o p r h k j = sure_more (with_item o p) r (sure_more o p h k) j
+
+  sure_listed : (n : Bool) (is : List Item) → AllItems is → Sure IsItem (calls.listed_item n is)
+  sure_listed n is h =
+      sure_item _ (sure_then IsTyped IsTyped (function_call standard.InList is) _
+      (sure_function standard.InList _ is h) (sure_negated n))
+
+  sure_chosen : (b : Bool) (is : List Item) → AllItems is → Sure IsItem (calls.chosen_item b is)
+  sure_chosen true is h = tt
+  sure_chosen false is h = sure_item _ (sure_function standard.Case _ is h)
+
+  sure_applied : (w : List ℕ) (is : List Item) → AllItems is → Sure IsItem (applied_item w is)
+  sure_applied w is h =
+      sure_then _ IsItem (or_refuses NoFunction (standard_named w)) _
+      (sure_or NoFunction (standard_named w))
+      (λ f k. sure_item _ (sure_function f (argument_type (row_of f).types.takes is) is h))
 
   mutual
     pub sure : (t : Syntax) → Fits t → Sure IsItem (item_of scope t)
@@ -279,8 +293,12 @@ module _ (scope : Fields) where
         sure_then IsItem IsItem (item_of scope a) _ (sure a f.2)
         (λ x h. sure_then IsItem IsItem (item_of scope b) _ (sure b f.3)
         (λ y k. sure_joined o x y h k))
-    sure (tree.tested n a) f =
-        sure_then IsItem IsItem (item_of scope a) _ (sure a f.1) (λ i h. sure_tested n i h)
+    sure (tree.tested k n a) f =
+        sure_then IsItem IsItem (item_of scope a) _ (sure a f.1) (λ i h. sure_tested k n i h)
+    sure (tree.distinct n a b) f =
+        sure_then IsItem IsItem (item_of scope a) _ (sure a f.2)
+        (λ x h. sure_then IsItem IsItem (item_of scope b) _ (sure b f.3)
+        (λ y k. sure_distinct n x y h k))
     sure (tree.between n a b c) f =
         sure_then IsItem IsItem (item_of scope a) _ (sure a f.3)
         (λ x h. sure_then IsItem IsItem (item_of scope b) _ (sure b f.4)
@@ -292,17 +310,49 @@ module _ (scope : Fields) where
         (λ y k. sure_matched l e x y h k))
     sure (tree.cast a w n) f =
         sure_then IsItem IsItem (item_of scope a) _ (sure a f) (λ i h. sure_cast w n i h)
-    sure (tree.nullary w) f = tt
+    sure (tree.minus a) f =
+        sure_then IsItem IsItem (item_of scope a) _ (sure a f.2)
+        (λ i h. sure_joined signs.Sub (literal (literals.number (codes "0"))) i tt h)
+    sure (tree.listed n a args b) f =
+        let first = with_item (answers []) (item_of scope a) in
+        sure_then AllItems IsItem (with_item (items_after scope first args) (item_of scope b)) _
+        (sure_more (items_after scope first args) (item_of scope b)
+        (sure_all_items args first f.2 (sure_more (answers []) (item_of scope a) tt (sure a f.1)))
+        (sure b f.3))
+        (λ is h. sure_listed n (reverse is) (all_reversed is h))
+    sure (tree.chosen bs c v) f =
+        let o = with_item (with_item (branch_items scope bs) (item_of scope c)) (item_of scope v) in
+        sure_then AllItems IsItem o _
+        (sure_pair (branch_items scope bs) (item_of scope c) (item_of scope v)
+        (sure_branches bs f.0) (sure c f.1) (sure v f.2))
+        (λ is h. sure_chosen (has_operand bs) (reverse is) (all_reversed is h))
+    sure (tree.chosen_else bs c v e) f =
+        let o = with_item (with_item (branch_items scope bs) (item_of scope c)) (item_of scope v) in
+        sure_then AllItems IsItem (with_item o (item_of scope e)) _
+        (sure_more o (item_of scope e)
+        (sure_pair (branch_items scope bs) (item_of scope c) (item_of scope v)
+        (sure_branches bs f.0) (sure c f.1) (sure v f.2)) (sure e f.3))
+        (λ is h. sure_chosen (has_operand bs) (reverse is) (all_reversed is h))
+    sure (tree.nullary w) f = sure_applied w [] tt
     sure (tree.applied w args a) f =
-        sure_then (λ is. Unit {0}) IsItem (items_of scope args) _ (sure_all_items args f.0)
-        (λ is h. sure_then IsItem IsItem (item_of scope a) _ (sure a f.1) (λ i k. tt))
+        let some = items_after scope (answers []) args in
+        sure_then AllItems IsItem (with_item some (item_of scope a)) _
+        (sure_more some (item_of scope a) (sure_all_items args (answers []) f.0 tt) (sure a f.1))
+        (λ is h. sure_applied w (reverse is) (all_reversed is h))
 
-    sure_all_items : (args : Arguments) → AllFit args → Sure (λ is. Unit {0}) (items_of scope args)
-    sure_all_items tree.no_arguments f = tt
-    sure_all_items (tree.argument args a) f =
-        sure_then (λ is. Unit {0}) (λ is. Unit {0}) (items_of scope args) _
-        (sure_all_items args f.0)
-        (λ is h. sure_then IsItem (λ is. Unit {0}) (item_of scope a) _ (sure a f.1) (λ i k. tt))
+    sure_all_items : (args : Arguments) (o : Outcome (List Item)) → AllFit args → Sure AllItems o
+        → Sure AllItems (items_after scope o args)
+    sure_all_items tree.no_arguments o f h = h
+    sure_all_items (tree.argument args a) o f h =
+        sure_more (items_after scope o args) (item_of scope a) (sure_all_items args o f.0 h)
+        (sure a f.1)
+
+    sure_branches : (bs : Branches) → BranchesFit bs → Sure AllItems (branch_items scope bs)
+    sure_branches tree.without_operand f = tt
+    sure_branches (tree.of_operand a) f = sure_more (answers []) (item_of scope a) tt (sure a f)
+    sure_branches (tree.branch bs c v) f =
+        sure_pair (branch_items scope bs) (item_of scope c) (item_of scope v)
+        (sure_branches bs f.0) (sure c f.1) (sure v f.2)
 
   pub sure_tree : (t : Syntax) → Fits t → Sure IsTyped (tree_of scope t)
   sure_tree t f =

@@ -4,23 +4,36 @@ use Rattle.std.proofs.Common.{Some, None, refl, ap, sym, ◌∙◌, append_assoc
 use Rattle.std.proofs.lemmas.List.{append-nil}
 use Rattle.std.proofs.lemmas.Bool.{false≢true}
 use Rattle.vortex_syntax.specs.Nesting.{nesting_limit}
+use Rattle.vortex_syntax.specs.declared.step.Test.{Test}
+use Rattle.vortex_syntax.specs.declared.step.Test.TheVariants as test
 use Rattle.vortex_syntax.specs.declared.step.WrittenOperator as syntax
 use Rattle.vortex_syntax.specs.declared.step.WrittenOperator.TheVariants as written
 use Rattle.vortex_syntax.specs.declared.token.Sign.TheVariants as sign
 use Rattle.vortex_syntax.specs.Tokens as token
 use Rattle.vortex_syntax.specs.Tokens.{Token, nullable, quoted, sign}
 use Rattle.vortex_syntax.specs.Syntax.{Syntax, operand, negative, typed, grouped, negated, joined}
-use Rattle.vortex_syntax.specs.Syntax.{tested, between, matched, cast, nullary, applied, Arguments}
-use Rattle.vortex_syntax.specs.Syntax.{no_arguments, argument}
-use Rattle.vortex_syntax.specs.Levels.{is_operand, Fits, AllFit}
-use Rattle.vortex_syntax.specs.Spelling.{spelling, all_spelled, operator_sign, type_token, with_not}
-use Rattle.vortex_syntax.specs.Spelling.{null_test, like_sign, escape_tokens}
+use Rattle.vortex_syntax.specs.Syntax.{minus, tested, distinct, between, matched, listed, cast}
+use Rattle.vortex_syntax.specs.Syntax.{chosen, chosen_else, nullary, applied, Arguments}
+use Rattle.vortex_syntax.specs.Syntax.{no_arguments, argument, Branches, without_operand}
+use Rattle.vortex_syntax.specs.Syntax.{of_operand, branch}
+use Rattle.vortex_syntax.specs.Levels.{is_operand, Fits, AllFit, BranchesFit}
+use Rattle.vortex_syntax.specs.Spelling.{spelling, all_spelled, branches_spelled, operator_sign}
+use Rattle.vortex_syntax.specs.Spelling.{type_token, with_not, in_tokens}
+use Rattle.vortex_syntax.specs.Spelling.{test_tokens, distinct_tokens, like_sign, escape_tokens}
 use Rattle.vortex_syntax.specs.Nesting.{nests, nests_from}
 use Rattle.vortex_expressions.specs.WritingSteps.{nests_behind, all_nest_behind}
+use Rattle.vortex_expressions.specs.WritingSteps.{branches_nest_behind}
 
 and_grouped : (a b c : Bool) → ((a && b) && c) ≡ (a && (b && c))
 and_grouped true b c = refl
 and_grouped false b c = refl
+
+four_grouped : (a b c d e : Bool)
+    → ((a && (b && c)) && (d && e)) ≡ ((a && (b && (c && d))) && e)
+four_grouped false b c d e = refl
+four_grouped true false c d e = refl
+four_grouped true true false d e = refl
+four_grouped true true true d e = refl
 
 operand_nests : (t : Token) (d : ℕ) (us : List Token) → is_operand t ≡ true
     → nests_from d (t ∷ us) ≡ nests_from d us
@@ -54,11 +67,24 @@ operator_nests written.Add d us = refl
 operator_nests written.Sub d us = refl
 operator_nests written.Mul d us = refl
 operator_nests written.Div d us = refl
+operator_nests written.Mod d us = refl
+operator_nests written.Concat d us = refl
 
-null_nests : (n : Bool) (d : ℕ) (us : List Token)
-    → nests_from d (null_test n ++ us) ≡ nests_from d us
-null_nests true d us = refl
-null_nests false d us = refl
+test_nests : (k : Test) (n : Bool) (d : ℕ) (us : List Token)
+    → nests_from d (test_tokens k n ++ us) ≡ nests_from d us
+test_nests test.Null true d us = refl
+test_nests test.Null false d us = refl
+test_nests test.True true d us = refl
+test_nests test.True false d us = refl
+test_nests test.False true d us = refl
+test_nests test.False false d us = refl
+test_nests test.Unknown true d us = refl
+test_nests test.Unknown false d us = refl
+
+distinct_nests : (n : Bool) (d : ℕ) (us : List Token)
+    → nests_from d (distinct_tokens n ++ us) ≡ nests_from d us
+distinct_nests true d us = refl
+distinct_nests false d us = refl
 
 between_nests : (n : Bool) (d : ℕ) (us : List Token)
     → nests_from d (with_not n sign.Between ++ us) ≡ nests_from d us
@@ -112,6 +138,70 @@ call_nests w args a h k = λ d us.
     ∙ sym (and_grouped first rest (nests_from d us)))
     ∙ sym (and_grouped limit (first && rest) (nests_from d us))
 
+in_nests : (n : Bool) (d : ℕ) (us : List Token)
+    → nests_from d (in_tokens n ++ us) ≡ (nat_lt d nesting_limit && nests_from (suc d) us)
+in_nests true d us = refl
+in_nests false d us = refl
+
+list_nests : (n : Bool) (a : Syntax) (args : Arguments) (b : Syntax) → NestsAs a → AllNestAs args
+    → NestsAs b → NestsAs (listed n a args b)
+list_nests n a args b h k j = λ d us.
+    let limit = nat_lt d nesting_limit in
+    let first = all_nest_behind (suc d) args in
+    let rest = nests_behind (suc d) b in
+    let close : List Token = sign sign.Close ∷ [] in
+    let last : List Token = spelling b ++ (sign sign.Close ∷ us) in
+    ap (nests_from d)
+    (append_assoc (spelling a) (in_tokens n ++ (all_spelled args ++ (spelling b ++ close))) us
+    ∙ ap (λ ts. spelling a ++ ts)
+    (append_assoc (in_tokens n) (all_spelled args ++ (spelling b ++ close)) us
+    ∙ ap (λ ts. in_tokens n ++ ts)
+    (append_assoc (all_spelled args) (spelling b ++ close) us
+    ∙ ap (λ ts. all_spelled args ++ ts) (append_assoc (spelling b) close us))))
+    ∙ h d (in_tokens n ++ (all_spelled args ++ last))
+    ∙ ap (λ v. nests_behind d a && v)
+    (in_nests n d (all_spelled args ++ last)
+    ∙ ap (λ v. limit && v)
+    (k (suc d) last ∙ ap (λ v. first && v) (j (suc d) (sign sign.Close ∷ us))
+    ∙ sym (and_grouped first rest (nests_from d us)))
+    ∙ sym (and_grouped limit (first && rest) (nests_from d us)))
+    ∙ sym (and_grouped (nests_behind d a) (limit && (first && rest)) (nests_from d us))
+
+-- branches, and a condition with its value after tokens
+abbrev BranchesNestAs : Branches → Type 0
+BranchesNestAs bs = (d : ℕ) (us : List Token)
+    → nests_from d (branches_spelled bs ++ us) ≡ (branches_nest_behind d bs && nests_from d us)
+
+abbrev pair_spelled : Syntax → Syntax → List Token → List Token
+pair_spelled c v us = sign sign.When ∷ (spelling c ++ (sign sign.Then ∷ (spelling v ++ us)))
+
+pair_nests : (c v : Syntax) → NestsAs c → NestsAs v → (d : ℕ) (us : List Token)
+    → nests_from d (pair_spelled c v us)
+    ≡ ((nests_behind d c && nests_behind d v) && nests_from d us)
+pair_nests c v h k d us =
+    h d (sign sign.Then ∷ (spelling v ++ us))
+    ∙ ap (λ x. nests_behind d c && x) (k d us)
+    ∙ sym (and_grouped (nests_behind d c) (nests_behind d v) (nests_from d us))
+
+branch_nests : (bs : Branches) (c v : Syntax) → BranchesNestAs bs → NestsAs c → NestsAs v
+    → (d : ℕ) (us : List Token)
+    → nests_from d (branches_spelled bs ++ pair_spelled c v us)
+    ≡ ((branches_nest_behind d bs && (nests_behind d c && nests_behind d v)) && nests_from d us)
+branch_nests bs c v h k j d us =
+    h d (pair_spelled c v us)
+    ∙ ap (λ x. branches_nest_behind d bs && x) (pair_nests c v k j d us)
+    ∙ sym (and_grouped (branches_nest_behind d bs) (nests_behind d c && nests_behind d v)
+    (nests_from d us))
+
+-- the tokens of a last branch, and what follows it
+pair_grouped : (c v : Syntax) (ts us : List Token)
+    → (sign sign.When ∷ (spelling c ++ (sign sign.Then ∷ (spelling v ++ ts)))) ++ us
+    ≡ pair_spelled c v (ts ++ us)
+pair_grouped c v ts us =
+    ap (λ xs. sign sign.When ∷ xs)
+    (append_assoc (spelling c) (sign sign.Then ∷ (spelling v ++ ts)) us
+    ∙ ap (λ xs. spelling c ++ (sign sign.Then ∷ xs)) (append_assoc (spelling v) ts us))
+
 mutual
   pub nests_spelled : (a : Syntax) → Fits a → (d : ℕ) (us : List Token)
       → nests_from d (spelling a ++ us) ≡ (nests_behind d a && nests_from d us)
@@ -133,10 +223,18 @@ mutual
       ∙ ap (λ v. nests_behind d a && v)
       (operator_nests o d (spelling b ++ us) ∙ nests_spelled b f.3 d us)
       ∙ sym (and_grouped (nests_behind d a) (nests_behind d b) (nests_from d us))
-  nests_spelled (tested n a) f d us =
-      ap (nests_from d) (append_assoc (spelling a) (null_test n) us)
-      ∙ nests_spelled a f.1 d (null_test n ++ us)
-      ∙ ap (λ v. nests_behind d a && v) (null_nests n d us)
+  nests_spelled (tested k n a) f d us =
+      ap (nests_from d) (append_assoc (spelling a) (test_tokens k n) us)
+      ∙ nests_spelled a f.1 d (test_tokens k n ++ us)
+      ∙ ap (λ v. nests_behind d a && v) (test_nests k n d us)
+  nests_spelled (distinct n a b) f d us =
+      ap (nests_from d)
+      (append_assoc (spelling a) (distinct_tokens n ++ spelling b) us
+      ∙ ap (λ ts. spelling a ++ ts) (append_assoc (distinct_tokens n) (spelling b) us))
+      ∙ nests_spelled a f.2 d (distinct_tokens n ++ (spelling b ++ us))
+      ∙ ap (λ v. nests_behind d a && v)
+      (distinct_nests n d (spelling b ++ us) ∙ nests_spelled b f.3 d us)
+      ∙ sym (and_grouped (nests_behind d a) (nests_behind d b) (nests_from d us))
   nests_spelled (between n a low high) f d us =
       let upper : List Token = spelling high ++ us in
       let lower : List Token = spelling low ++ (sign sign.And ∷ upper) in
@@ -174,6 +272,30 @@ mutual
       (nests_spelled a f (suc d) last
       ∙ ap (λ v. nests_behind (suc d) a && v) (type_nests w n (suc d) (sign sign.Close ∷ us)))
       ∙ sym (and_grouped (nat_lt d nesting_limit) (nests_behind (suc d) a) (nests_from d us))
+  nests_spelled (minus a) f d us = nests_spelled a f.2 d us
+  nests_spelled (listed n a args b) f d us =
+      list_nests n a args b (nests_spelled a f.1) (all_nest args f.2) (nests_spelled b f.3) d us
+  nests_spelled (chosen bs c v) f d us =
+      let end : List Token = sign sign.End ∷ [] in
+      ap (nests_from d)
+      (append_assoc (branches_spelled bs) (pair_spelled c v end) us
+      ∙ ap (λ ts. branches_spelled bs ++ ts) (pair_grouped c v end us))
+      ∙ branch_nests bs c v (branches_nest bs f.0) (nests_spelled c f.1) (nests_spelled v f.2) d
+      (sign sign.End ∷ us)
+  nests_spelled (chosen_else bs c v e) f d us =
+      let end : List Token = sign sign.End ∷ [] in
+      let last : List Token = sign sign.Else ∷ (spelling e ++ end) in
+      let b = branches_nest_behind d bs in
+      ap (nests_from d)
+      (append_assoc (branches_spelled bs) (pair_spelled c v last) us
+      ∙ ap (λ ts. branches_spelled bs ++ ts)
+      (pair_grouped c v last us
+      ∙ ap (λ ts. pair_spelled c v (sign sign.Else ∷ ts)) (append_assoc (spelling e) end us)))
+      ∙ branch_nests bs c v (branches_nest bs f.0) (nests_spelled c f.1) (nests_spelled v f.2) d
+      (sign sign.Else ∷ (spelling e ++ (sign sign.End ∷ us)))
+      ∙ ap (λ x. (b && (nests_behind d c && nests_behind d v)) && x)
+      (nests_spelled e f.3 d (sign sign.End ∷ us))
+      ∙ four_grouped b (nests_behind d c) (nests_behind d v) (nests_behind d e) (nests_from d us)
   nests_spelled (nullary w) f d us = refl
   nests_spelled (applied w args a) f d us =
       call_nests w args a (all_nest args f.0) (nests_spelled a f.1) d us
@@ -182,6 +304,17 @@ mutual
   all_nest no_arguments f d us = refl
   all_nest (argument args a) f d us =
       argument_nests args a (all_nest args f.0) (nests_spelled a f.1) d us
+
+  branches_nest : (bs : Branches) → BranchesFit bs → BranchesNestAs bs
+  branches_nest without_operand f d us = refl
+  branches_nest (of_operand a) f d us = nests_spelled a f d us
+  branches_nest (branch bs c v) f d us =
+      ap (nests_from d)
+      (append_assoc (branches_spelled bs)
+      (sign sign.When ∷ (spelling c ++ (sign sign.Then ∷ spelling v))) us
+      ∙ ap (λ ts. branches_spelled bs ++ (sign sign.When ∷ ts))
+      (append_assoc (spelling c) (sign sign.Then ∷ spelling v) us))
+      ∙ branch_nests bs c v (branches_nest bs f.0) (nests_spelled c f.1) (nests_spelled v f.2) d us
 
 and_right : (b : Bool) → (b && true) ≡ b
 and_right true = refl

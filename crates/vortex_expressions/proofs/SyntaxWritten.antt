@@ -25,15 +25,17 @@ use Rattle.vortex_interface.specs.Functions.{ours, custom}
 use Rattle.vortex_interface.specs.Trees as trees
 use Rattle.vortex_interface.specs.Trees.{place, held, leaf, constant, call, no_trees}
 use Rattle.vortex_interface.specs.declared.options.EmptyOptions.{EmptyOptions}
-use Rattle.vortex_functions.specs.declared.custom.NoCustom.{NoCustom}
+use Rattle.vortex_standard.specs.declared.standard.Standard.{Standard}
 use Rattle.vortex_cells.proofs.Numbers as numbers
 use Rattle.vortex_syntax.specs.declared.token.Sign.TheVariants as sign
+use Rattle.vortex_syntax.specs.declared.step.Test.TheVariants.{Null}
 use Rattle.vortex_syntax.specs.Tokens as token
 use Rattle.vortex_syntax.specs.Tokens.{Token, nullable, quoted, sign}
 use Rattle.vortex_syntax.specs.Syntax.{Syntax, operand, negative, typed, grouped, negated, tested}
 use Rattle.vortex_syntax.specs.Syntax.{cast}
-use Rattle.vortex_syntax.specs.Levels.{level, left, right, not_level, is_level, sum_level}
-use Rattle.vortex_syntax.specs.Spelling.{spelling, operator_sign, type_token, null_test, like_sign}
+use Rattle.vortex_syntax.specs.Levels.{level, left, right, not_level, is_level, concat_level}
+use Rattle.vortex_syntax.specs.Spelling.{spelling, operator_sign, type_token, like_sign}
+use Rattle.vortex_expressions.specs.Writing.{null_test}
 use Rattle.vortex_syntax.specs.Spelling.{escape_tokens}
 use Rattle.vortex_syntax.specs.Keywords.{keyword_of}
 use Rattle.vortex_syntax.specs.declared.pieces.Run.TheVariants.{Digits}
@@ -41,18 +43,23 @@ use Rattle.vortex_syntax.specs.Pieces.{behind, behind_fraction, behind_exponent,
 use Rattle.vortex_syntax.specs.Writing.{is_bare, is_word, IsNumber, name_token, text_token}
 use Rattle.vortex_syntax.proofs.Runs.{behind_all}
 use Rattle.vortex_syntax.specs.Writing.{doubled, IsWritable, AllWritable}
+use Rattle.vortex_standard.specs.Names.{name_of}
 use Rattle.vortex_expressions.specs.Items.{Tree}
 use Rattle.vortex_expressions.specs.Writing.{at_level, value_syntax, type_name, is_own_type}
 use Rattle.vortex_expressions.specs.Writing.{of_type, joined_syntax, written_operator, is_within}
 use Rattle.vortex_expressions.specs.Writing.{between_syntax, like_kind, escape_text, is_own_escape}
 use Rattle.vortex_expressions.specs.Writing.{escape_written, matched_syntax, all_three, nth}
 use Rattle.vortex_expressions.specs.Writing.{shipped_syntax, syntax_of, syntaxes_of, IsOver}
-use Rattle.vortex_expressions.specs.Writing.{AllOver}
+use Rattle.vortex_expressions.specs.Writing.{AllOver, all_present, named_syntax}
 use Rattle.vortex_expressions.proofs.Options.{some_is, both_is, three_is, mapped_is, where_is}
 use Rattle.vortex_expressions.proofs.SyntaxLevels.{literal_is, AllSyntax, at_place, with_syntax}
+use Rattle.vortex_expressions.proofs.SyntaxLevels.{each_present}
+use Rattle.vortex_expressions.proofs.NamedSyntax.{AllOf, spelled_from, call_spelled}
+use Rattle.vortex_expressions.proofs.NamedSyntax.{spelling_named}
+use Rattle.vortex_expressions.proofs.FunctionNames.{bare_name}
 
 abbrev Trees : Type 0
-Trees = trees.Trees NoCustom EmptyOptions
+Trees = trees.Trees Standard EmptyOptions
 
 pub all_written : (ts us : List Token) → AllWritable ts → AllWritable us → AllWritable (ts ++ us)
 all_written [] us h k = k
@@ -236,7 +243,7 @@ shipped_written Not os a h e =
     let m = mapped_is (λ b. negated (at_level not_level b)) (nth 0 os) a e in
     subst Writes m.made (tt, at_level_written not_level m.a (at_place Writes 0 os m.a h m.there))
 shipped_written (NullTest n) os a h e =
-    let m = mapped_is (λ b. tested n (at_level is_level b)) (nth 0 os) a e in
+    let m = mapped_is (λ b. tested Null n (at_level is_level b)) (nth 0 os) a e in
     let x = at_level_written is_level m.a (at_place Writes 0 os m.a h m.there) in
     subst Writes m.made
     (all_written (spelling (at_level is_level m.a)) (null_test n) x (null_written n))
@@ -256,26 +263,43 @@ shipped_written (Between o) os a h e =
     let g = where_is (is_within o)
     (all_three between_syntax (nth 0 os) (nth 1 os) (nth 2 os)) a e in
     let m = three_is between_syntax (nth 0 os) (nth 1 os) (nth 2 os) a g.there in
-    let x = at_level_written sum_level m.a (at_place Writes 0 os m.a h m.first) in
-    let y = at_level_written sum_level m.b (at_place Writes 1 os m.b h m.second) in
-    let z = at_level_written sum_level m.c (at_place Writes 2 os m.c h m.third) in
-    let low = at_level sum_level m.b in
-    let high = at_level sum_level m.c in
+    let x = at_level_written concat_level m.a (at_place Writes 0 os m.a h m.first) in
+    let y = at_level_written concat_level m.b (at_place Writes 1 os m.b h m.second) in
+    let z = at_level_written concat_level m.c (at_place Writes 2 os m.c h m.third) in
+    let low = at_level concat_level m.b in
+    let high = at_level concat_level m.c in
     subst Writes m.made
-    (all_written (spelling (at_level sum_level m.a))
+    (all_written (spelling (at_level concat_level m.a))
     (sign sign.Between ∷ (spelling low ++ (sign sign.And ∷ spelling high))) x
     (tt, all_written (spelling low) (sign sign.And ∷ spelling high) y (tt, z)))
 shipped_written (Like o) os a h e =
     let m = both_is (matched_syntax o) (nth 0 os) (nth 1 os) a e in
-    let x = at_level_written sum_level m.a (at_place Writes 0 os m.a h m.first) in
-    let y = at_level_written sum_level m.b (at_place Writes 1 os m.b h m.second) in
+    let x = at_level_written concat_level m.a (at_place Writes 0 os m.a h m.first) in
+    let y = at_level_written concat_level m.b (at_place Writes 1 os m.b h m.second) in
     let ls = like_sign (like_kind o) in
     let es = escape_tokens (escape_written o.escape) in
-    let p = spelling (at_level sum_level m.b) in
+    let p = spelling (at_level concat_level m.b) in
     subst Writes m.made
-    (all_written (spelling (at_level sum_level m.a)) (ls ++ (p ++ es)) x
+    (all_written (spelling (at_level concat_level m.a)) (ls ++ (p ++ es)) x
     (all_written ls (p ++ es) (like_written o.negated o.case_insensitive)
     (all_written p es y (escape_written_is o.escape))))
+
+-- a call by its name
+spelled_written : (a : Syntax) (bs : List Syntax) → Writes a → AllOf Writes bs
+    → AllWritable (spelled_from a bs)
+spelled_written a [] h k = all_written (spelling a) (sign sign.Close ∷ []) h (tt, tt)
+spelled_written a (b ∷ bs) h k =
+    all_written (spelling a) (sign sign.Comma ∷ spelled_from b bs) h
+    (tt, spelled_written b bs k.0 k.1)
+
+call_written : (bs : List Syntax) → AllOf Writes bs → AllWritable (call_spelled bs)
+call_written [] h = (tt, tt)
+call_written (a ∷ bs) h = spelled_written a bs h.0 h.1
+
+named_written : (f : Standard) (bs : List Syntax) → AllOf Writes bs
+    → Writes (named_syntax (name_of f) bs)
+named_written f bs h =
+    subst AllWritable (sym (spelling_named (name_of f) bs)) (bare_name f, call_written bs h)
 
 module _ (scope : Fields) where
   mutual
@@ -290,7 +314,11 @@ module _ (scope : Fields) where
         (value_written s.dtype s.value m.word m.value m.named o m.says))
     written_of (call (ours s) ts) a o e =
         shipped_written s (syntaxes_of ts) a (all_written_of ts o.2) e
-    written_of (call (custom f c) ts) a o e = absurd cc
+    written_of (call (custom f c) ts) a o e = let m =
+        mapped_is (named_syntax (name_of f)) (all_present (syntaxes_of ts)) a e in
+        subst Writes m.made
+        (named_written f m.a
+        (each_present Writes (syntaxes_of ts) m.a (all_written_of ts o.2) m.there))
 
     all_written_of : (ts : Trees) → AllOver scope ts → AllSyntax Writes (syntaxes_of ts)
     all_written_of no_trees o = tt

@@ -11,13 +11,13 @@ use Rattle.vortex_interface.specs.Eval.{tree_type, tree_types, with_type}
 use Rattle.vortex_interface.specs.Trees as trees
 use Rattle.vortex_interface.specs.Trees.{call, no_trees, trees_of, list_of}
 use Rattle.vortex_interface.specs.declared.options.EmptyOptions.{EmptyOptions}
-use Rattle.vortex_functions.specs.declared.custom.NoCustom.{NoCustom}
+use Rattle.vortex_standard.specs.declared.standard.Standard.{Standard}
 use Rattle.vortex_expressions.specs.Outcomes.{answers, and_then}
 use Rattle.vortex_expressions.specs.Items.{Item, Tree, Callable, meaning, settled, call_of, called}
 use Rattle.vortex_expressions.proofs.Options.{some_is}
 
 abbrev Trees : Type 0
-Trees = trees.Trees NoCustom EmptyOptions
+Trees = trees.Trees Standard EmptyOptions
 
 -- a call that is well typed: its operands' types, and that their count fits
 is_there : {A : Type 0} (o : Option A) (x : A) → o ≡ Some x → is_some o ≡ true
@@ -41,7 +41,7 @@ pub record Typed (f : Callable) (ts : Trees) : Type 0 where
   pub typed : tree_types meaning ts ≡ Some types
   pub taken : Accepted f types
 
-typed_call : (f : Callable) (ts : Trees) → is_some (tree_type meaning (call f ts)) ≡ true
+pub typed_call : (f : Callable) (ts : Trees) → is_some (tree_type meaning (call f ts)) ≡ true
     → Typed f ts
 typed_call f ts h = by (tree_types meaning ts) refl h
   where
@@ -58,7 +58,7 @@ pub record Head (o : Option LogicalType) (os : Option (List LogicalType))
   pub others : os ≡ Some rest
   pub all : us ≡ first ∷ rest
 
-head_is : (o : Option LogicalType) (os : Option (List LogicalType)) (us : List LogicalType)
+pub head_is : (o : Option LogicalType) (os : Option (List LogicalType)) (us : List LogicalType)
     → with_type o os ≡ Some us → Head o os us
 head_is None os us e = absurd cc
 head_is (Some t) None us e = absurd cc

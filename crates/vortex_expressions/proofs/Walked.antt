@@ -12,19 +12,21 @@ use Rattle.vortex_interface.specs.Functions.{ours, custom}
 use Rattle.vortex_interface.specs.Trees as trees
 use Rattle.vortex_interface.specs.Trees.{leaf, constant, call, no_trees, list_of}
 use Rattle.vortex_interface.specs.declared.options.EmptyOptions.{EmptyOptions}
-use Rattle.vortex_functions.specs.declared.custom.NoCustom.{NoCustom}
+use Rattle.vortex_standard.specs.declared.standard.Standard.{Standard}
 use Rattle.vortex_syntax.specs.Nesting.{nesting_limit}
 use Rattle.vortex_syntax.specs.declared.writing.Writer.{Writer}
-use Rattle.vortex_syntax.specs.Tokens.{Token, sign}
+use Rattle.vortex_syntax.specs.Tokens.{Token, function, sign}
 use Rattle.vortex_syntax.specs.declared.token.Sign.TheVariants as sign
 use Rattle.vortex_syntax.specs.Syntax.{Syntax}
-use Rattle.vortex_syntax.specs.Levels.{level, not_level, is_level, sum_level, left, right}
-use Rattle.vortex_syntax.specs.Spelling.{spelling, null_test, like_sign, escape_tokens}
+use Rattle.vortex_syntax.specs.Levels.{level, not_level, is_level, concat_level, left, right}
+use Rattle.vortex_syntax.specs.Spelling.{spelling, like_sign, escape_tokens}
+use Rattle.vortex_expressions.specs.Writing.{null_test}
 use Rattle.vortex_syntax.specs.Nesting.{nests}
 use Rattle.vortex_syntax.specs.Writing as tokens
 use Rattle.vortex_syntax.specs.Writing.{Holds, Adds}
 use Rattle.vortex_syntax.proofs.Written.{holds_more}
 use Rattle.vortex_expressions.specs.declared.tasks.TreeWriter.{TreeWriter}
+use Rattle.vortex_standard.specs.Names.{name_of}
 use Rattle.vortex_expressions.specs.Items.{Tree, Callable}
 use Rattle.vortex_expressions.specs.Writing.{is_within, written_operator, like_kind, escape_written}
 use Rattle.vortex_expressions.specs.Writing.{all_three, syntax_of, text_if, text_of_tree}
@@ -34,16 +36,18 @@ use Rattle.vortex_expressions.specs.WritingSteps.{all_tokens, binary_parts, betw
 use Rattle.vortex_expressions.specs.WritingSteps.{like_parts, bracket_parts, cast_parts, call_plan}
 use Rattle.vortex_expressions.specs.WritingSteps.{shipped_plan, bracket_plan, Plans, Pushes}
 use Rattle.vortex_expressions.specs.WritingSteps.{PushesIf, tree_cost, trees_cost, part_cost}
-use Rattle.vortex_expressions.specs.WritingSteps.{parts_cost, Goes, Steps}
-use Rattle.vortex_expressions.proofs.PartTokens.{behind, joined_nil, behind_nil, joined_behind}
-use Rattle.vortex_expressions.proofs.PartTokens.{behind_twice, all_append, call_tokens}
+use Rattle.vortex_expressions.specs.WritingSteps.{parts_cost, Goes, Steps, more_parts}
+use Rattle.vortex_expressions.specs.WritingSteps.{argument_parts}
+use Rattle.vortex_expressions.proofs.JoinedTokens.{behind, joined_nil, behind_nil, joined_behind}
+use Rattle.vortex_expressions.proofs.JoinedTokens.{behind_twice, all_append}
+use Rattle.vortex_expressions.proofs.PartTokens.{call_tokens}
 use Rattle.vortex_expressions.proofs.PartTokens.{bracket_tokens, bare_tokens, zero_tokens}
 use Rattle.vortex_expressions.proofs.Options.{some_is, both_is, three_is, mapped_is, where_is}
 use Rattle.vortex_expressions.proofs.SyntaxLevels.{level_is, fits_of}
 use Rattle.vortex_expressions.proofs.SyntaxNests.{nests_is}
 
 abbrev Trees : Type 0
-Trees = trees.Trees NoCustom EmptyOptions
+Trees = trees.Trees Standard EmptyOptions
 
 -- what is written of several tokens
 pub pushes_one : (t : Token) (old new : Writer) → Adds t old new → Pushes (t ∷ []) old new
@@ -153,9 +157,9 @@ plan_cost d (Between o) ts ps e =
       arith,
       same,
       third_cost ts m.a m.b m.c m.first m.second m.third,
-      part_most d sum_level m.a,
-      part_most d sum_level m.b,
-      part_most d sum_level m.c,
+      part_most d concat_level m.a,
+      part_most d concat_level m.b,
+      part_most d concat_level m.c,
     )
 plan_cost d (Like o) ts ps e =
     let m = both_is (like_parts d o) (slice_get (list_of ts) 0) (slice_get (list_of ts) 1) ps e in
@@ -166,18 +170,31 @@ plan_cost d (Like o) ts ps e =
       arith,
       same,
       second_cost ts m.a m.b m.first m.second,
-      part_most d sum_level m.a,
-      part_most d sum_level m.b,
-      signs_cost ls (tree d sum_level m.b ∷ map token es),
+      part_most d concat_level m.a,
+      part_most d concat_level m.b,
+      signs_cost ls (tree d concat_level m.b ∷ map token es),
       ends_signs es,
       like_count o.negated o.case_insensitive,
       escape_count (escape_written o.escape),
     )
 
+more_cost : (d : ℕ) (ts : Trees) → parts_cost (more_parts d (list_of ts)) ≤ 1 + trees_cost ts
+more_cost d no_trees = omega arith
+more_cost d (trees.tree t ts) = omega (arith, more_cost d ts)
+
+arguments_cost : (d : ℕ) (ts : Trees)
+    → parts_cost (argument_parts d (list_of ts)) ≤ 1 + trees_cost ts
+arguments_cost d no_trees = omega arith
+arguments_cost d (trees.tree t ts) = omega (arith, more_cost d ts)
+
 call_cost : (d : ℕ) (f : Callable) (ts : Trees) (ps : List Part)
     → call_plan d f (list_of ts) ≡ Some ps → parts_cost ps < tree_cost (call f ts)
 call_cost d (ours s) ts ps e = plan_cost d s ts ps e
-call_cost d (custom f o) ts ps e = absurd cc
+call_cost d (custom f o) ts ps e =
+    let parts : List Part = token (function (name_of f)) ∷ argument_parts (suc d) (list_of ts) in
+    let g = where_is (nat_lt d nesting_limit) (Some parts) ps e in
+    let same = ap parts_cost (some_is parts ps g.there) in
+    omega (arith, same, arguments_cost (suc d) ts)
 
 -- a step that plans, and one that writes
 pub steps_planned : (p : Part) (plan : Option (List Part)) (old new : TreeWriter) (goes : Bool)

@@ -1,21 +1,29 @@
 -- The steps of a syntax tree leave its meaning.
 use Rattle.std.proofs.Common.{◌≡◌, ℕ, List, [], ◌∷◌, ◌++◌, true, false, Some, None}
-use Rattle.std.proofs.Common.{refl, ap, sym, ◌∙◌, append_assoc}
+use Rattle.std.proofs.Common.{refl, ap, sym, ◌∙◌, append_assoc, length, reverse, suc, ◌+◌}
+use Rattle.std.proofs.Common.{Bool, arith}
 use Rattle.std.proofs.lemmas.List.{append-nil}
 use Rattle.vortex_types.specs.LogicalTypes.{Fields}
 use Rattle.vortex_syntax.specs.Syntax.{Syntax, operand, negative, typed, grouped, negated, joined}
-use Rattle.vortex_syntax.specs.Syntax.{tested, between, matched, cast, nullary, applied, Arguments}
-use Rattle.vortex_syntax.specs.Syntax.{no_arguments, argument}
+use Rattle.vortex_syntax.specs.Syntax.{minus, tested, distinct, between, matched, listed, cast}
+use Rattle.vortex_syntax.specs.Syntax.{chosen, chosen_else, nullary, applied, Arguments}
+use Rattle.vortex_syntax.specs.Syntax.{no_arguments, argument, Branches, without_operand}
+use Rattle.vortex_syntax.specs.Syntax.{of_operand, branch}
 use Rattle.vortex_syntax.specs.Postfix as step
-use Rattle.vortex_syntax.specs.Postfix.{Step, postfix, all_postfix}
-use Rattle.vortex_expressions.specs.declared.refusal.Refusal.TheVariants.{NoFunction}
-use Rattle.vortex_expressions.specs.Outcomes.{Outcome, answers, refuses, and_then}
+use Rattle.vortex_syntax.specs.Postfix.{Step, postfix, all_postfix, argument_count}
+use Rattle.vortex_syntax.specs.Postfix.{branches_postfix, has_operand, branch_count}
+use Rattle.vortex_expressions.specs.Outcomes.{Outcome, answers, refuses, missing, and_then}
 use Rattle.vortex_expressions.specs.Items.{Item}
 use Rattle.vortex_expressions.specs.Calls.{typed_item, cast_item, not_item, joined_item}
-use Rattle.vortex_expressions.specs.Calls.{tested_item, between_item, matched_item}
-use Rattle.vortex_expressions.specs.Binding.{item_of, items_of, tree_of}
-use Rattle.vortex_expressions.specs.Stacks.{run, stepped, pushed, left, tree_left}
-use Rattle.vortex_expressions.proofs.Chains.{and_then-assoc, and_then-same}
+use Rattle.vortex_expressions.specs.Calls.{minus_item, tested_item, distinct_item, between_item}
+use Rattle.vortex_expressions.specs.Calls.{matched_item, listed_item, chosen_item}
+use Rattle.vortex_expressions.specs.Binding.{with_item, of_items, item_of, items_after}
+use Rattle.vortex_expressions.specs.Binding.{branch_items, tree_of}
+use Rattle.vortex_expressions.specs.Applied.{applied_item}
+use Rattle.vortex_expressions.specs.Stacks.{run, stepped, pushed, with_last, case_count, left}
+use Rattle.vortex_expressions.specs.Stacks.{tree_left}
+use Rattle.vortex_expressions.proofs.Chains.{and_then-assoc, and_then-same, and_then-there}
+use Rattle.vortex_expressions.proofs.Lasts.{last_taken}
 
 module _ (scope : Fields) where
   -- over these items the steps leave one item in their place
@@ -40,46 +48,103 @@ module _ (scope : Fields) where
       ∙ and_then-same o _ _ (λ i. k i ss st)
       ∙ sym (and_then-assoc o f (λ j. run scope ss (j ∷ st)))
 
-  -- a call has no function yet
-  refused_call : (w : List ℕ) (n : ℕ) (ss : List Step) (st : List Item)
-      → run scope (step.applied w n ∷ ss) st ≡ refuses NoFunction
-  unfolding run
-  refused_call w n ss st = refl
-
-  -- over the items below, arguments leave theirs
-  abbrev LeaveAll : Arguments → Type 0
-  LeaveAll args =
+  -- the steps leave as many items as there are, over those below
+  abbrev LeaveAll : List Step → Outcome (List Item) → Type 0
+  LeaveAll ps o =
       (ss : List Step) (st : List Item)
-      → run scope (all_postfix args ++ ss) st
-      ≡ and_then (items_of scope args) (λ is. run scope ss (is ++ st))
+      → run scope (ps ++ ss) st ≡ and_then o (λ is. run scope ss (is ++ st))
 
-  one_more : (args : Arguments) (a : Syntax) → LeaveAll args
-      → Leaves [] (postfix a) (item_of scope a) → LeaveAll (argument args a)
-  one_more args a h k = λ ss st.
-      ap (λ zs. run scope zs st) (append_assoc (all_postfix args) (postfix a) ss)
-      ∙ h (postfix a ++ ss) st
-      ∙ and_then-same (items_of scope args) _ _ (λ is. k ss (is ++ st)
-      ∙ sym (and_then-assoc (item_of scope a) (λ i. answers (i ∷ is)) (λ js. run scope ss (js ++ st))))
-      ∙ sym (and_then-assoc (items_of scope args)
-      (λ is. and_then (item_of scope a) (λ i. answers (i ∷ is))) (λ js. run scope ss (js ++ st)))
+  one_more : (ps qs : List Step) (o : Outcome (List Item)) (p : Outcome Item) → LeaveAll ps o
+      → Leaves [] qs p → LeaveAll (ps ++ qs) (with_item o p)
+  one_more ps qs o p h k = λ ss st.
+      ap (λ zs. run scope zs st) (append_assoc ps qs ss)
+      ∙ h (qs ++ ss) st
+      ∙ and_then-same o _ _ (λ is. k ss (is ++ st)
+      ∙ sym (and_then-assoc p (λ i. answers (i ∷ is)) (λ js. run scope ss (js ++ st))))
+      ∙ sym (and_then-assoc o (λ is. and_then p (λ i. answers (i ∷ is)))
+      (λ js. run scope ss (js ++ st)))
 
-  call_leaves : (w : List ℕ) (n : ℕ) (args : Arguments) (a : Syntax) → LeaveAll args
-      → Leaves [] (postfix a) (item_of scope a)
-      → Leaves [] (all_postfix args ++ (postfix a ++ (step.applied w n ∷ [])))
-      (and_then (items_of scope args) (λ is. and_then (item_of scope a) (λ i. refuses NoFunction)))
-  call_leaves w n args a h k = λ ss st.
-      let last : List Step = step.applied w n ∷ [] in
-      ap (λ zs. run scope zs st)
-      (append_assoc (all_postfix args) (postfix a ++ last) ss
-      ∙ ap (λ zs. all_postfix args ++ zs) (append_assoc (postfix a) last ss))
-      ∙ h (postfix a ++ (step.applied w n ∷ ss)) st
-      ∙ and_then-same (items_of scope args) _ _ (λ is.
-      k (step.applied w n ∷ ss) (is ++ st)
-      ∙ and_then-same (item_of scope a) _ _ (λ i. refused_call w n ss (i ∷ (is ++ st)))
-      ∙ sym (and_then-assoc (item_of scope a) (λ i. refuses NoFunction)
-      (λ i. run scope ss (i ∷ st))))
-      ∙ sym (and_then-assoc (items_of scope args)
-      (λ is. and_then (item_of scope a) (λ i. refuses NoFunction)) (λ i. run scope ss (i ∷ st)))
+  -- there are so many items
+  abbrev Counts : Outcome (List Item) → ℕ → Type 0
+  Counts o n = (is : List Item) → o ≡ answers is → length is ≡ n
+
+  count_more : (o : Outcome (List Item)) (p : Outcome Item) (n : ℕ) → Counts o n
+      → Counts (with_item o p) (suc n)
+  count_more (answers js) (answers i) n h is e =
+      let same : i ∷ js ≡ is = cc in ap length (sym same) ∙ ap suc (h js refl)
+  count_more (answers js) (refuses r) n h is e = absurd cc
+  count_more (answers js) missing n h is e = absurd cc
+  count_more (refuses r) p n h is e = absurd cc
+  count_more missing p n h is e = absurd cc
+
+  -- a step that takes all of them
+  abbrev TakesLast : Step → (List Item → Outcome Item) → ℕ → Type 0
+  TakesLast s f n = (st : List Item) → stepped scope s st ≡ with_last f n st
+
+  last_called : (s : Step) (f : List Item → Outcome Item) (n : ℕ) → TakesLast s f n
+      → (is : List Item) → length is ≡ n → (ss : List Step) (st : List Item)
+      → run scope (s ∷ ss) (is ++ st) ≡ and_then (f (reverse is)) (λ i. run scope ss (i ∷ st))
+  unfolding run
+  last_called s f n h is e ss st =
+      ap (λ o. and_then o (run scope ss))
+      (h (is ++ st) ∙ ap (λ m. with_last f m (is ++ st)) (sym e) ∙ last_taken f is st)
+      ∙ and_then-assoc (f (reverse is)) (λ i. answers (i ∷ st)) (run scope ss)
+
+  call_leaves : (ps : List Step) (o : Outcome (List Item)) (s : Step) (f : List Item → Outcome Item)
+      (n : ℕ) → LeaveAll ps o → Counts o n → TakesLast s f n
+      → Leaves [] (ps ++ (s ∷ [])) (of_items f o)
+  call_leaves ps o s f n h k j = λ ss st.
+      ap (λ zs. run scope zs st) (append_assoc ps (s ∷ []) ss)
+      ∙ h (s ∷ ss) st
+      ∙ and_then-there o _ _ (λ is e. last_called s f n j is (k is e) ss st)
+      ∙ sym (and_then-assoc o (λ is. f (reverse is)) (λ i. run scope ss (i ∷ st)))
+
+  -- no step, and a condition with its value
+  none_leave : LeaveAll [] (answers [])
+  none_leave = λ ss st. refl
+
+  none_count : Counts (answers []) 0
+  none_count is e = let same : [] ≡ is = cc in ap length (sym same)
+
+  pair_leaves : (ps qs rs : List Step) (o : Outcome (List Item)) (p r : Outcome Item)
+      → LeaveAll ps o → Leaves [] qs p → Leaves [] rs r
+      → LeaveAll ((ps ++ qs) ++ rs) (with_item (with_item o p) r)
+  pair_leaves ps qs rs o p r h k j =
+      one_more (ps ++ qs) rs (with_item o p) r (one_more ps qs o p h k) j
+
+  pair_count : (o : Outcome (List Item)) (p r : Outcome Item) (b : Bool) (n : ℕ)
+      → Counts o (case_count b n false)
+      → Counts (with_item (with_item o p) r) (case_count b (suc n) false)
+  pair_count o p r b n h is e =
+      count_more (with_item o p) r _ (count_more o p _ h) is e ∙ omega arith
+
+  else_count : (o : Outcome (List Item)) (p : Outcome Item) (b : Bool) (n : ℕ)
+      → Counts o (case_count b n false) → Counts (with_item o p) (case_count b n true)
+  else_count o p b n h is e = count_more o p _ h is e ∙ omega arith
+
+  counted : (args : Arguments) (o : Outcome (List Item)) (n : ℕ) → Counts o n
+      → Counts (items_after scope o args) (argument_count args + n)
+  counted no_arguments o n h = λ is e. h is e ∙ omega arith
+  counted (argument args a) o n h =
+      λ is e. count_more (items_after scope o args) (item_of scope a) _ (counted args o n h) is e
+      ∙ omega arith
+
+  applied_count : (args : Arguments) (o : Outcome (List Item)) (p : Outcome Item)
+      → Counts o (argument_count args + 0) → Counts (with_item o p) (suc (argument_count args))
+  applied_count args o p h is e = count_more o p _ h is e ∙ omega arith
+
+  listed_count : (args : Arguments) (o : Outcome (List Item)) (p : Outcome Item)
+      → Counts o (argument_count args + 1)
+      → Counts (with_item o p) (suc (suc (argument_count args)))
+  listed_count args o p h is e = count_more o p _ h is e ∙ omega arith
+
+  branches_counted : (bs : Branches)
+      → Counts (branch_items scope bs) (case_count (has_operand bs) (branch_count bs) false)
+  branches_counted without_operand = none_count
+  branches_counted (of_operand a) = count_more (answers []) (item_of scope a) 0 none_count
+  branches_counted (branch bs c v) =
+      pair_count (branch_items scope bs) (item_of scope c) (item_of scope v) (has_operand bs)
+      (branch_count bs) (branches_counted bs)
 
   mutual
     pub leaves : (t : Syntax) → Leaves [] (postfix t) (item_of scope t)
@@ -94,12 +159,13 @@ module _ (scope : Fields) where
         next [] (postfix a) _ _ (λ x. and_then (item_of scope b) (joined_item o x)) (leaves a)
         (λ x. next (x ∷ []) (postfix b) _ _ (joined_item o x) (leaves b)
         (λ y. last (y ∷ x ∷ []) _ _ (λ st. refl)))
-    leaves (tested true a) =
-        next [] (postfix a) _ _ (tested_item true) (leaves a)
+    leaves (tested k n a) =
+        next [] (postfix a) _ _ (tested_item k n) (leaves a)
         (λ i. last (i ∷ []) _ _ (λ st. refl))
-    leaves (tested false a) =
-        next [] (postfix a) _ _ (tested_item false) (leaves a)
-        (λ i. last (i ∷ []) _ _ (λ st. refl))
+    leaves (distinct n a b) =
+        next [] (postfix a) _ _ (λ x. and_then (item_of scope b) (distinct_item n x)) (leaves a)
+        (λ x. next (x ∷ []) (postfix b) _ _ (distinct_item n x) (leaves b)
+        (λ y. last (y ∷ x ∷ []) _ _ (λ st. refl)))
     leaves (between n a low high) =
         next [] (postfix a) _ _
         (λ x. and_then (item_of scope low) (λ y. and_then (item_of scope high) (between_item n x y)))
@@ -119,12 +185,78 @@ module _ (scope : Fields) where
         (λ y. last (y ∷ x ∷ []) _ _ (λ st. refl)))
     leaves (cast a w n) =
         next [] (postfix a) _ _ (cast_item w n) (leaves a) (λ i. last (i ∷ []) _ _ (λ st. refl))
-    leaves (nullary w) = last [] _ (item_of scope (nullary w)) (λ st. refl)
-    leaves (applied w args a) = call_leaves w _ args a (all_leave args) (leaves a)
+    leaves (minus a) =
+        next [] (postfix a) _ _ minus_item (leaves a) (λ i. last (i ∷ []) _ _ (λ st. refl))
+    leaves (nullary w) = last [] _ (item_of scope (nullary w)) (λ st. last_taken (applied_item w) [] st)
+    leaves (applied w args a) = λ ss st.
+        let n = suc (argument_count args) in
+        let s : Step = step.applied w n in
+        ap (λ zs. run scope (zs ++ ss) st)
+        (sym (append_assoc (all_postfix args) (postfix a) (s ∷ [])))
+        ∙ call_leaves _ _ s (applied_item w) n
+        (one_more (all_postfix args) (postfix a) _ _ (all_leave args [] _ none_leave) (leaves a))
+        (applied_count args _ _ (counted args _ 0 none_count)) (λ st. refl) ss st
+    leaves (listed n a args b) = λ ss st.
+        let k = suc (argument_count args) in
+        let s : Step = step.listed n k in
+        let first = one_more [] (postfix a) (answers []) (item_of scope a) none_leave (leaves a) in
+        let some = all_leave args (postfix a) _ first in
+        ap (λ zs. run scope (zs ++ ss) st)
+        (ap (λ zs. postfix a ++ zs) (sym (append_assoc (all_postfix args) (postfix b) (s ∷ [])))
+        ∙ sym (append_assoc (postfix a) (all_postfix args ++ postfix b) (s ∷ []))
+        ∙ ap (λ zs. zs ++ (s ∷ [])) (sym (append_assoc (postfix a) (all_postfix args) (postfix b))))
+        ∙ call_leaves _ _ s (listed_item n) (suc k)
+        (one_more (postfix a ++ all_postfix args) (postfix b) _ _ some (leaves b))
+        (listed_count args _ _ (counted args _ 1 (count_more (answers []) _ 0 none_count)))
+        (λ st. refl) ss st
+    leaves (chosen bs c v) = λ ss st.
+        let k = suc (branch_count bs) in
+        let s : Step = step.chosen (has_operand bs) k false in
+        ap (λ zs. run scope (zs ++ ss) st)
+        (sym (append_assoc (branches_postfix bs) (postfix c ++ postfix v) (s ∷ [])
+        ∙ ap (λ zs. branches_postfix bs ++ zs) (append_assoc (postfix c) (postfix v) (s ∷ []))))
+        ∙ ap (λ zs. run scope ((zs ++ (s ∷ [])) ++ ss) st)
+        (sym (append_assoc (branches_postfix bs) (postfix c) (postfix v)))
+        ∙ call_leaves _ _ s (chosen_item (has_operand bs)) (case_count (has_operand bs) k false)
+        (pair_leaves (branches_postfix bs) (postfix c) (postfix v) _ _ _ (branches_leave bs)
+        (leaves c) (leaves v))
+        (pair_count _ _ _ (has_operand bs) (branch_count bs) (branches_counted bs)) (λ st. refl)
+        ss st
+    leaves (chosen_else bs c v e) = λ ss st.
+        let k = suc (branch_count bs) in
+        let s : Step = step.chosen (has_operand bs) k true in
+        let front = (branches_postfix bs ++ postfix c) ++ postfix v in
+        ap (λ zs. run scope (zs ++ ss) st)
+        (sym (append_assoc (branches_postfix bs) (postfix c)
+        (postfix v ++ (postfix e ++ (s ∷ []))))
+        ∙ sym (append_assoc (branches_postfix bs ++ postfix c) (postfix v) (postfix e ++ (s ∷ [])))
+        ∙ sym (append_assoc front (postfix e) (s ∷ [])))
+        ∙ call_leaves _ _ s (chosen_item (has_operand bs)) (case_count (has_operand bs) k true)
+        (one_more front (postfix e) _ _
+        (pair_leaves (branches_postfix bs) (postfix c) (postfix v) _ _ _ (branches_leave bs)
+        (leaves c) (leaves v)) (leaves e))
+        (else_count _ _ (has_operand bs) k
+        (pair_count _ _ _ (has_operand bs) (branch_count bs) (branches_counted bs))) (λ st. refl)
+        ss st
 
-    all_leave : (args : Arguments) → LeaveAll args
-    all_leave no_arguments = λ ss st. refl
-    all_leave (argument args a) = one_more args a (all_leave args) (leaves a)
+    all_leave : (args : Arguments) (ps : List Step) (o : Outcome (List Item)) → LeaveAll ps o
+        → LeaveAll (ps ++ all_postfix args) (items_after scope o args)
+    all_leave no_arguments ps o h = λ ss st.
+        ap (λ zs. run scope (zs ++ ss) st) (append-nil ps) ∙ h ss st
+    all_leave (argument args a) ps o h = λ ss st.
+        ap (λ zs. run scope (zs ++ ss) st) (sym (append_assoc ps (all_postfix args) (postfix a)))
+        ∙ one_more (ps ++ all_postfix args) (postfix a) (items_after scope o args) (item_of scope a)
+        (all_leave args ps o h) (leaves a) ss st
+
+    branches_leave : (bs : Branches) → LeaveAll (branches_postfix bs) (branch_items scope bs)
+    branches_leave without_operand = none_leave
+    branches_leave (of_operand a) =
+        one_more [] (postfix a) (answers []) (item_of scope a) none_leave (leaves a)
+    branches_leave (branch bs c v) = λ ss st.
+        ap (λ zs. run scope (zs ++ ss) st)
+        (sym (append_assoc (branches_postfix bs) (postfix c) (postfix v)))
+        ∙ pair_leaves (branches_postfix bs) (postfix c) (postfix v) _ _ _ (branches_leave bs)
+        (leaves c) (leaves v) ss st
 
   -- for an expression
   pub tree_left-is : (t : Syntax) → tree_left scope (postfix t) ≡ tree_of scope t

@@ -13,7 +13,7 @@ use Rattle.vortex_expressions.specs.declared.refusal.Refusal.{Refusal}
 use Rattle.vortex_expressions.specs.Outcomes.{Outcome, answers, refuses, missing}
 use Rattle.vortex_expressions.specs.Reading.{is_want_of_memory, is_memory_reason, ToldBy, ToldAt}
 use Rattle.vortex_expressions.specs.Reading.{UnreadBy, ToldFor, TellsWhy}
-use Rattle.vortex_expressions.proofs.Sure.{Sure}
+use Rattle.vortex_expressions.proofs.SureCalls.{Sure}
 
 module _ (Stops : List Token → ℕ → Type 0) (Refuses : Refusal → Type 0) (text : List ℕ) where
   of_memory : (r : Reason) (byte : ℕ) → IsTrue (is_memory_reason r)

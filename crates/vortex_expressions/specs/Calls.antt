@@ -1,11 +1,10 @@
 -- The result of each form of syntax for its parts.
 use Rattle.std.specs.Prelude.{ℕ, List, [], ◌∷◌, Bool, true, false, Option, Some, None, ◌==◌}
-use Rattle.std.specs.Prelude.{if◌then◌else◌}
+use Rattle.std.specs.Prelude.{codes, if◌then◌else◌}
 use Rattle.std.specs.Str.{is_utf8, chars}
 use Rattle.vortex_errors.specs.declared.error.VortexError.TheVariants.{ScopeMismatch}
 use Rattle.vortex_types.specs.LogicalTypes.{LogicalType, Fields, bool_type, text_type, find_field}
 use Rattle.vortex_types.specs.LogicalTypes.{is_bool_type, is_nullable}
-use Rattle.vortex_operators.specs.declared.operators.Operator.{Operator}
 use Rattle.vortex_operators.specs.declared.operators.Operator.TheVariants as operator
 use Rattle.vortex_operators.specs.declared.between.BetweenOptions.{BetweenOptions}
 use Rattle.vortex_operators.specs.declared.between.StrictComparison.TheVariants.{NonStrict}
@@ -14,22 +13,33 @@ use Rattle.vortex_like.specs.Tokens.{backslash}
 use Rattle.vortex_interface.specs.Shipped.{Binary, Not, NullTest, Cast, Between, Like}
 use Rattle.vortex_interface.specs.Functions.{ours}
 use Rattle.vortex_interface.specs.Trees.{leaf, place}
-use Rattle.vortex_cells.specs.TypeWords.{type_named}
 use Rattle.vortex_cells.specs.Escapes.{escape_of}
 use Rattle.vortex_syntax.specs.declared.step.WrittenOperator as syntax
 use Rattle.vortex_syntax.specs.declared.step.WrittenOperator.TheVariants as written
 use Rattle.vortex_syntax.specs.declared.step.LikeKind.{LikeKind}
+use Rattle.vortex_syntax.specs.declared.step.Test.{Test}
+use Rattle.vortex_syntax.specs.declared.step.Test.TheVariants as test
+use Rattle.vortex_sql_choices.specs.declared.truth_tests.TruthTest.TheVariants.{IsTrue, IsFalse}
+use Rattle.vortex_sql_choices.specs.declared.truth_tests.TruthTest.TheVariants.{IsUnknown}
+use Rattle.vortex_standard.specs.declared.standard.Standard.{Standard}
+use Rattle.vortex_standard.specs.declared.standard.Standard.TheVariants as standard
 use Rattle.vortex_syntax.specs.declared.token.Sign.{Sign}
 use Rattle.vortex_syntax.specs.declared.token.Sign.TheVariants as sign
 use Rattle.vortex_syntax.specs.Tokens.{Token, name, nullable, function, quoted, number, text, sign}
 use Rattle.vortex_expressions.specs.declared.refusal.Refusal.TheVariants.{NotUtf8, UnknownType}
-use Rattle.vortex_expressions.specs.declared.refusal.Refusal.TheVariants.{NoCast, NoEscape, Binding}
+use Rattle.vortex_expressions.specs.declared.refusal.Refusal.TheVariants.{NoEscape, Binding}
+use Rattle.vortex_expressions.specs.declared.refusal.Refusal.TheVariants.{NoFunction}
 use Rattle.vortex_expressions.specs.Literals as literal
 use Rattle.vortex_expressions.specs.Literals.{Literal}
 use Rattle.vortex_expressions.specs.Outcomes.{Outcome, answers, refuses, missing, and_then}
 use Rattle.vortex_expressions.specs.Outcomes.{or_refuses}
-use Rattle.vortex_expressions.specs.Items.{Item, literal, bound, Tree, called, common_type}
+use Rattle.vortex_expressions.specs.Items.{Item, literal, bound, Tree, Callable, called}
+use Rattle.vortex_expressions.specs.Items.{common_type}
+use Rattle.vortex_expressions.specs.Applied.{callable, function_call}
 use Rattle.vortex_expressions.specs.Items.{constant_at}
+pub use Rattle.vortex_expressions.specs.Items.{as_item}
+use Rattle.vortex_expressions.specs.TypeNames.{named_type}
+pub use Rattle.vortex_expressions.specs.Casts.{cast_to}
 
 -- In quotes each quote is doubled, and the second of two is skipped: the mark is true after the
 -- first.
@@ -46,10 +56,6 @@ text_of bs = if is_utf8 bs then answers bs else refuses NotUtf8
 
 abbrev pub between_quotes : ℕ → List ℕ → Outcome (List ℕ)
 between_quotes q bs = text_of (unquoted q bs)
-
--- the result becomes an item
-abbrev pub as_item : Outcome Tree → Outcome Item
-as_item o = and_then o (λ t. answers (bound t))
 
 abbrev pub field_found : List ℕ → Option (ℕ × LogicalType) → Outcome Item
 field_found w None = refuses (Binding ScopeMismatch)
@@ -83,19 +89,12 @@ negative_item ds = and_then (text_of (45 ∷ ds)) (λ w. answers (literal (liter
 
 -- the type of that name
 abbrev pub type_of_name : List ℕ → Bool → Outcome LogicalType
-type_of_name w n = and_then (text_of w) (λ v. or_refuses UnknownType (type_named n v))
+type_of_name w n = and_then (text_of w) (λ v. or_refuses UnknownType (named_type n v))
 
 -- a literal of the type of that name
 abbrev pub typed_item : List ℕ → Bool → Item → Outcome Item
 typed_item w n (bound t) = missing
 typed_item w n (literal l) = as_item (and_then (type_of_name w n) (constant_at l))
-
--- the only cast: of a truth value, to the nullable type
-abbrev pub cast_to : Item → LogicalType → Outcome Tree
-cast_to i t =
-    if is_bool_type t then
-    (if is_nullable t then called (ours Cast) (Some t) (i ∷ []) else refuses NoCast)
-    else refuses NoCast
 
 abbrev pub cast_item : List ℕ → Bool → Item → Outcome Item
 cast_item w n i = as_item (and_then (type_of_name w n) (cast_to i))
@@ -104,19 +103,22 @@ cast_item w n i = as_item (and_then (type_of_name w n) (cast_to i))
 abbrev pub truth_type : Option LogicalType
 truth_type = Some (bool_type false)
 
-abbrev pub operator_of : syntax.WrittenOperator → Operator
-operator_of written.Or = operator.Or
-operator_of written.And = operator.And
-operator_of written.Equal = operator.Eq
-operator_of written.NotEqual = operator.NotEq
-operator_of written.Less = operator.Lt
-operator_of written.LessOrEqual = operator.Lte
-operator_of written.Greater = operator.Gt
-operator_of written.GreaterOrEqual = operator.Gte
-operator_of written.Add = operator.Add
-operator_of written.Sub = operator.Sub
-operator_of written.Mul = operator.Mul
-operator_of written.Div = operator.Div
+-- the function that an operator is
+abbrev pub written_function : syntax.WrittenOperator → Callable
+written_function written.Or = ours (Binary operator.Or)
+written_function written.And = ours (Binary operator.And)
+written_function written.Equal = ours (Binary operator.Eq)
+written_function written.NotEqual = ours (Binary operator.NotEq)
+written_function written.Less = ours (Binary operator.Lt)
+written_function written.LessOrEqual = ours (Binary operator.Lte)
+written_function written.Greater = ours (Binary operator.Gt)
+written_function written.GreaterOrEqual = ours (Binary operator.Gte)
+written_function written.Add = ours (Binary operator.Add)
+written_function written.Sub = ours (Binary operator.Sub)
+written_function written.Mul = ours (Binary operator.Mul)
+written_function written.Div = ours (Binary operator.Div)
+written_function written.Mod = callable standard.Remainder
+written_function written.Concat = callable standard.Concat
 
 abbrev pub joined_type : syntax.WrittenOperator → List Item → Option LogicalType
 joined_type written.Or is = truth_type
@@ -132,10 +134,33 @@ not_item a = as_item (called (ours Not) truth_type (a ∷ []))
 
 abbrev pub joined_item : syntax.WrittenOperator → Item → Item → Outcome Item
 joined_item o a b =
-    let is = a ∷ b ∷ [] in as_item (called (ours (Binary (operator_of o))) (joined_type o is) is)
+    let is = a ∷ b ∷ [] in as_item (called (written_function o) (joined_type o is) is)
 
-abbrev pub tested_item : Bool → Item → Outcome Item
-tested_item n a = as_item (called (ours (NullTest n)) None (a ∷ []))
+-- a test of a truth value; null is one
+abbrev pub truth_test : Standard → Bool → Item → Outcome Item
+truth_test f n a = as_item (and_then (called (callable f) truth_type (a ∷ [])) (negated_if n))
+
+abbrev pub tested_item : Test → Bool → Item → Outcome Item
+tested_item test.Null n a = as_item (called (ours (NullTest n)) None (a ∷ []))
+tested_item test.True n a = truth_test (standard.TruthTest IsTrue) n a
+tested_item test.False n a = truth_test (standard.TruthTest IsFalse) n a
+tested_item test.Unknown n a = truth_test (standard.TruthTest IsUnknown) n a
+
+abbrev pub distinct_item : Bool → Item → Item → Outcome Item
+distinct_item n a b =
+    as_item (and_then (function_call standard.IsDistinct (a ∷ b ∷ [])) (negated_if n))
+
+-- a minus sign: the difference from zero
+abbrev pub minus_item : Item → Outcome Item
+minus_item a = joined_item written.Sub (literal (literal.number (codes "0"))) a
+
+-- IN, whose operand is the first of the items; and CASE, which no function is with an operand
+abbrev pub listed_item : Bool → List Item → Outcome Item
+listed_item n is = as_item (and_then (function_call standard.InList is) (negated_if n))
+
+abbrev pub chosen_item : Bool → List Item → Outcome Item
+chosen_item true is = refuses NoFunction
+chosen_item false is = as_item (function_call standard.Case is)
 
 -- both bounds are inclusive
 abbrev pub within_bounds : BetweenOptions

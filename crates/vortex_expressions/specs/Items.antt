@@ -1,9 +1,10 @@
 -- Literals without a type yet, and trees; and calls of them.
-use Rattle.std.specs.Prelude.{List, [], ◌∷◌, length, map, Option, Some, None, is_some}
+use Rattle.std.specs.Prelude.{ℕ, List, [], ◌∷◌, length, map, Option, Some, None, is_some}
 use Rattle.std.specs.Prelude.{if◌then◌else◌}
 use Rattle.std.specs.Option.{option_or}
 use Rattle.vortex_errors.specs.declared.error.MismatchPlace.{MismatchPlace}
-use Rattle.vortex_errors.specs.declared.error.VortexError.TheVariants.{TypeMismatch}
+use Rattle.vortex_errors.specs.declared.error.MismatchPlace.TheVariants.{Scalars}
+use Rattle.vortex_errors.specs.declared.error.VortexError.TheVariants.{ArityMismatch, TypeMismatch}
 use Rattle.vortex_types.specs.LogicalTypes.{LogicalType}
 use Rattle.vortex_interface.specs.Meaning.{Meaning, fits}
 use Rattle.vortex_interface.specs.Shipped.{shipped_place}
@@ -12,8 +13,8 @@ use Rattle.vortex_interface.specs.Trees as trees
 use Rattle.vortex_interface.specs.Trees.{constant, call, trees_of}
 use Rattle.vortex_interface.specs.Eval.{tree_type, tree_types, types_or_none}
 use Rattle.vortex_interface.specs.declared.options.EmptyOptions.{EmptyOptions}
-use Rattle.vortex_functions.specs.Fixed.{fixed_meaning}
-use Rattle.vortex_functions.specs.declared.custom.NoCustom.{NoCustom}
+use Rattle.vortex_standard.specs.Standard.{standard_meaning}
+use Rattle.vortex_standard.specs.declared.standard.Standard.{Standard}
 use Rattle.vortex_expressions.specs.declared.item.Item as held
 use Rattle.vortex_expressions.specs.declared.item.Item.TheVariants as variant
 use Rattle.vortex_expressions.specs.declared.refusal.Refusal.TheVariants.{UntypedNull, NotHeld}
@@ -22,15 +23,15 @@ use Rattle.vortex_expressions.specs.Literals.{Literal, literal_in, own_type, typ
 use Rattle.vortex_expressions.specs.Outcomes.{Outcome, answers, refuses, missing, and_then}
 use Rattle.vortex_expressions.specs.Outcomes.{or_refuses}
 
--- trees and functions, without callers' functions
+-- trees and functions, with SQL's
 abbrev pub Tree : Type 0
-Tree = trees.Tree NoCustom EmptyOptions
+Tree = trees.Tree Standard EmptyOptions
 
 abbrev pub Callable : Type 0
-Callable = Function NoCustom EmptyOptions
+Callable = Function Standard EmptyOptions
 
-abbrev pub meaning : Meaning NoCustom EmptyOptions
-meaning = fixed_meaning
+abbrev pub meaning : Meaning Standard EmptyOptions
+meaning = standard_meaning
 
 pub data Item : Type 0 where
   literal : Literal → Item
@@ -74,6 +75,10 @@ all_settled o [] = answers []
 all_settled o (i ∷ is) =
     and_then (settled o i) (λ t. and_then (all_settled o is) (λ ts. answers (t ∷ ts)))
 
+-- the result becomes an item
+abbrev pub as_item : Outcome Tree → Outcome Item
+as_item o = and_then o (λ t. answers (bound t))
+
 -- E3 at that place; a function without one accepts all types
 abbrev pub refused_at : Option MismatchPlace → Outcome Tree
 refused_at None = missing
@@ -81,7 +86,12 @@ refused_at (Some p) = refuses (Binding (TypeMismatch p))
 
 abbrev pub place_of : Callable → List LogicalType → Option MismatchPlace
 place_of (ours f) ts = shipped_place f ts
-place_of (custom f o) ts = None
+place_of (custom f o) ts = Some Scalars
+
+-- a count of trees that does not fit: texts call shipped functions with as many as they take
+abbrev pub unfit : Callable → ℕ → Outcome Tree
+unfit (ours f) n = missing
+unfit (custom f o) n = refuses (Binding (ArityMismatch (function_arity meaning (custom f o)) n))
 
 -- the call of a function on trees of types that it takes
 abbrev pub call_of : Callable → List Tree → Outcome Tree
@@ -89,7 +99,7 @@ call_of f ts =
     if fits (function_arity meaning f) (length ts)
     then (if is_some (tree_type meaning (call f (trees_of ts))) then answers (call f (trees_of ts))
     else refused_at (place_of f (types_or_none (tree_types meaning (trees_of ts)))))
-    else missing
+    else unfit f (length ts)
 
 -- the call on these, whose literals take that type
 abbrev pub called : Callable → Option LogicalType → List Item → Outcome Tree

@@ -1,6 +1,9 @@
 pub mod Literals
 pub mod Outcomes
 pub mod Items
+pub mod Applied
+pub mod TypeNames
+pub mod Casts
 pub mod Calls
 pub mod Binding
 pub mod Stacks

@@ -1,17 +1,20 @@
 -- Steps in postfix order, each over what the steps before it left: the last item first.
-use Rattle.std.specs.Prelude.{List, [], ◌∷◌, true, false, None, Some, map, reverse}
+use Rattle.std.specs.Prelude.{ℕ, List, [], ◌∷◌, true, false, None, Some, map, reverse}
+use Rattle.std.specs.Prelude.{length, take, drop, nat_le, suc, ◌+◌, ◌*◌, Bool}
+use Rattle.std.specs.Prelude.{if◌then◌else◌}
 use Rattle.vortex_types.specs.LogicalTypes.{Fields}
 use Rattle.vortex_syntax.specs.declared.step.Call.{Call}
 use Rattle.vortex_syntax.specs.declared.step.Call.TheVariants as call
 use Rattle.vortex_syntax.specs.Postfix.{Step, operand, negative, typed, cast, escaped, applied}
-use Rattle.vortex_syntax.specs.Postfix.{called}
+use Rattle.vortex_syntax.specs.Postfix.{listed, chosen, called}
 use Rattle.vortex_expressions.specs.declared.item.Item as held
-use Rattle.vortex_expressions.specs.declared.refusal.Refusal.TheVariants.{NoFunction}
-use Rattle.vortex_expressions.specs.Outcomes.{Outcome, answers, refuses, missing, and_then}
+use Rattle.vortex_expressions.specs.Outcomes.{Outcome, answers, missing, and_then}
 use Rattle.vortex_expressions.specs.Items.{Item, item_in, Tree, settled}
 use Rattle.vortex_expressions.specs.Calls.{operand_item, negative_item, typed_item, cast_item}
-use Rattle.vortex_expressions.specs.Calls.{not_item, joined_item, tested_item, between_item}
+use Rattle.vortex_expressions.specs.Calls.{not_item, joined_item, tested_item, distinct_item}
+use Rattle.vortex_expressions.specs.Calls.{between_item, minus_item, listed_item, chosen_item}
 use Rattle.vortex_expressions.specs.Calls.{matched_item}
+use Rattle.vortex_expressions.specs.Applied.{applied_item}
 
 abbrev pub stack_in : List held.Item → List Item
 stack_in is = reverse (map item_in is)
@@ -33,11 +36,26 @@ abbrev pub with_three : (Item → Item → Item → Outcome Item) → List Item 
 with_three f [] = missing
 with_three f (c ∷ st) = with_two (λ a b. f a b c) st
 
+-- so many of the last items, in their order, and what is left; and a call on them
+abbrev pub last_items : ℕ → List Item → Outcome (List Item × List Item)
+last_items n st = if nat_le n (length st) then answers (reverse (take n st), drop n st) else missing
+
+abbrev pub with_last : (List Item → Outcome Item) → ℕ → List Item → Outcome (List Item)
+with_last f n st = and_then (last_items n st) (λ p. pushed p.1 (f p.0))
+
+-- the parts of a CASE: its operand, a condition and a value for each branch, and what follows ELSE
+abbrev pub flag : Bool → ℕ
+flag b = if b then 1 else 0
+
+abbrev pub case_count : Bool → ℕ → Bool → ℕ
+case_count h k e = flag h + 2 * k + flag e
+
 abbrev pub call_made : Call → List Item → Outcome (List Item)
 call_made call.Not = with_one not_item
+call_made call.Minus = with_one minus_item
 call_made (call.Join o) = with_two (joined_item o)
-call_made call.IsNull = with_one (tested_item false)
-call_made call.IsNotNull = with_one (tested_item true)
+call_made (call.Is k n) = with_one (tested_item k n)
+call_made (call.Distinct n) = with_two (distinct_item n)
 call_made (call.Between n) = with_three (between_item n)
 call_made (call.Like k) = with_two (matched_item k None)
 
@@ -48,7 +66,9 @@ module _ (scope : Fields) where
   stepped (typed w n) st = with_one (typed_item w n) st
   stepped (cast w n) st = with_one (cast_item w n) st
   stepped (escaped k e) st = with_two (matched_item k (Some e)) st
-  stepped (applied w n) st = refuses NoFunction
+  stepped (applied w n) st = with_last (applied_item w) n st
+  stepped (listed n k) st = with_last (listed_item n) (suc k) st
+  stepped (chosen h k e) st = with_last (chosen_item h) (case_count h k e) st
   stepped (called c) st = call_made c st
 
   unfoldable pub run : List Step → List Item → Outcome (List Item)

@@ -25,7 +25,7 @@ use Rattle.vortex_interface.specs.Functions.{ours, custom}
 use Rattle.vortex_interface.specs.OptionBytes.{HasCharacters}
 use Rattle.vortex_interface.specs.Eval.{tree_type}
 use Rattle.vortex_interface.specs.declared.options.EmptyOptions.{EmptyOptions}
-use Rattle.vortex_functions.specs.declared.custom.NoCustom.{NoCustom}
+use Rattle.vortex_standard.specs.declared.standard.Standard.{Standard}
 use Rattle.vortex_interface.specs.Trees as trees
 use Rattle.vortex_interface.specs.Trees.{Leaf, place, held, leaf, constant, call, no_trees, tree}
 use Rattle.vortex_syntax.specs.declared.step.WrittenOperator as syntax
@@ -35,12 +35,15 @@ use Rattle.vortex_syntax.specs.declared.token.Sign.{Sign}
 use Rattle.vortex_syntax.specs.declared.token.Sign.TheVariants as sign
 use Rattle.vortex_syntax.specs.Tokens as token
 use Rattle.vortex_syntax.specs.Syntax.{Syntax, operand, negative, typed, grouped, negated, joined}
-use Rattle.vortex_syntax.specs.Syntax.{tested, between, matched, cast}
-use Rattle.vortex_syntax.specs.Levels.{level, left, right, not_level, is_level, sum_level}
-use Rattle.vortex_syntax.specs.Spelling.{spelling}
+use Rattle.vortex_syntax.specs.Syntax.{tested, between, matched, cast, nullary, applied, Arguments}
+use Rattle.vortex_syntax.specs.Syntax.{no_arguments, argument}
+use Rattle.vortex_syntax.specs.Levels.{level, left, right, not_level, is_level, concat_level}
+use Rattle.vortex_syntax.specs.declared.step.Test.TheVariants.{Null}
+use Rattle.vortex_syntax.specs.Spelling.{spelling, test_tokens}
 use Rattle.vortex_syntax.specs.Nesting.{nests}
 use Rattle.vortex_syntax.specs.Writing as tokens
 use Rattle.vortex_syntax.specs.Writing.{name_token, text_token, doubled}
+use Rattle.vortex_standard.specs.Names.{name_of}
 use Rattle.vortex_expressions.specs.Items.{Tree, Callable, meaning}
 
 -- in brackets if it binds less tightly than required there
@@ -115,7 +118,7 @@ is_within o = is_non_strict o.lower_strict && is_non_strict o.upper_strict
 
 abbrev pub between_syntax : Syntax → Syntax → Syntax → Syntax
 between_syntax a low high =
-    between false (at_level sum_level a) (at_level sum_level low) (at_level sum_level high)
+    between false (at_level concat_level a) (at_level concat_level low) (at_level concat_level high)
 
 abbrev pub like_kind : LikeOptions → LikeKind
 like_kind o = record { negated = o.negated; case_insensitive = o.case_insensitive }
@@ -134,7 +137,7 @@ escape_written e = if is_own_escape e then None else Some (doubled 39 (escape_te
 
 abbrev pub matched_syntax : LikeOptions → Syntax → Syntax → Syntax
 matched_syntax o a p =
-    matched (like_kind o) (at_level sum_level a) (at_level sum_level p) (escape_written o.escape)
+    matched (like_kind o) (at_level concat_level a) (at_level concat_level p) (escape_written o.escape)
 
 -- the result for two and for three parts, if all are present
 abbrev pub both : {A B : Type 0} → (A → A → B) → Option A → Option A → Option B
@@ -155,28 +158,44 @@ nth k os = option_and_then (λ o. o) (slice_get os k)
 abbrev pub shipped_syntax : Shipped → List (Option Syntax) → Option Syntax
 shipped_syntax (Binary o) os = both (joined_syntax (written_operator o)) (nth 0 os) (nth 1 os)
 shipped_syntax Not os = option_map (λ a. negated (at_level not_level a)) (nth 0 os)
-shipped_syntax (NullTest n) os = option_map (λ a. tested n (at_level is_level a)) (nth 0 os)
+shipped_syntax (NullTest n) os =
+    option_map (λ a. tested Null n (at_level is_level a)) (nth 0 os)
 shipped_syntax Cast os = option_map (λ a. cast a (codes "bool") true) (nth 0 os)
 shipped_syntax (Between o) os =
     if is_within o then all_three between_syntax (nth 0 os) (nth 1 os) (nth 2 os) else None
 shipped_syntax (Like o) os = both (matched_syntax o) (nth 0 os) (nth 1 os)
 
+-- all of them, if each is present
+abbrev pub all_present : {A : Type 0} → List (Option A) → Option (List A)
+all_present [] = Some []
+all_present (None ∷ os) = None
+all_present (Some a ∷ os) = option_map (λ xs. a ∷ xs) (all_present os)
+
+-- the call of the function of that name, after the arguments before these
+abbrev pub applied_from : List ℕ → Arguments → Syntax → List Syntax → Syntax
+applied_from w args a [] = applied w args a
+applied_from w args a (b ∷ bs) = applied_from w (argument args a) b bs
+
+abbrev pub named_syntax : List ℕ → List Syntax → Syntax
+named_syntax w [] = nullary w
+named_syntax w (a ∷ bs) = applied_from w no_arguments a bs
+
 abbrev pub call_syntax : Callable → List (Option Syntax) → Option Syntax
 call_syntax (ours s) os = shipped_syntax s os
-call_syntax (custom f o) os = None
+call_syntax (custom f o) os = option_map (named_syntax (name_of f)) (all_present os)
 
 abbrev pub leaf_syntax : Leaf → Option Syntax
 leaf_syntax (place p name t) = Some (operand (name_token name))
 leaf_syntax (held c) = None
 
--- the syntax of a tree, if it has one: lists, structs, bytes and callers' functions have none
+-- the syntax of a tree, if it has one: lists, structs and bytes have none
 abbrev mutual
   pub syntax_of : Tree → Option Syntax
   syntax_of (leaf l) = leaf_syntax l
   syntax_of (constant s) = literal_syntax s
   syntax_of (call f ts) = call_syntax f (syntaxes_of ts)
 
-  pub syntaxes_of : trees.Trees NoCustom EmptyOptions → List (Option Syntax)
+  pub syntaxes_of : trees.Trees Standard EmptyOptions → List (Option Syntax)
   syntaxes_of no_trees = []
   syntaxes_of (tree t ts) = syntax_of t ∷ syntaxes_of ts
 
@@ -186,6 +205,10 @@ text_if ts = if nests ts then Some (tokens.written ts) else None
 
 abbrev pub text_of_tree : Tree → Option (List ℕ)
 text_of_tree t = option_and_then (λ a. text_if (spelling a)) (syntax_of t)
+
+-- IS NOT NULL, or IS NULL where the flag is false
+abbrev pub null_test : Bool → List token.Token
+null_test n = test_tokens Null n
 
 -- the escape of a LIKE is a character
 abbrev pub IsCallable : Callable → Type 0
@@ -203,6 +226,6 @@ module _ (scope : Fields) where
     IsOver (call f ts) =
         IsCallable f × (is_some (tree_type meaning (call f ts)) ≡ true) × AllOver ts
 
-    pub AllOver : trees.Trees NoCustom EmptyOptions → Type 0
+    pub AllOver : trees.Trees Standard EmptyOptions → Type 0
     AllOver no_trees = ⊤
     AllOver (tree t ts) = IsOver t × AllOver ts

@@ -13,27 +13,30 @@ use Rattle.vortex_interface.specs.Functions.{ours, custom}
 use Rattle.vortex_interface.specs.Trees as trees
 use Rattle.vortex_interface.specs.Trees.{leaf, constant, call, no_trees}
 use Rattle.vortex_interface.specs.declared.options.EmptyOptions.{EmptyOptions}
-use Rattle.vortex_functions.specs.declared.custom.NoCustom.{NoCustom}
+use Rattle.vortex_standard.specs.declared.standard.Standard.{Standard}
 use Rattle.vortex_syntax.specs.Nesting.{nesting_limit}
 use Rattle.vortex_syntax.specs.declared.step.WrittenOperator as syntax
 use Rattle.vortex_syntax.specs.declared.token.Sign.TheVariants as sign
 use Rattle.vortex_syntax.specs.declared.writing.Writer.{Writer}
-use Rattle.vortex_syntax.specs.Tokens.{Token, nullable, sign}
+use Rattle.vortex_syntax.specs.Tokens.{Token, nullable, function, sign}
 use Rattle.vortex_syntax.specs.Syntax.{Syntax, operand, negative, typed, grouped, negated, joined}
-use Rattle.vortex_syntax.specs.Syntax.{tested, between, matched, cast, nullary, applied, Arguments}
-use Rattle.vortex_syntax.specs.Syntax.{no_arguments, argument}
+use Rattle.vortex_syntax.specs.Syntax.{minus, tested, distinct, between, matched, listed, cast}
+use Rattle.vortex_syntax.specs.Syntax.{chosen, chosen_else, nullary, applied, Arguments}
+use Rattle.vortex_syntax.specs.Syntax.{no_arguments, argument, Branches, without_operand}
+use Rattle.vortex_syntax.specs.Syntax.{of_operand, branch}
 use Rattle.vortex_syntax.specs.Levels.{own, left, right, not_level, is_level, predicate_level}
-use Rattle.vortex_syntax.specs.Levels.{sum_level, atom_level, literal_level}
-use Rattle.vortex_syntax.specs.Spelling.{spelling, operator_sign, null_test, like_sign}
+use Rattle.vortex_syntax.specs.Levels.{concat_level, atom_level, typed_level, literal_level}
+use Rattle.vortex_syntax.specs.Spelling.{spelling, operator_sign, like_sign}
 use Rattle.vortex_syntax.specs.Spelling.{escape_tokens}
 use Rattle.vortex_syntax.specs.Writing.{text_token, Holds}
+use Rattle.vortex_standard.specs.Names.{name_of}
 use Rattle.vortex_expressions.specs.declared.tasks.WriteTask.{WriteTask}
 use Rattle.vortex_expressions.specs.declared.tasks.WriteTask.TheVariants as task
 use Rattle.vortex_expressions.specs.declared.tasks.TreeWriter.{TreeWriter}
 use Rattle.vortex_expressions.specs.Items.{Tree, Callable}
 use Rattle.vortex_expressions.specs.Writing.{at_level, is_own_type, written_operator, is_within}
 use Rattle.vortex_expressions.specs.Writing.{like_kind, escape_text, escape_written, both}
-use Rattle.vortex_expressions.specs.Writing.{all_three}
+use Rattle.vortex_expressions.specs.Writing.{all_three, null_test}
 use Rattle.vortex_expressions.specs.Writing.{syntax_of, leaf_syntax, literal_syntax, value_syntax}
 
 -- the level of a tree's syntax
@@ -50,7 +53,7 @@ function_level (ours s) = shipped_level s
 function_level (custom f o) = atom_level
 
 abbrev pub leaf_level : Tree → ℕ
-leaf_level (constant s) = if is_own_type s.dtype then literal_level else atom_level
+leaf_level (constant s) = if is_own_type s.dtype then literal_level else typed_level
 leaf_level t = atom_level
 
 abbrev pub tree_level : Tree → ℕ
@@ -62,15 +65,24 @@ abbrev mutual
   pub nests_behind : ℕ → Syntax → Bool
   nests_behind d (operand t) = true
   nests_behind d (negative ds) = true
+  nests_behind d (minus a) = nests_behind d a
   nests_behind d (typed a w n) = nests_behind d a
   nests_behind d (grouped a) = nat_lt d nesting_limit && nests_behind (suc d) a
   nests_behind d (negated a) = nests_behind d a
   nests_behind d (joined o a b) = nests_behind d a && nests_behind d b
-  nests_behind d (tested n a) = nests_behind d a
+  nests_behind d (tested k n a) = nests_behind d a
+  nests_behind d (distinct n a b) = nests_behind d a && nests_behind d b
   nests_behind d (between n a low high) =
       nests_behind d a && (nests_behind d low && nests_behind d high)
   nests_behind d (matched k a p e) = nests_behind d a && nests_behind d p
   nests_behind d (cast a w n) = nat_lt d nesting_limit && nests_behind (suc d) a
+  nests_behind d (listed n a args b) =
+      nests_behind d a && (nat_lt d nesting_limit
+      && (all_nest_behind (suc d) args && nests_behind (suc d) b))
+  nests_behind d (chosen bs c v) =
+      branches_nest_behind d bs && (nests_behind d c && nests_behind d v)
+  nests_behind d (chosen_else bs c v e) =
+      branches_nest_behind d bs && (nests_behind d c && (nests_behind d v && nests_behind d e))
   nests_behind d (nullary w) = nat_lt d nesting_limit
   nests_behind d (applied w args a) =
       nat_lt d nesting_limit && (all_nest_behind (suc d) args && nests_behind (suc d) a)
@@ -78,6 +90,12 @@ abbrev mutual
   pub all_nest_behind : ℕ → Arguments → Bool
   all_nest_behind d no_arguments = true
   all_nest_behind d (argument args a) = all_nest_behind d args && nests_behind d a
+
+  pub branches_nest_behind : ℕ → Branches → Bool
+  branches_nest_behind d without_operand = true
+  branches_nest_behind d (of_operand a) = nests_behind d a
+  branches_nest_behind d (branch bs c v) =
+      branches_nest_behind d bs && (nests_behind d c && nests_behind d v)
 
 abbrev pub tokens_behind : ℕ → Syntax → Option (List Token)
 tokens_behind d a = if nests_behind d a then Some (spelling a) else None
@@ -92,6 +110,7 @@ task_in (task.Sign s) = token (sign s)
 task_in (task.Tree t l d) = tree d l t.now
 task_in task.TruthType = token (nullable (codes "bool"))
 task_in (task.Escape e) = token (text_token (escape_text e))
+task_in (task.Function w) = token (function w.now)
 
 abbrev pub tasks_in : TreeWriter → List Part
 tasks_in w = map task_in (reverse w.tasks.items)
@@ -117,13 +136,13 @@ binary_parts d o a b =
 
 abbrev pub between_parts : ℕ → Tree → Tree → Tree → List Part
 between_parts d a low high =
-    tree d sum_level a ∷ token (sign sign.Between)
-    ∷ tree d sum_level low ∷ token (sign sign.And) ∷ tree d sum_level high ∷ []
+    tree d concat_level a ∷ token (sign sign.Between)
+    ∷ tree d concat_level low ∷ token (sign sign.And) ∷ tree d concat_level high ∷ []
 
 abbrev pub like_parts : ℕ → LikeOptions → Tree → Tree → List Part
 like_parts d o a p =
-    tree d sum_level a ∷ (map token (like_sign (like_kind o))
-    ++ (tree d sum_level p ∷ map token (escape_tokens (escape_written o.escape))))
+    tree d concat_level a ∷ (map token (like_sign (like_kind o))
+    ++ (tree d concat_level p ∷ map token (escape_tokens (escape_written o.escape))))
 
 abbrev pub bracket_parts : ℕ → Tree → List Part
 bracket_parts d t = token (sign sign.Open) ∷ tree (suc d) 0 t ∷ token (sign sign.Close) ∷ []
@@ -162,9 +181,22 @@ shipped_plan d Cast ts = cast_plan d ts
 shipped_plan d (Between o) ts = between_plan d o ts
 shipped_plan d (Like o) ts = like_plan d o ts
 
+-- arguments after the first, each after a comma, and the closing bracket
+abbrev pub more_parts : ℕ → List Tree → List Part
+more_parts d [] = token (sign sign.Close) ∷ []
+more_parts d (t ∷ ts) = token (sign sign.Comma) ∷ tree d 0 t ∷ more_parts d ts
+
+abbrev pub argument_parts : ℕ → List Tree → List Part
+argument_parts d [] = more_parts d []
+argument_parts d (t ∷ ts) = tree d 0 t ∷ more_parts d ts
+
+abbrev pub named_plan : ℕ → List ℕ → List Tree → Option (List Part)
+named_plan d w ts =
+    if nat_lt d nesting_limit then Some (token (function w) ∷ argument_parts (suc d) ts) else None
+
 abbrev pub call_plan : ℕ → Callable → List Tree → Option (List Part)
 call_plan d (ours s) ts = shipped_plan d s ts
-call_plan d (custom f o) ts = None
+call_plan d (custom f o) ts = named_plan d (name_of f) ts
 
 abbrev pub bracket_plan : ℕ → Tree → Option (List Part)
 bracket_plan d t = if nat_lt d nesting_limit then Some (bracket_parts d t) else None
@@ -201,7 +233,7 @@ abbrev mutual
   tree_cost (constant s) = 1
   tree_cost (call f ts) = 10 + trees_cost ts
 
-  pub trees_cost : trees.Trees NoCustom EmptyOptions → ℕ
+  pub trees_cost : trees.Trees Standard EmptyOptions → ℕ
   trees_cost no_trees = 0
   trees_cost (trees.tree t ts) = tree_cost t + 4 + trees_cost ts
 

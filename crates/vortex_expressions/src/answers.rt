@@ -20,13 +20,14 @@ use crate::read::bind_steps;
 use crate::refusal::BindStop;
 use std::alloc::Global;
 use vortex_columns::StructFields;
-use vortex_functions::{BoundExpression, NoCustom};
+use vortex_functions::BoundExpression;
+use vortex_standard::Standard;
 use vortex_syntax::{SyntaxAnswer, Token, read_answer_list};
 
 /// A tree, and the name after its `as`, if it has one.
 #[derive(Drop)]
 pub struct Answer {
-    pub tree: BoundExpression<NoCustom>,
+    pub tree: BoundExpression<Standard>,
     pub name: Option<String>,
 }
 

@@ -1,24 +1,29 @@
 //! Binding: the steps of a syntax tree, one after another, over a stack of items.
-ghost use Rattle.std.specs.Prelude.{◌≡◌, [], ◌∷◌, map, option_map, MatchResult};
+ghost use Rattle.std.specs.Prelude.{◌≡◌, ◌<◌, [], ◌∷◌, suc, map, option_map, MatchResult};
+ghost use Rattle.std.specs.Prelude.{MatchOption};
 ghost use Rattle.vortex_types.specs.TypeOf.{struct_fields};
 ghost use Rattle.vortex_syntax.specs.Postfix.{step_in};
 ghost use Rattle.vortex_expressions.specs.declared.refusal.BindStop.TheVariants.{Missing};
 ghost use Rattle.vortex_expressions.specs.Items.{item_in};
 ghost use Rattle.vortex_expressions.specs.Stacks.{stack_in, call_made, stepped, tree_left, left};
-ghost use Rattle.vortex_expressions.specs.Stacks.{with_two};
+ghost use Rattle.vortex_expressions.specs.Stacks.{with_two, last_items, with_last, case_count};
+ghost use Rattle.vortex_expressions.specs.Applied.{applied_item};
 ghost use Rattle.vortex_expressions.specs.Outcomes.{answers};
-ghost use Rattle.vortex_expressions.specs.Calls.{matched_item};
+ghost use Rattle.vortex_expressions.specs.Calls.{matched_item, listed_item, chosen_item};
 ghost use Rattle.vortex_expressions.specs.Answering.{Gives, StopsBy};
 
+use crate::applied::applied_item;
 use crate::calls::{
-    between_item, cast_item, joined_item, matched_item, negative_item, not_item, operand_item,
-    tested_item, typed_item,
+    between_item, chosen_item, distinct_item, joined_item, listed_item, matched_item, minus_item,
+    negative_item, not_item, operand_item, tested_item, typed_item,
 };
+use crate::casts::cast_item;
 use crate::item::Item;
-use crate::refusal::{BindStop, Refusal};
+use crate::refusal::BindStop;
 use std::alloc::Global;
 use vortex_columns::StructFields;
-use vortex_functions::{BoundExpression, NoCustom};
+use vortex_functions::BoundExpression;
+use vortex_standard::Standard;
 use vortex_syntax::{Call, LikeKind, Step};
 
 /// The items left so far, the last item at the end.
@@ -32,6 +37,16 @@ struct Stack {
 pub(crate) struct Stopped {
     pub(crate) step: usize,
     pub(crate) stop: BindStop,
+}
+
+/// How many parts a CASE has; none where that is no `usize`.
+fn part_count(has_operand: bool, count: usize, has_else: bool) -> Option<usize>
+    ensures { MatchOption result (18446744073709551615 < case_count has_operand count has_else)
+        (λ n. n ≡ case_count has_operand count has_else) }
+{
+    let pairs = count.checked_mul(2)?;
+    let with_operand = pairs.checked_add(if has_operand { 1 } else { 0 })?;
+    with_operand.checked_add(if has_else { 1 } else { 0 })
 }
 
 impl Stack {
@@ -75,13 +90,18 @@ impl Stack {
                 let item = self.pop()?;
                 self.push(not_item(alloc, item)?)
             }
-            Call::IsNull => {
+            Call::Minus => {
                 let item = self.pop()?;
-                self.push(tested_item(alloc, false, item)?)
+                self.push(minus_item(alloc, item)?)
             }
-            Call::IsNotNull => {
+            Call::Is(test, negated) => {
                 let item = self.pop()?;
-                self.push(tested_item(alloc, true, item)?)
+                self.push(tested_item(alloc, test, negated, item)?)
+            }
+            Call::Distinct(negated) => {
+                let right = self.pop()?;
+                let left = self.pop()?;
+                self.push(distinct_item(alloc, negated, left, right)?)
             }
             Call::Join(operator) => {
                 let right = self.pop()?;
@@ -95,6 +115,57 @@ impl Stack {
                 self.push(between_item(alloc, negated, item, lower, upper)?)
             }
         }
+    }
+
+    /// So many of the last items, in their order.
+    fn take(&mut self, count: usize) -> Result<Vec<Item>, BindStop>
+        ensures { Gives (λ is. (map item_in is.items, stack_in self.new.items.items)) result
+            (last_items count (stack_in self.old.items.items)) }
+    {
+        match self.items.len().checked_sub(count) {
+            Some(kept) => Ok(self.items.split_off(kept)?),
+            None => Err(BindStop::Missing),
+        }
+    }
+
+    /// The call of the function of that name on so many of the last items.
+    fn apply(&mut self, alloc: Global, name: &[u8], count: usize) -> Result<(), BindStop>
+        ensures { Gives (λ _. stack_in self.new.items.items) result
+            (with_last (applied_item name.now) count (stack_in self.old.items.items)) }
+    {
+        let items = self.take(count)?;
+        self.push(applied_item(alloc, name, items)?)
+    }
+
+    /// IN of an operand and so many items after it, or NOT IN.
+    fn list(&mut self, alloc: Global, negated: bool, count: usize) -> Result<(), BindStop>
+        ensures { Gives (λ _. stack_in self.new.items.items) result
+            (with_last (listed_item negated) (suc count) (stack_in self.old.items.items)) }
+    {
+        let Some(taken) = count.checked_add(1) else {
+            return Err(BindStop::Missing);
+        };
+        let items = self.take(taken)?;
+        self.push(listed_item(alloc, negated, items)?)
+    }
+
+    /// CASE of its parts.
+    fn case(
+        &mut self,
+        alloc: Global,
+        has_operand: bool,
+        count: usize,
+        has_else: bool,
+    ) -> Result<(), BindStop>
+        ensures { Gives (λ _. stack_in self.new.items.items) result
+            (with_last (chosen_item has_operand) (case_count has_operand count has_else)
+            (stack_in self.old.items.items)) }
+    {
+        let Some(taken) = part_count(has_operand, count, has_else) else {
+            return Err(BindStop::Missing);
+        };
+        let items = self.take(taken)?;
+        self.push(chosen_item(alloc, has_operand, items)?)
     }
 
     fn step(&mut self, alloc: Global, scope: &StructFields, step: Step<'_>) -> Result<(), BindStop>
@@ -114,13 +185,17 @@ impl Stack {
                 self.push(cast_item(alloc, name, is_nullable, item)?)
             }
             Step::Escaped(kind, escape) => self.like(alloc, kind, Some(escape)),
-            Step::Apply(_, _) => Err(BindStop::Refused(Refusal::NoFunction)),
+            Step::Apply(name, count) => self.apply(alloc, name, count),
+            Step::In(negated, count) => self.list(alloc, negated, count),
+            Step::Case(has_operand, count, has_else) => {
+                self.case(alloc, has_operand, count, has_else)
+            }
             Step::Call(call) => self.call(alloc, call),
         }
     }
 
     /// The only tree that is left.
-    fn finish(mut self, alloc: Global) -> Result<BoundExpression<NoCustom>, BindStop>
+    fn finish(mut self, alloc: Global) -> Result<BoundExpression<Standard>, BindStop>
         ensures { Gives (λ t. t) result (left (stack_in self.items.items)) }
     {
         let item = self.pop()?;
@@ -136,7 +211,7 @@ pub(crate) fn bind(
     alloc: Global,
     scope: &StructFields,
     steps: &[Step<'_>],
-) -> Result<BoundExpression<NoCustom>, Stopped>
+) -> Result<BoundExpression<Standard>, Stopped>
     ensures { MatchResult result
         (λ t. tree_left (struct_fields scope.now) (map step_in steps.now) ≡ answers t)
         (λ s. StopsBy (tree_left (struct_fields scope.now) (map step_in steps.now)) s.stop) }

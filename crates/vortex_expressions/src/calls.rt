@@ -2,23 +2,27 @@
 ghost use Rattle.std.specs.Prelude.{◌≡◌, map, option_map};
 ghost use Rattle.vortex_errors.specs.Answers.{AnswersUnlessMemory};
 ghost use Rattle.vortex_types.specs.TypeOf.{type_of, struct_fields};
+ghost use Rattle.vortex_functions.specs.FunctionOf.{function_of};
+ghost use Rattle.vortex_syntax.specs.declared.step.Test.TheVariants.{Null};
 ghost use Rattle.vortex_syntax.specs.Tokens.{token_in};
 ghost use Rattle.vortex_expressions.specs.Calls as specs;
 ghost use Rattle.vortex_expressions.specs.Items.{item_in};
 ghost use Rattle.vortex_expressions.specs.Literals.{literal_in};
 ghost use Rattle.vortex_expressions.specs.Answering.{Gives};
 
+use crate::applied::{callable, function_call};
+use crate::casts::type_of_name;
 use crate::item::{Item, called, common_type, constant_at};
 use crate::literal::Literal;
 use crate::quotes::{between_quotes, text_of};
 use crate::refusal::{BindStop, Refusal};
 use std::alloc::Global;
 use vortex_cells::escapes;
-use vortex_cells::types::type_named;
 use vortex_columns::{DType, Nullability, StructFields, VortexResult};
-use vortex_functions::{BoundExpression, LikeOptions, NoCustom, ScalarFnRef};
+use vortex_functions::{BoundExpression, LikeOptions, ScalarFnRef};
 use vortex_operators::{BetweenOptions, Operator, StrictComparison};
-use vortex_syntax::{LikeKind, Sign, Token, WrittenOperator as Written};
+use vortex_standard::{Standard, TruthTest};
+use vortex_syntax::{LikeKind, Sign, Test, Token, WrittenOperator as Written};
 
 /// The column of that name.
 fn column_of(alloc: Global, scope: &StructFields, name: &str) -> Result<Item, BindStop>
@@ -79,22 +83,6 @@ pub(crate) fn negative_item(alloc: Global, digits: &[u8]) -> Result<Item, BindSt
     Ok(Item::Literal(Literal::Number(word)))
 }
 
-/// The type of that name.
-fn type_of_name(alloc: Global, name: &[u8], is_nullable: bool) -> Result<DType, BindStop>
-    ensures { Gives (λ t. type_of t) result (specs.type_of_name name.now is_nullable) }
-{
-    let name = text_of(alloc, name)?;
-    let nullability = if is_nullable {
-        Nullability::Nullable
-    } else {
-        Nullability::NonNullable
-    };
-    match type_named(name.as_str(), nullability) {
-        Some(dtype) => Ok(dtype),
-        None => Err(BindStop::Refused(Refusal::UnknownType)),
-    }
-}
-
 /// A literal of the type of that name.
 pub(crate) fn typed_item(
     alloc: Global,
@@ -113,45 +101,25 @@ pub(crate) fn typed_item(
     }
 }
 
-/// The only cast: of a truth value, to the nullable type.
-fn cast_to(alloc: Global, item: Item, dtype: &DType) -> Result<BoundExpression<NoCustom>, BindStop>
-    ensures { Gives (λ t. t) result (specs.cast_to (item_in item) (type_of dtype.now)) }
-{
-    if dtype.is_boolean() && dtype.is_nullable() {
-        called(alloc, ScalarFnRef::Cast, Some(dtype), vec![in alloc; item]?)
-    } else {
-        Err(BindStop::Refused(Refusal::NoCast))
-    }
-}
-
-pub(crate) fn cast_item(
-    alloc: Global,
-    name: &[u8],
-    is_nullable: bool,
-    item: Item,
-) -> Result<Item, BindStop>
-    ensures { Gives item_in result (specs.cast_item name.now is_nullable (item_in item)) }
-{
-    let dtype = type_of_name(alloc, name, is_nullable)?;
-    Ok(Item::Bound(cast_to(alloc, item, &dtype)?))
-}
-
-fn operator_of(written: Written) -> Operator
-    ensures { result ≡ specs.operator_of written }
+/// The function that an operator is.
+fn written_function(written: Written) -> ScalarFnRef<Standard>
+    ensures { function_of result ≡ specs.written_function written }
 {
     match written {
-        Written::Or => Operator::Or,
-        Written::And => Operator::And,
-        Written::Equal => Operator::Eq,
-        Written::NotEqual => Operator::NotEq,
-        Written::Less => Operator::Lt,
-        Written::LessOrEqual => Operator::Lte,
-        Written::Greater => Operator::Gt,
-        Written::GreaterOrEqual => Operator::Gte,
-        Written::Add => Operator::Add,
-        Written::Sub => Operator::Sub,
-        Written::Mul => Operator::Mul,
-        Written::Div => Operator::Div,
+        Written::Or => ScalarFnRef::Binary(Operator::Or),
+        Written::And => ScalarFnRef::Binary(Operator::And),
+        Written::Equal => ScalarFnRef::Binary(Operator::Eq),
+        Written::NotEqual => ScalarFnRef::Binary(Operator::NotEq),
+        Written::Less => ScalarFnRef::Binary(Operator::Lt),
+        Written::LessOrEqual => ScalarFnRef::Binary(Operator::Lte),
+        Written::Greater => ScalarFnRef::Binary(Operator::Gt),
+        Written::GreaterOrEqual => ScalarFnRef::Binary(Operator::Gte),
+        Written::Add => ScalarFnRef::Binary(Operator::Add),
+        Written::Sub => ScalarFnRef::Binary(Operator::Sub),
+        Written::Mul => ScalarFnRef::Binary(Operator::Mul),
+        Written::Div => ScalarFnRef::Binary(Operator::Div),
+        Written::Mod => callable(Standard::Remainder),
+        Written::Concat => callable(Standard::Concat),
     }
 }
 
@@ -170,8 +138,8 @@ fn joined_type(alloc: Global, written: Written, items: &[Item]) -> VortexResult<
 fn negated_if(
     alloc: Global,
     negated: bool,
-    tree: BoundExpression<NoCustom>,
-) -> Result<BoundExpression<NoCustom>, BindStop>
+    tree: BoundExpression<Standard>,
+) -> Result<BoundExpression<Standard>, BindStop>
     ensures { Gives (λ t. t) result (specs.negated_if negated tree) }
 {
     if negated {
@@ -204,12 +172,13 @@ pub(crate) fn joined_item(
 {
     let items = vec![in alloc; left, right]?;
     let dtype = joined_type(alloc, written, &items)?;
-    let function = ScalarFnRef::Binary(operator_of(written));
-    Ok(Item::Bound(called(alloc, function, dtype.as_ref(), items)?))
+    let tree = called(alloc, written_function(written), dtype.as_ref(), items)?;
+    Ok(Item::Bound(tree))
 }
 
-pub(crate) fn tested_item(alloc: Global, negated: bool, item: Item) -> Result<Item, BindStop>
-    ensures { Gives item_in result (specs.tested_item negated (item_in item)) }
+/// IS NULL, or IS NOT NULL.
+fn null_item(alloc: Global, negated: bool, item: Item) -> Result<Item, BindStop>
+    ensures { Gives item_in result (specs.tested_item Null negated (item_in item)) }
 {
     let function = if negated {
         ScalarFnRef::IsNotNull
@@ -220,8 +189,99 @@ pub(crate) fn tested_item(alloc: Global, negated: bool, item: Item) -> Result<It
     Ok(Item::Bound(tree))
 }
 
+/// A test of a truth value, negated if the flag is true; null is a truth value here.
+fn truth_test(
+    alloc: Global,
+    function: Standard,
+    negated: bool,
+    item: Item,
+) -> Result<Item, BindStop>
+    ensures { Gives item_in result (specs.truth_test function negated (item_in item)) }
+{
+    let truth = DType::Bool(Nullability::NonNullable);
+    let tree = called(
+        alloc,
+        callable(function),
+        Some(&truth),
+        vec![in alloc; item]?,
+    )?;
+    Ok(Item::Bound(negated_if(alloc, negated, tree)?))
+}
+
+/// IS of a test, or IS NOT.
+pub(crate) fn tested_item(
+    alloc: Global,
+    test: Test,
+    negated: bool,
+    item: Item,
+) -> Result<Item, BindStop>
+    ensures { Gives item_in result (specs.tested_item test negated (item_in item)) }
+{
+    match test {
+        Test::Null => null_item(alloc, negated, item),
+        Test::True => truth_test(alloc, Standard::TruthTest(TruthTest::IsTrue), negated, item),
+        Test::False => truth_test(
+            alloc,
+            Standard::TruthTest(TruthTest::IsFalse),
+            negated,
+            item,
+        ),
+        Test::Unknown => {
+            truth_test(
+                alloc,
+                Standard::TruthTest(TruthTest::IsUnknown),
+                negated,
+                item,
+            )
+        }
+    }
+}
+
+/// IS DISTINCT FROM, or IS NOT DISTINCT FROM.
+pub(crate) fn distinct_item(
+    alloc: Global,
+    negated: bool,
+    left: Item,
+    right: Item,
+) -> Result<Item, BindStop>
+    ensures { Gives item_in result (specs.distinct_item negated (item_in left) (item_in right)) }
+{
+    let tree = function_call(alloc, Standard::IsDistinct, vec![in alloc; left, right]?)?;
+    Ok(Item::Bound(negated_if(alloc, negated, tree)?))
+}
+
+/// A minus sign: the difference from zero.
+pub(crate) fn minus_item(alloc: Global, item: Item) -> Result<Item, BindStop>
+    ensures { Gives item_in result (specs.minus_item (item_in item)) }
+{
+    let zero = Item::Literal(Literal::Number(String::from_str(alloc, "0")?));
+    joined_item(alloc, Written::Sub, zero, item)
+}
+
+/// IN, whose operand is the first of the items, or NOT IN.
+pub(crate) fn listed_item(alloc: Global, negated: bool, items: Vec<Item>) -> Result<Item, BindStop>
+    ensures { Gives item_in result (specs.listed_item negated (map item_in items.items)) }
+{
+    let tree = function_call(alloc, Standard::InList, items)?;
+    Ok(Item::Bound(negated_if(alloc, negated, tree)?))
+}
+
+/// CASE of conditions with their values; one with an operand is refused.
+pub(crate) fn chosen_item(
+    alloc: Global,
+    has_operand: bool,
+    items: Vec<Item>,
+) -> Result<Item, BindStop>
+    ensures { Gives item_in result (specs.chosen_item has_operand (map item_in items.items)) }
+{
+    if has_operand {
+        return Err(BindStop::Refused(Refusal::NoFunction));
+    }
+    Ok(Item::Bound(function_call(alloc, Standard::Case, items)?))
+}
+
 /// BETWEEN, with inclusive bounds.
-fn between(alloc: Global, items: Vec<Item>) -> Result<BoundExpression<NoCustom>, BindStop>
+fn between(alloc: Global, items: Vec<Item>) -> Result<BoundExpression<Standard>, BindStop>
     ensures { Gives (λ t. t) result
         (specs.between_all (map item_in items.items)) }
 {

@@ -4,10 +4,11 @@ use std::alloc::Global;
 use std::str;
 use strsim::osa_distance;
 use vortex_columns::VortexResult;
-use vortex_syntax::Step;
+use vortex_standard::{FUNCTIONS, Kind, Standard, Takes, TruthTest, named};
+use vortex_syntax::{Call, Step, WrittenOperator};
 
 /// Names by which other languages call what has no form of a call here, and how it is written.
-const FORMS: [(&str, &str); 11] = [
+const FORMS: [(&str, &str); 9] = [
     ("isnull", "a is null"),
     ("is_null", "a is null"),
     ("isnotnull", "a is not null"),
@@ -17,37 +18,124 @@ const FORMS: [(&str, &str); 11] = [
     ("subtract", "a - b"),
     ("multiply", "a * b"),
     ("divide", "a / b"),
-    ("try_cast", "cast(a as bool?)"),
-    ("convert", "cast(a as bool?)"),
 ];
 
-/// The name that differs from this one by one letter at most, and its form.
-fn nearest_form(alloc: Global, name: &str) -> VortexResult<Option<(&'static str, &'static str)>> {
+/// The form of what has that name in other languages, or one that differs by one letter.
+fn form_of(alloc: Global, name: &str) -> VortexResult<Option<&'static str>> {
     if name.len() > LIKENED {
         return Ok(None);
     }
-    let mut found = None;
     for (word, form) in FORMS {
-        if name.eq_ignore_ascii_case(word) {
-            return Ok(Some((word, form)));
+        let is_near = word.len() > 3 && osa_distance(alloc, name, word)? == 1;
+        if is_near || name.eq_ignore_ascii_case(word) {
+            return Ok(Some(form));
         }
-        if word.len() > 3 && osa_distance(alloc, name, word)? == 1 {
-            found = Some((word, form));
+    }
+    Ok(None)
+}
+
+/// The function whose name is most like this one, if it differs by no more than two letters, and by
+/// less than half of them.
+fn nearest_function(alloc: Global, name: &str) -> VortexResult<Option<&'static str>> {
+    if name.len() > LIKENED {
+        return Ok(None);
+    }
+    let lower = name.to_ascii_lowercase(alloc)?;
+    let mut least = 3.min(name.len().div_ceil(2));
+    let mut found = None;
+    for function in FUNCTIONS {
+        let other = function.name();
+        let distance = osa_distance(alloc, lower.as_str(), other)?;
+        if distance < least {
+            least = distance;
+            found = Some(other);
         }
     }
     Ok(found)
 }
 
-/// The function that is not there, and how it is written instead if it has no form of a call.
+/// The name in a step that calls a function.
+fn called_name<'a>(step: Option<&Step<'a>>) -> &'a [u8] {
+    match step {
+        Some(Step::Apply(name, _)) => *name,
+        _ => b"",
+    }
+}
+
+/// The function that there is not, and the one that may be meant, or how it is written.
 pub(crate) fn function_text(alloc: Global, step: Option<&Step<'_>>) -> VortexResult<String> {
-    let written = match step {
-        Some(Step::Apply(name, _)) => str::from_utf8(*name).unwrap_or(""),
-        _ => "",
-    };
-    match nearest_form(alloc, written)? {
-        Some((_, form)) => Ok(format!(in alloc; "no function {written:?}; write {form}")?),
-        None => Ok(format!(in alloc;
-            "no function {written:?}; there are operators, tests and cast alone"
-        )?),
+    if let Some(Step::Case(_, _, _)) = step {
+        let text = "case takes conditions alone: write case when a = x then .. end";
+        return Ok(String::from_str(alloc, text)?);
+    }
+    let written = str::from_utf8(called_name(step)).unwrap_or("");
+    if let Some(form) = form_of(alloc, written)? {
+        return Ok(format!(in alloc; "no function {written:?}; write {form}")?);
+    }
+    match nearest_function(alloc, written)? {
+        Some(other) => Ok(format!(in alloc; "no function {written:?}; is {other} meant?")?),
+        None => Ok(format!(in alloc; "no function {written:?}")?),
+    }
+}
+
+fn kind_text(kind: Kind) -> &'static str {
+    match kind {
+        Kind::Any => "a value",
+        Kind::Truth => "a truth value",
+        Kind::Integer => "an integer",
+        Kind::Within(_) => "an integer of a type that the other holds",
+        Kind::Text => "a text",
+    }
+}
+
+fn kinds_text(kind: Kind) -> &'static str {
+    match kind {
+        Kind::Any => "values of one type",
+        Kind::Truth => "truth values",
+        Kind::Integer => "integers of one type",
+        Kind::Within(_) => "an integer of a type that the other holds",
+        Kind::Text => "texts",
+    }
+}
+
+/// What a function accepts.
+fn push_taken(out: &mut String, takes: Takes, count: usize) -> VortexResult<()> {
+    match takes {
+        Takes::Alike(kind) if count == 1 => out.push_str(kind_text(kind))?,
+        Takes::Alike(kind) => out.push_str(kinds_text(kind))?,
+        Takes::Each(first, second, further) => {
+            for (place, kind) in [first, second, further].iter().enumerate().take(count) {
+                out.push_str(if place == 0 { "" } else { ", " })?;
+                out.push_str(kind_text(*kind))?;
+            }
+        }
+        Takes::Cases => out.push_str("conditions, each with a value, and values of one type")?,
+    }
+    Ok(())
+}
+
+/// The function of SQL that a step calls.
+fn function_in(step: Option<&Step<'_>>) -> Option<Standard> {
+    match step {
+        Some(Step::Apply(name, _)) => named(*name),
+        Some(Step::Call(Call::Is(_, _))) => Some(Standard::TruthTest(TruthTest::IsTrue)),
+        Some(Step::Call(Call::Distinct(_))) => Some(Standard::IsDistinct),
+        Some(Step::In(_, _)) => Some(Standard::InList),
+        Some(Step::Case(_, _, _)) => Some(Standard::Case),
+        Some(Step::Call(Call::Join(WrittenOperator::Mod))) => Some(Standard::Remainder),
+        Some(Step::Call(Call::Join(WrittenOperator::Concat))) => Some(Standard::Concat),
+        _ => None,
+    }
+}
+
+/// What the function that a step calls accepts of so many arguments.
+pub(crate) fn push_accepted(
+    out: &mut String,
+    step: Option<&Step<'_>>,
+    count: usize,
+) -> VortexResult<()> {
+    match function_in(step) {
+        Some(function) => push_taken(out, function.takes(), count),
+        None => Ok(out.push_str("other types")?),
     }
 }

@@ -1,5 +1,5 @@
 //! Literals without a type yet, and trees; and calls of them.
-ghost use Rattle.std.specs.Prelude.{◌≡◌, map, option_map, None};
+ghost use Rattle.std.specs.Prelude.{◌≡◌, map, option_map, is_some, None, true};
 ghost use Rattle.vortex_errors.specs.Answers.{AnswersUnlessMemory};
 ghost use Rattle.vortex_types.specs.TypeOf.{type_of};
 ghost use Rattle.vortex_functions.specs.FunctionOf.{function_of, instance_in};
@@ -12,14 +12,15 @@ ghost use Rattle.vortex_expressions.specs.Answering.{Gives};
 use crate::literal::Literal;
 use crate::refusal::{BindStop, Refusal};
 use std::alloc::Global;
-use vortex_columns::{DType, VortexError, VortexResult};
-use vortex_functions::{BoundExpression, NoCustom, ScalarFnRef};
+use vortex_columns::{DType, MismatchPlace, VortexError, VortexResult};
+use vortex_functions::{BoundExpression, ScalarFnRef};
+use vortex_standard::Standard;
 
 /// A literal without a type yet, or a tree.
 #[derive(Drop)]
 pub(crate) enum Item {
     Literal(Literal),
-    Bound(BoundExpression<NoCustom>),
+    Bound(BoundExpression<Standard>),
 }
 
 /// The literal of that type.
@@ -27,7 +28,7 @@ pub(crate) fn constant_at(
     alloc: Global,
     literal: &Literal,
     dtype: DType,
-) -> Result<BoundExpression<NoCustom>, BindStop>
+) -> Result<BoundExpression<Standard>, BindStop>
     ensures { Gives (λ t. t) result (constant_at (literal_in literal.now) (type_of dtype)) }
 {
     match literal.value_at(alloc, dtype)? {
@@ -38,7 +39,7 @@ pub(crate) fn constant_at(
 
 impl Item {
     /// The type of a tree.
-    fn bound_type(&self) -> Option<&DType>
+    pub(crate) fn bound_type(&self) -> Option<&DType>
         ensures { option_map (λ t. type_of t.now) result ≡ bound_type (item_in self.now) }
     {
         match self {
@@ -48,7 +49,7 @@ impl Item {
     }
 
     /// The default type of a literal.
-    fn literal_type(&self) -> Option<DType>
+    pub(crate) fn literal_type(&self) -> Option<DType>
         ensures { option_map (λ t. type_of t) result ≡ literal_type (item_in self.now) }
     {
         match self {
@@ -62,7 +63,7 @@ impl Item {
         self,
         alloc: Global,
         beside: Option<&DType>,
-    ) -> Result<BoundExpression<NoCustom>, BindStop>
+    ) -> Result<BoundExpression<Standard>, BindStop>
         ensures { Gives (λ t. t) result
             (settled (option_map (λ t. type_of t.now) beside.entry) (item_in self)) }
     {
@@ -78,7 +79,7 @@ impl Item {
 }
 
 /// The type of the first tree.
-fn first_bound_type(alloc: Global, items: &[Item]) -> VortexResult<Option<DType>>
+pub(crate) fn first_bound_type(alloc: Global, items: &[Item]) -> VortexResult<Option<DType>>
     ensures { AnswersUnlessMemory result (λ t. option_map (λ t. type_of t) t
         ≡ first_some (map bound_type (map item_in items.now))) }
 {
@@ -91,7 +92,7 @@ fn first_bound_type(alloc: Global, items: &[Item]) -> VortexResult<Option<DType>
 }
 
 /// The type of the first literal with a default type.
-fn first_literal_type(items: &[Item]) -> Option<DType>
+pub(crate) fn first_literal_type(items: &[Item]) -> Option<DType>
     ensures { option_map (λ t. type_of t) result
         ≡ first_some (map literal_type (map item_in items.now)) }
 {
@@ -119,7 +120,7 @@ fn settle_all(
     alloc: Global,
     beside: Option<&DType>,
     items: Vec<Item>,
-) -> Result<Vec<BoundExpression<NoCustom>>, BindStop>
+) -> Result<Vec<BoundExpression<Standard>>, BindStop>
     ensures { Gives (λ ts. ts.items) result
         (all_settled (option_map (λ t. type_of t.now) beside.entry) (map item_in items.items)) }
 {
@@ -130,12 +131,12 @@ fn settle_all(
     Ok(trees)
 }
 
-/// The call of a function on trees; requires that it is no caller's function.
-fn call_of(
+/// The call of a shipped function on trees.
+fn shipped_call(
     alloc: Global,
-    function: ScalarFnRef<NoCustom>,
-    trees: Vec<BoundExpression<NoCustom>>,
-) -> Result<BoundExpression<NoCustom>, BindStop>
+    function: ScalarFnRef<Standard>,
+    trees: Vec<BoundExpression<Standard>>,
+) -> Result<BoundExpression<Standard>, BindStop>
     requires { instance_in function ≡ None }
     ensures { Gives (λ t. t) result (call_of (function_of function) trees.items) }
 {
@@ -146,14 +147,46 @@ fn call_of(
     }
 }
 
+/// The call of one of SQL's functions on trees. Which of its arguments has another type is not told.
+fn named_call(
+    alloc: Global,
+    function: ScalarFnRef<Standard>,
+    trees: Vec<BoundExpression<Standard>>,
+) -> Result<BoundExpression<Standard>, BindStop>
+    requires { is_some (instance_in function) ≡ true }
+    ensures { Gives (λ t. t) result (call_of (function_of function) trees.items) }
+{
+    match BoundExpression::try_new(alloc, function, trees) {
+        Ok(tree) => Ok(tree),
+        Err(VortexError::TypeMismatch(_)) => Err(BindStop::Refused(Refusal::Binding(
+            VortexError::TypeMismatch(MismatchPlace::Scalars),
+        ))),
+        Err(error) => Err(BindStop::Refused(Refusal::Binding(error))),
+    }
+}
+
+/// The call of a function on trees.
+pub(crate) fn call_of(
+    alloc: Global,
+    function: ScalarFnRef<Standard>,
+    trees: Vec<BoundExpression<Standard>>,
+) -> Result<BoundExpression<Standard>, BindStop>
+    ensures { Gives (λ t. t) result (call_of (function_of function) trees.items) }
+{
+    if function.as_custom().is_some() {
+        named_call(alloc, function, trees)
+    } else {
+        shipped_call(alloc, function, trees)
+    }
+}
+
 /// The call of a function on items, whose literals take that type.
 pub(crate) fn called(
     alloc: Global,
-    function: ScalarFnRef<NoCustom>,
+    function: ScalarFnRef<Standard>,
     beside: Option<&DType>,
     items: Vec<Item>,
-) -> Result<BoundExpression<NoCustom>, BindStop>
-    requires { instance_in function ≡ None }
+) -> Result<BoundExpression<Standard>, BindStop>
     ensures { Gives (λ t. t) result (called (function_of function)
         (option_map (λ t. type_of t.now) beside.entry) (map item_in items.items)) }
 {

@@ -2,8 +2,10 @@
 #![tactic(auto)]
 
 pub mod answers;
+mod applied;
 mod binder;
 mod calls;
+mod casts;
 pub mod error;
 mod forms;
 mod item;

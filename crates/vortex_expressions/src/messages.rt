@@ -4,7 +4,7 @@ ghost use Rattle.vortex_expressions.specs.Reading.{is_want_of_memory, ToldAt, Un
 
 use crate::binder::{Stopped, operands};
 use crate::error::{Reason, TextError};
-use crate::forms::function_text;
+use crate::forms::{function_text, push_accepted};
 use crate::item::{Item, common_type};
 use crate::item_texts::{is_fraction, push_fraction, push_literal, push_types};
 use crate::quotes::unquoted;
@@ -157,7 +157,12 @@ fn operand_count(step: Option<&Step<'_>>) -> usize {
     match step {
         Some(Step::Operand(_)) | Some(Step::Negative(_)) => 0,
         Some(Step::Apply(_, count)) => *count,
-        Some(Step::Call(Call::Join(_))) | Some(Step::Call(Call::Like(_))) => 2,
+        Some(Step::In(_, count)) => count.saturating_add(1),
+        Some(Step::Case(has_operand, count, has_else)) => {
+            let pairs = count.saturating_mul(2);
+            pairs.saturating_add(*has_operand as usize + *has_else as usize)
+        }
+        Some(Step::Call(Call::Join(_) | Call::Like(_) | Call::Distinct(_))) => 2,
         Some(Step::Escaped(_, _)) => 2,
         Some(Step::Call(Call::Between(_))) => 3,
         _ => 1,
@@ -290,6 +295,18 @@ impl<'a> TextFailure<'a> {
         Ok(out)
     }
 
+    /// That the function does not accept these types.
+    fn arguments_text(&self) -> VortexResult<String> {
+        let alloc = self.alloc;
+        let items = self.items()?;
+        let found = found_at(self.text, self.byte);
+        let mut out = format!(in alloc; "E3 Scalars: {found} takes ")?;
+        push_accepted(&mut out, self.tree.steps.get(self.step), items.len())?;
+        out.push_str(", not ")?;
+        push_types(&mut out, &items)?;
+        Ok(out)
+    }
+
     fn held_text(&self) -> VortexResult<String> {
         let mut out = String::new(self.alloc);
         let items = self.items()?;
@@ -303,7 +320,14 @@ impl<'a> TextFailure<'a> {
     fn binding_text(&self, error: &VortexError) -> VortexResult<String> {
         let alloc = self.alloc;
         match error {
+            VortexError::TypeMismatch(MismatchPlace::Scalars) => self.arguments_text(),
             VortexError::TypeMismatch(place) => self.types_text(*place),
+            VortexError::ArityMismatch { arity, given } => {
+                let found = found_at(self.text, self.byte);
+                Ok(format!(in alloc;
+                    "E6 ArityMismatch: {found} takes {arity} arguments, not {given}"
+                )?)
+            }
             VortexError::ScopeMismatch => {
                 column_text(alloc, self.scope, self.tree.steps.get(self.step))
             }
@@ -329,7 +353,7 @@ impl<'a> TextFailure<'a> {
             Refusal::NotUtf8 => "a text is not UTF-8",
             Refusal::UntypedNull => "null has no type here; give it one, as null::i64?",
             Refusal::NoEscape => "an escape is one character, or none",
-            Refusal::NoCast => "a cast leads from a truth value to bool? alone",
+            Refusal::NoCast => "no cast leads from that type to this one",
         };
         Ok(String::from_str(alloc, text)?)
     }

@@ -13,7 +13,8 @@ use crate::error::TextError;
 use crate::messages::unread;
 use std::alloc::Global;
 use vortex_columns::StructFields;
-use vortex_functions::{BoundExpression, NoCustom};
+use vortex_functions::BoundExpression;
+use vortex_standard::Standard;
 use vortex_syntax::{SyntaxTree, read_syntax};
 
 /// The tree that the steps of a text leave, or why they leave none.
@@ -22,7 +23,7 @@ pub(crate) fn bind_steps(
     scope: &StructFields,
     text: &str,
     tree: &SyntaxTree<'_>,
-) -> Result<BoundExpression<NoCustom>, TextError>
+) -> Result<BoundExpression<Standard>, TextError>
     ensures { Bound (struct_fields scope.now) tree.now.steps.items result }
 {
     match bind(alloc, scope, &tree.steps) {
@@ -37,7 +38,7 @@ pub fn read_expression(
     alloc: Global,
     scope: &StructFields,
     text: &str,
-) -> Result<BoundExpression<NoCustom>, TextError>
+) -> Result<BoundExpression<Standard>, TextError>
     // The result is the meaning of the text.
     ensures found { IfOk result (λ tree. Expresses (struct_fields scope.now) text.now tree) }
     // The meaning of the text is returned.

@@ -14,9 +14,10 @@ ghost use Rattle.vortex_expressions.specs.WritingSteps.{Pushes, PushesIf, column
 
 use std::alloc::Global;
 use vortex_columns::{DType, PType, Scalar, ScalarValue, VortexResult};
-use vortex_functions::{BoundExpression, NoCustom, ScalarFnRef};
+use vortex_functions::{BoundExpression, ScalarFnRef};
 use vortex_operators::{BetweenOptions, Operator, StrictComparison};
-use vortex_syntax::levels::{ATOM, IS, LITERAL, NOT, PREDICATE, own};
+use vortex_standard::Standard;
+use vortex_syntax::levels::{ATOM, IS, LITERAL, NOT, PREDICATE, TYPED, own};
 use vortex_syntax::{Sign, Writer, WrittenOperator as Written};
 
 /// The operator as written.
@@ -56,6 +57,8 @@ pub(crate) fn operator_sign(operator: Written) -> Sign
         Written::Sub => Sign::Minus,
         Written::Mul => Sign::Times,
         Written::Div => Sign::Divide,
+        Written::Mod => Sign::Modulo,
+        Written::Concat => Sign::Concat,
     }
 }
 
@@ -125,7 +128,7 @@ fn is_own_type(dtype: &DType) -> bool
     }
 }
 
-fn function_level(function: &ScalarFnRef<NoCustom>) -> u8
+fn function_level(function: &ScalarFnRef<Standard>) -> u8
     ensures { result ≡ steps.function_level (function_of function.now) }
 {
     match function {
@@ -140,21 +143,21 @@ fn function_level(function: &ScalarFnRef<NoCustom>) -> u8
     }
 }
 
-fn leaf_level(tree: &BoundExpression<NoCustom>) -> u8
+fn leaf_level(tree: &BoundExpression<Standard>) -> u8
     ensures { result ≡ steps.leaf_level tree.now }
 {
     match tree.as_literal() {
         Some(scalar) => if is_own_type(scalar.dtype()) {
             LITERAL
         } else {
-            ATOM
+            TYPED
         },
         None => ATOM,
     }
 }
 
 /// How tightly a tree binds.
-pub(crate) fn tree_level(tree: &BoundExpression<NoCustom>) -> u8
+pub(crate) fn tree_level(tree: &BoundExpression<Standard>) -> u8
     ensures { result ≡ steps.tree_level tree.now }
 {
     match tree.as_scalar() {
@@ -267,7 +270,7 @@ fn name_in(text: &str) -> Option<&str>
 pub(crate) fn write_column(
     writer: &mut Writer,
     alloc: Global,
-    tree: &BoundExpression<NoCustom>,
+    tree: &BoundExpression<Standard>,
 ) -> VortexResult<bool>
     ensures { AnswersUnlessMemory result
         (PushesIf (column_tokens tree.now) writer.old writer.new) }

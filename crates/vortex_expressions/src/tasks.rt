@@ -3,9 +3,11 @@ ghost use Rattle.std.specs.Prelude.{◌≡◌, ◌∷◌, [], ◌++◌, map, Mat
 ghost use Rattle.std.specs.Prelude.{Some, None};
 ghost use Rattle.vortex_errors.specs.Answers.{AnswersUnlessMemory};
 ghost use Rattle.vortex_functions.specs.FunctionOf.{function_of};
-ghost use Rattle.vortex_syntax.specs.Spelling.{escape_tokens, like_sign, null_test};
+ghost use Rattle.vortex_syntax.specs.Spelling.{escape_tokens, like_sign};
 ghost use Rattle.vortex_syntax.specs.Writing.{Holds, text_token};
 ghost use Rattle.vortex_expressions.specs.Writing.{escape_written, escape_text, like_kind};
+ghost use Rattle.vortex_expressions.specs.Writing.{null_test};
+ghost use Rattle.vortex_standard.specs.Names.{name_of};
 ghost use Rattle.vortex_expressions.specs.WritingSteps as steps;
 ghost use Rattle.vortex_expressions.specs.WritingSteps.{task_in, tasks_in, token, Plans, Pushes};
 ghost use Rattle.vortex_expressions.specs.WritingSteps.{Steps};
@@ -16,9 +18,10 @@ use crate::spelled::{
 };
 use std::alloc::Global;
 use vortex_columns::VortexResult;
-use vortex_functions::{BoundExpression, LikeOptions, NoCustom, ScalarFnRef};
+use vortex_functions::{BoundExpression, LikeOptions, ScalarFnRef};
 use vortex_operators::BetweenOptions;
-use vortex_syntax::levels::{IS, NOT, OR, SUM, left, right};
+use vortex_standard::Standard;
+use vortex_syntax::levels::{CONCAT, IS, NOT, OR, left, right};
 use vortex_syntax::{DEPTH, Sign, Writer, WrittenOperator as Written};
 
 /// What is still to be written.
@@ -26,11 +29,13 @@ use vortex_syntax::{DEPTH, Sign, Writer, WrittenOperator as Written};
 pub(crate) enum WriteTask<'t> {
     Sign(Sign),
     /// A tree at a level, inside that many open brackets.
-    Tree(&'t BoundExpression<NoCustom>, u8, usize),
+    Tree(&'t BoundExpression<Standard>, u8, usize),
     /// The only type to cast to.
     TruthType,
     /// The text after `escape`.
     Escape(Option<char>),
+    /// The name of a function, with its bracket.
+    Function(&'static str),
 }
 
 /// What is written, and what is still to be written, the next at the end.
@@ -43,9 +48,9 @@ pub(crate) struct TreeWriter<'t> {
 
 /// The operand at an index.
 fn operand_at<'t>(
-    operands: &'t [BoundExpression<NoCustom>],
+    operands: &'t [BoundExpression<Standard>],
     place: usize,
-) -> Option<&'t BoundExpression<NoCustom>>
+) -> Option<&'t BoundExpression<Standard>>
     ensures { MatchOption result (slice_get operands.now place ≡ None)
         (λ t. slice_get operands.now place ≡ Some t.now) }
 {
@@ -86,7 +91,7 @@ impl<'t> TreeWriter<'t> {
     fn binary(
         &mut self,
         operator: Written,
-        operands: &'t [BoundExpression<NoCustom>],
+        operands: &'t [BoundExpression<Standard>],
         depth: usize,
     ) -> VortexResult<bool>
         ensures { AnswersUnlessMemory result
@@ -106,7 +111,7 @@ impl<'t> TreeWriter<'t> {
 
     fn negation(
         &mut self,
-        operands: &'t [BoundExpression<NoCustom>],
+        operands: &'t [BoundExpression<Standard>],
         depth: usize,
     ) -> VortexResult<bool>
         ensures { AnswersUnlessMemory result
@@ -137,7 +142,7 @@ impl<'t> TreeWriter<'t> {
     fn test(
         &mut self,
         negated: bool,
-        operands: &'t [BoundExpression<NoCustom>],
+        operands: &'t [BoundExpression<Standard>],
         depth: usize,
     ) -> VortexResult<bool>
         ensures { AnswersUnlessMemory result
@@ -153,7 +158,7 @@ impl<'t> TreeWriter<'t> {
 
     fn cast(
         &mut self,
-        operands: &'t [BoundExpression<NoCustom>],
+        operands: &'t [BoundExpression<Standard>],
         depth: usize,
     ) -> VortexResult<bool>
         ensures { AnswersUnlessMemory result
@@ -177,7 +182,7 @@ impl<'t> TreeWriter<'t> {
     fn between(
         &mut self,
         options: &BetweenOptions,
-        operands: &'t [BoundExpression<NoCustom>],
+        operands: &'t [BoundExpression<Standard>],
         depth: usize,
     ) -> VortexResult<bool>
         ensures { AnswersUnlessMemory result
@@ -195,11 +200,11 @@ impl<'t> TreeWriter<'t> {
         let Some(upper) = operand_at(operands, 2) else {
             return Ok(false);
         };
-        self.put(WriteTask::Tree(upper, SUM, depth))?;
+        self.put(WriteTask::Tree(upper, CONCAT, depth))?;
         self.put(WriteTask::Sign(Sign::And))?;
-        self.put(WriteTask::Tree(lower, SUM, depth))?;
+        self.put(WriteTask::Tree(lower, CONCAT, depth))?;
         self.put(WriteTask::Sign(Sign::Between))?;
-        self.put(WriteTask::Tree(operand, SUM, depth))?;
+        self.put(WriteTask::Tree(operand, CONCAT, depth))?;
         Ok(true)
     }
 
@@ -237,7 +242,7 @@ impl<'t> TreeWriter<'t> {
     fn like(
         &mut self,
         options: LikeOptions,
-        operands: &'t [BoundExpression<NoCustom>],
+        operands: &'t [BoundExpression<Standard>],
         depth: usize,
     ) -> VortexResult<bool>
         ensures { AnswersUnlessMemory result
@@ -250,17 +255,74 @@ impl<'t> TreeWriter<'t> {
             return Ok(false);
         };
         self.put_escape(options.escape)?;
-        self.put(WriteTask::Tree(pattern, SUM, depth))?;
+        self.put(WriteTask::Tree(pattern, CONCAT, depth))?;
         self.put_like(options)?;
-        self.put(WriteTask::Tree(text, SUM, depth))?;
+        self.put(WriteTask::Tree(text, CONCAT, depth))?;
+        Ok(true)
+    }
+
+    /// Pushes arguments after the first, each after a comma, and the closing bracket.
+    fn put_more(
+        &mut self,
+        operands: &'t [BoundExpression<Standard>],
+        depth: usize,
+    ) -> VortexResult<()>
+        ensures tasks { AnswersUnlessMemory result
+            (λ _. tasks_in self.new ≡ steps.more_parts depth operands.now ++ tasks_in self.old) }
+        ensures writer { self.new.writer ≡ self.old.writer }
+    {
+        self.put(WriteTask::Sign(Sign::Close))?;
+        let mut left = operands.len();
+        while left > 0 {
+            left -= 1;
+            self.put(WriteTask::Tree(&operands[left], OR, depth))?;
+            self.put(WriteTask::Sign(Sign::Comma))?;
+        }
+        Ok(())
+    }
+
+    /// Pushes the arguments of a call, and the closing bracket.
+    fn put_arguments(
+        &mut self,
+        operands: &'t [BoundExpression<Standard>],
+        depth: usize,
+    ) -> VortexResult<()>
+        ensures tasks { AnswersUnlessMemory result
+            (λ _. tasks_in self.new ≡ steps.argument_parts depth operands.now ++ tasks_in self.old) }
+        ensures writer { self.new.writer ≡ self.old.writer }
+    {
+        match operands {
+            [] => self.put(WriteTask::Sign(Sign::Close)),
+            [first, rest @ ..] => {
+                self.put_more(rest, depth)?;
+                self.put(WriteTask::Tree(first, OR, depth))
+            }
+        }
+    }
+
+    /// The call of a function by its name.
+    fn named_call(
+        &mut self,
+        function: &Standard,
+        operands: &'t [BoundExpression<Standard>],
+        depth: usize,
+    ) -> VortexResult<bool>
+        ensures { AnswersUnlessMemory result
+            (Plans (steps.named_plan depth (name_of function.now) operands.now) self.old self.new) }
+    {
+        if depth >= DEPTH {
+            return Ok(false);
+        }
+        self.put_arguments(operands, depth + 1)?;
+        self.put(WriteTask::Function(function.name()))?;
         Ok(true)
     }
 
     /// Pushes the parts of a call; returns whether it has a text.
     fn call(
         &mut self,
-        function: &ScalarFnRef<NoCustom>,
-        operands: &'t [BoundExpression<NoCustom>],
+        function: &ScalarFnRef<Standard>,
+        operands: &'t [BoundExpression<Standard>],
         depth: usize,
     ) -> VortexResult<bool>
         ensures { AnswersUnlessMemory result
@@ -277,12 +339,12 @@ impl<'t> TreeWriter<'t> {
             ScalarFnRef::Cast => self.cast(operands, depth),
             ScalarFnRef::Between(options) => self.between(options, operands, depth),
             ScalarFnRef::Like(options) => self.like(*options, operands, depth),
-            ScalarFnRef::Custom(_) => Ok(false),
+            ScalarFnRef::Custom(custom) => self.named_call(custom.vtable(), operands, depth),
         }
     }
 
     /// A tree without brackets around it.
-    fn bare(&mut self, tree: &'t BoundExpression<NoCustom>, depth: usize) -> VortexResult<bool>
+    fn bare(&mut self, tree: &'t BoundExpression<Standard>, depth: usize) -> VortexResult<bool>
         ensures { AnswersUnlessMemory result (Steps (steps.tree depth 0 tree.now) self.old self.new) }
     {
         if let Some(function) = tree.as_scalar() {
@@ -295,7 +357,7 @@ impl<'t> TreeWriter<'t> {
     }
 
     /// A tree in brackets.
-    fn brackets(&mut self, tree: &'t BoundExpression<NoCustom>, depth: usize) -> VortexResult<bool>
+    fn brackets(&mut self, tree: &'t BoundExpression<Standard>, depth: usize) -> VortexResult<bool>
         ensures { AnswersUnlessMemory result
             (Plans (steps.bracket_plan depth tree.now) self.old self.new) }
     {
@@ -311,7 +373,7 @@ impl<'t> TreeWriter<'t> {
     /// A tree, in brackets if it binds less tightly than required there.
     fn tree(
         &mut self,
-        tree: &'t BoundExpression<NoCustom>,
+        tree: &'t BoundExpression<Standard>,
         level: u8,
         depth: usize,
     ) -> VortexResult<bool>
@@ -349,6 +411,10 @@ impl<'t> TreeWriter<'t> {
             }
             WriteTask::Escape(escape) => {
                 self.write_escape(escape)?;
+                Ok(true)
+            }
+            WriteTask::Function(name) => {
+                self.writer.push_function(name)?;
                 Ok(true)
             }
             WriteTask::Tree(tree, level, depth) => self.tree(tree, level, depth),

@@ -6,7 +6,8 @@ ghost use Rattle.vortex_expressions.specs.Writing.{text_of_tree};
 use crate::tasks::{TreeWriter, WriteTask};
 use std::alloc::Global;
 use vortex_columns::VortexResult;
-use vortex_functions::{BoundExpression, NoCustom};
+use vortex_functions::BoundExpression;
+use vortex_standard::Standard;
 use vortex_syntax::levels::OR;
 
 /// The text of a tree, as `price * stock > 100`, with only the brackets that are needed; over the
@@ -17,7 +18,7 @@ use vortex_syntax::levels::OR;
 /// Written from left to right, each byte once; what is still to be written is on the heap.
 pub fn write_expression(
     alloc: Global,
-    tree: &BoundExpression<NoCustom>,
+    tree: &BoundExpression<Standard>,
 ) -> VortexResult<Option<String>>
     ensures { AnswersUnlessMemory result
         (λ text. option_map (λ t. string_bytes t) text ≡ text_of_tree tree.now) }

@@ -21,3 +21,10 @@ returns-in_ok-write_escape-in-Escape c =
     rw c.in-Escape.is
     (steps_token _ c.args.self.now c.write_escape.new.self
     c.in_ok-write_escape-in-Escape.ensures.tasks c.in_ok-write_escape-in-Escape.ensures.written)
+
+pub returns-in_ok-push_function-in-Function : goal.returns-in_ok-push_function-in-Function
+returns-in_ok-push_function-in-Function c =
+    rw c.in-Function.is
+    (steps_token _ c.args.self.now _ refl
+    (pushes_one _ c.args.self.now.writer c.push_function.new.self
+    c.in_ok-push_function-in-Function.ensures))

@@ -1,0 +1,323 @@
+-- A call by its name is read back: its arguments are bound in their order, its literals keep their
+-- types, and the name means its function.
+use Rattle.std.proofs.Common.{◌≡◌, Bool, true, false, ◌&&◌, ◌⊎◌, List, [], ◌∷◌, ◌++◌, map, ℕ}
+use Rattle.std.proofs.Common.{Option, Some, None, refl, ap, sym, subst, ◌∙◌, append_assoc, reverse}
+use Rattle.std.proofs.Common.{length, option_map}
+use Rattle.std.specs.Prelude.{is_some}
+use Rattle.std.specs.List.{list_all}
+use Rattle.std.specs.Option.{option_or}
+use Rattle.std.proofs.lemmas.Bool.{and_parts}
+use Rattle.std.proofs.lemmas.List.{reverse-append}
+use Rattle.vortex_types.specs.LogicalTypes.{LogicalType, Fields, null_type, bool_type, integer_type}
+use Rattle.vortex_types.specs.LogicalTypes.{text_type, bytes_type, struct_type, list_type}
+use Rattle.vortex_types.specs.LogicalTypes.{fixed_size_list_type, map_type, is_integer_type}
+use Rattle.vortex_types.specs.TypeEquality.{alike_types}
+use Rattle.vortex_interface.specs.Meaning.{fits}
+use Rattle.vortex_interface.specs.Functions.{custom}
+use Rattle.vortex_interface.specs.Eval.{tree_type, tree_types}
+use Rattle.vortex_interface.specs.Trees as trees
+use Rattle.vortex_interface.specs.Trees.{call, no_trees, trees_of, list_of}
+use Rattle.vortex_interface.specs.declared.options.EmptyOptions.{EmptyOptions}
+use Rattle.vortex_interface.proofs.StepPlaces.{same_trees}
+use Rattle.vortex_standard.specs.declared.standard.Standard.{Standard}
+use Rattle.vortex_sql_rows.specs.declared.types.Kind.{Kind}
+use Rattle.vortex_sql_rows.specs.declared.types.Kind.TheVariants as kind
+use Rattle.vortex_sql_rows.specs.declared.types.Takes.{Takes}
+use Rattle.vortex_sql_rows.specs.declared.types.Takes.TheVariants.{Alike, Each, Cases}
+use Rattle.vortex_sql_rows.specs.Types.{is_kind, all_alike, are_cases, are_taken}
+use Rattle.vortex_sql_rows.specs.AcceptedTypes.{accepted}
+use Rattle.vortex_sql_rows.specs.Row.{row_type}
+use Rattle.vortex_standard.specs.Standard.{row_of}
+use Rattle.vortex_standard.specs.Names.{name_of, standard_named}
+use Rattle.vortex_standard.specs.NameLaws.{named_back}
+use Rattle.vortex_syntax.specs.Syntax.{Syntax, nullary, applied, Arguments, no_arguments, argument}
+use Rattle.vortex_expressions.specs.declared.refusal.Refusal.TheVariants.{NoFunction}
+use Rattle.vortex_expressions.specs.Outcomes.{answers, and_then, or_refuses}
+use Rattle.vortex_expressions.specs.Items.{Item, Tree, meaning, bound_type, literal_type}
+use Rattle.vortex_expressions.specs.Items.{first_some, common_type, settled, all_settled, call_of}
+use Rattle.vortex_expressions.specs.Items.{as_item}
+use Rattle.vortex_expressions.specs.Applied.{callable, values_of, argument_type, function_call}
+use Rattle.vortex_expressions.specs.Applied.{applied_item}
+use Rattle.vortex_expressions.specs.Binding.{with_item, of_items, item_of, items_of}
+use Rattle.vortex_expressions.specs.Writing.{syntax_of, syntaxes_of, all_present, applied_from}
+use Rattle.vortex_expressions.specs.Writing.{named_syntax}
+use Rattle.vortex_expressions.proofs.Options.{some_is, mapped_is}
+use Rattle.vortex_expressions.proofs.LiteralsBack.{Stands, Standing, tree_standing}
+use Rattle.vortex_expressions.proofs.Beside.{alike, Beside, settles, bound_is, literal_type_is, or_is}
+use Rattle.vortex_expressions.proofs.Beside.{pick, along, none_beside, no_integer_beside, same_alike}
+use Rattle.vortex_expressions.proofs.TypedCalls.{typed_call, head_is, arity_is}
+
+abbrev Trees : Type 0
+Trees = trees.Trees Standard EmptyOptions
+
+-- items, each of a tree of that type
+abbrev IsOfType : Item → LogicalType → Type 0
+IsOfType i u = (t : Tree) × Stands i t × (tree_type meaning t ≡ Some u)
+
+abbrev AreOfTypes : List Item → List LogicalType → Type 0
+AreOfTypes [] [] = Unit {0}
+AreOfTypes (i ∷ is) (u ∷ us) = IsOfType i u × AreOfTypes is us
+AreOfTypes is us = ⊥
+
+-- types, each that one apart from nullability
+abbrev EachAlike : LogicalType → List LogicalType → Type 0
+EachAlike v [] = Unit {0}
+EachAlike v (u ∷ us) = alike u v × EachAlike v us
+
+-- the common type of items is alike, where all of their types are
+module _ (v w : LogicalType) where
+  first_bound : (is : List Item) (us : List LogicalType) → AreOfTypes is us → EachAlike v us
+      → first_some (map bound_type is) ≡ Some w → alike w v
+  first_bound [] us h k e = absurd cc
+  first_bound (i ∷ is) [] h k e = absurd h
+  first_bound (i ∷ is) (u ∷ us) h k e =
+      pick (or_is (bound_type i) (first_some (map bound_type is)) w e)
+      (λ b. along w u v (bound_is i h.0.0 u w h.0.1 h.0.2 b) k.0)
+      (λ b. first_bound is us h.1 k.1 b)
+
+  first_literal : (is : List Item) (us : List LogicalType) → AreOfTypes is us → EachAlike v us
+      → first_some (map literal_type is) ≡ Some w → alike w v
+  first_literal [] us h k e = absurd cc
+  first_literal (i ∷ is) [] h k e = absurd h
+  first_literal (i ∷ is) (u ∷ us) h k e =
+      pick (or_is (literal_type i) (first_some (map literal_type is)) w e)
+      (λ b. along w u v (literal_type_is i h.0.0 u w h.0.1 h.0.2 b) k.0)
+      (λ b. first_literal is us h.1 k.1 b)
+
+  common_alike : (is : List Item) (us : List LogicalType) → AreOfTypes is us → EachAlike v us
+      → common_type is ≡ Some w → alike w v
+  common_alike is us h k e =
+      pick (or_is (first_some (map bound_type is)) (first_some (map literal_type is)) w e)
+      (first_bound is us h k) (first_literal is us h k)
+
+-- each literal has its default type next to the others
+abbrev EachBeside : Option LogicalType → List LogicalType → Type 0
+EachBeside o [] = Unit {0}
+EachBeside o (u ∷ us) = Beside o u × EachBeside o us
+
+none_each : (us : List LogicalType) → EachBeside None us
+none_each [] = tt
+none_each (u ∷ us) = (none_beside u, none_each us)
+
+alike_each : (v : LogicalType) (o : Option LogicalType) (us : List LogicalType)
+    → ((w : LogicalType) → o ≡ Some w → alike w v) → EachAlike v us → EachBeside o us
+alike_each v o [] f h = tt
+alike_each v o (u ∷ us) f h = ((λ w e i n. f w e ∙ sym h.0), alike_each v o us f h.1)
+
+all_alike_each : (v : LogicalType) (us : List LogicalType) → all_alike v us ≡ true → EachAlike v us
+all_alike_each v [] e = tt
+all_alike_each v (u ∷ us) e =
+    let p = and_parts (alike_types v u) (all_alike v us) e in
+    (sym (same_alike v u p.0), all_alike_each v us p.1)
+
+-- cases: conditions are no integers, and values are alike
+no_integer : (u : LogicalType) → is_kind kind.Truth u ≡ true → is_integer_type u ≡ false
+no_integer (bool_type n) e = refl
+no_integer (integer_type p n) e = absurd cc
+no_integer (text_type n) e = absurd cc
+no_integer null_type e = absurd cc
+no_integer (bytes_type n) e = absurd cc
+no_integer (struct_type fs n) e = absurd cc
+no_integer (list_type t n) e = absurd cc
+no_integer (fixed_size_list_type t k n) e = absurd cc
+no_integer (map_type k t n) e = absurd cc
+
+case_each : (v : LogicalType) (o : Option LogicalType) (us : List LogicalType)
+    → ((w : LogicalType) → o ≡ Some w → alike w v) → are_cases v us ≡ true → EachBeside o us
+case_each v o [] f e = tt
+case_each v o (u ∷ []) f e = ((λ w g i n. f w g ∙ same_alike v u e), tt)
+case_each v o (c ∷ u ∷ us) f e =
+    let p = and_parts (is_kind kind.Truth c) (alike_types v u && are_cases v us) e in
+    let q = and_parts (alike_types v u) (are_cases v us) p.1 in (
+      no_integer_beside o c (no_integer c p.0),
+      ((λ w g i n. f w g ∙ same_alike v u q.0), case_each v o us f q.1),
+    )
+
+case_values : (v : LogicalType) (us : List LogicalType) → are_cases v us ≡ true
+    → EachAlike v (values_of us)
+case_values v [] e = tt
+case_values v (u ∷ []) e = (sym (same_alike v u e), tt)
+case_values v (c ∷ u ∷ us) e =
+    let p = and_parts (is_kind kind.Truth c) (alike_types v u && are_cases v us) e in
+    let q = and_parts (alike_types v u) (are_cases v us) p.1 in
+    (sym (same_alike v u q.0), case_values v us q.1)
+
+values_typed : (is : List Item) (us : List LogicalType) → AreOfTypes is us
+    → AreOfTypes (values_of is) (values_of us)
+values_typed [] [] h = tt
+values_typed (i ∷ []) (u ∷ []) h = h
+values_typed (i ∷ j ∷ is) (u ∷ t ∷ us) h = (h.1.0, values_typed is us h.1.1)
+values_typed [] (u ∷ us) h = absurd h
+values_typed (i ∷ is) [] h = absurd h
+values_typed (i ∷ []) (u ∷ t ∷ us) h = absurd h.1
+values_typed (i ∷ j ∷ is) (u ∷ []) h = absurd h.1
+
+beside_all : (s : Takes) (is : List Item) (us : List LogicalType) → AreOfTypes is us
+    → are_taken s us ≡ true → EachBeside (argument_type s is) us
+beside_all (Each a b c) is us h e = none_each us
+beside_all (Alike k) is (v ∷ us) h e =
+    let p = and_parts (is_kind k v) (all_alike v us) e in
+    let each : EachAlike v (v ∷ us) = (refl, all_alike_each v us p.1) in
+    alike_each v (common_type is) (v ∷ us) (λ w. common_alike v w is (v ∷ us) h each) each
+beside_all (Alike k) is [] h e = absurd cc
+beside_all Cases is (c ∷ v ∷ us) h e =
+    let p = and_parts (is_kind kind.Truth c) (is_kind kind.Any v && are_cases v us) e in
+    let q = and_parts (is_kind kind.Any v) (are_cases v us) p.1 in
+    let o = common_type (values_of is) in
+    let each : EachAlike v (v ∷ values_of us) = (refl, case_values v us q.1) in
+    let f : (w : LogicalType) → o ≡ Some w → alike w v =
+    λ w. common_alike v w (values_of is) (v ∷ values_of us) (values_typed is (c ∷ v ∷ us) h) each in (
+      no_integer_beside o c (no_integer c p.0),
+      ((λ w g i n. f w g), case_each v o us f q.1),
+    )
+beside_all Cases is (c ∷ []) h e = absurd cc
+beside_all Cases is [] h e = absurd cc
+
+-- arguments that bind to items of trees
+abbrev EachStands : List Item → Trees → Type 0
+EachStands [] no_trees = Unit {0}
+EachStands (i ∷ is) (trees.tree t ts) = Stands i t × EachStands is ts
+EachStands is ts = ⊥
+
+types_there : (is : List Item) (ts : Trees) (us : List LogicalType) → EachStands is ts
+    → tree_types meaning ts ≡ Some us → AreOfTypes is us
+types_there [] no_trees [] h e = tt
+types_there [] no_trees (u ∷ us) h e = absurd cc
+types_there (i ∷ is) (trees.tree t ts) [] h e =
+    let a = head_is (tree_type meaning t) (tree_types meaning ts) [] e in absurd cc
+types_there (i ∷ is) (trees.tree t ts) (u ∷ us) h e =
+    let a = head_is (tree_type meaning t) (tree_types meaning ts) (u ∷ us) e in
+    let p : (u ≡ a.first) × (us ≡ a.rest) = heads u a.first us a.rest a.all in (
+      (t, h.0, a.here ∙ ap (λ v. Some v) (sym p.0)),
+      types_there is ts us h.1 (a.others ∙ ap (λ v. Some v) (sym p.1)),
+    )
+  where
+    heads : (x y : LogicalType) (xs ys : List LogicalType) → x ∷ xs ≡ y ∷ ys → (x ≡ y) × (xs ≡ ys)
+    heads x y xs ys e = (cc, cc)
+types_there [] (trees.tree t ts) us h e = absurd h
+types_there (i ∷ is) no_trees us h e = absurd h
+
+settled_each : (o : Option LogicalType) (is : List Item) (ts : Trees) (us : List LogicalType)
+    → EachStands is ts → tree_types meaning ts ≡ Some us → EachBeside o us
+    → all_settled o is ≡ answers (list_of ts)
+settled_each o [] no_trees us h e k = refl
+settled_each o (i ∷ is) (trees.tree t ts) us h e k =
+    let a = head_is (tree_type meaning t) (tree_types meaning ts) us e in
+    let b = first_beside a.first a.rest us a.all k in
+    ap (λ v. and_then v (λ t. and_then (all_settled o is) (λ ts. answers (t ∷ ts))))
+    (settles o i t a.first h.0 a.here b.0)
+    ∙ ap (λ v. and_then v (λ ts. answers (t ∷ ts))) (settled_each o is ts a.rest h.1 a.others b.1)
+  where
+    first_beside : (u : LogicalType) (us vs : List LogicalType) → vs ≡ u ∷ us → EachBeside o vs
+        → Beside o u × EachBeside o us
+    first_beside u us vs e k = subst (EachBeside o) e k
+settled_each o [] (trees.tree t ts) us h e k = absurd h
+settled_each o (i ∷ is) no_trees us h e k = absurd h
+
+-- the call of such items
+applied_made : (f : Standard) (ts : Trees)
+    → is_some (tree_type meaning (call (callable f) ts)) ≡ true
+    → call_of (callable f) (list_of ts) ≡ answers (call (callable f) ts)
+applied_made f ts h =
+    let fit : fits (row_of f).arity (length (list_of ts)) ≡ true = arity_is (callable f) ts h in
+    let typed_here : is_some (tree_type meaning (call (callable f) (trees_of (list_of ts)))) ≡ true =
+    ap (λ xs. is_some (tree_type meaning (call (callable f) xs))) (same_trees ts) ∙ h in
+    rw (fit, typed_here) (ap (λ xs. answers (call (callable f) xs)) (same_trees ts))
+
+there_is : {A : Type 0} (o : Option A) → is_some o ≡ true → (a : A) × (o ≡ Some a)
+there_is None h = absurd cc
+there_is (Some a) h = (a, refl)
+
+called_back : (f : Standard) (is : List Item) (ts : Trees) → EachStands is ts
+    → is_some (tree_type meaning (call (callable f) ts)) ≡ true
+    → function_call f is ≡ answers (call (callable f) ts)
+called_back f is ts s h =
+    let t = typed_call (callable f) ts h in
+    let r = there_is (row_type (row_of f) t.types) t.taken.taken in
+    let taken = (accepted (row_of f) t.types r.0 r.1).taken in
+    let takes = (row_of f).types.takes in
+    let beside = beside_all takes is t.types (types_there is ts t.types s t.typed) taken in
+    ap (λ v. and_then v (call_of (callable f)))
+    (settled_each (argument_type takes is) is ts t.types s t.typed beside)
+    ∙ applied_made f ts h
+
+module _ (scope : Fields) where
+  abbrev EachItem : List Syntax → List Item → Type 0
+  EachItem [] [] = Unit {0}
+  EachItem (a ∷ bs) (i ∷ is) = (item_of scope a ≡ answers i) × EachItem bs is
+  EachItem bs is = ⊥
+
+  with_is : (args : Arguments) (a : Syntax) (js : List Item) (i : Item)
+      → items_of scope args ≡ answers js → item_of scope a ≡ answers i
+      → with_item (items_of scope args) (item_of scope a) ≡ answers (i ∷ js)
+  with_is args a js i h k = ap (λ o. with_item o (item_of scope a)) h ∙ ap (with_item (answers js)) k
+
+  -- arguments, from one on
+  from_item : (w : List ℕ) (args : Arguments) (a : Syntax) (bs : List Syntax) (js : List Item)
+      (i : Item) (is : List Item) → items_of scope args ≡ answers js → item_of scope a ≡ answers i
+      → EachItem bs is
+      → item_of scope (applied_from w args a bs) ≡ applied_item w (reverse js ++ (i ∷ is))
+  from_item w args a [] js i [] h k e =
+      ap (of_items (applied_item w)) (with_is args a js i h k)
+      ∙ ap (applied_item w) (reverse-append (i ∷ []) js)
+  from_item w args a (b ∷ bs) js i (j ∷ is) h k e =
+      from_item w (argument args a) b bs (i ∷ js) j is (with_is args a js i h k) e.0 e.1
+      ∙ ap (applied_item w)
+      (ap (λ xs. xs ++ (j ∷ is)) (reverse-append (i ∷ []) js) ∙ append_assoc (reverse js) (i ∷ []) (j ∷ is))
+  from_item w args a [] js i (j ∷ is) h k e = absurd e
+  from_item w args a (b ∷ bs) js i [] h k e = absurd e
+
+  named_item : (w : List ℕ) (bs : List Syntax) (is : List Item) → EachItem bs is
+      → item_of scope (named_syntax w bs) ≡ applied_item w is
+  named_item w [] [] e = refl
+  named_item w (a ∷ bs) (i ∷ is) e = from_item w no_arguments a bs [] i is refl e.0 e.1
+  named_item w [] (i ∷ is) e = absurd e
+  named_item w (a ∷ bs) [] e = absurd e
+
+  abbrev pub Stood : Tree → Type 0
+  Stood t = (a : Syntax) → syntax_of t ≡ Some a → Standing scope a t
+
+  abbrev pub EachStood : Trees → Type 0
+  EachStood no_trees = Unit {0}
+  EachStood (trees.tree t ts) = Stood t × EachStood ts
+
+  -- the items of arguments that stand for trees
+  record Bound (bs : List Syntax) (ts : Trees) : Type 0 where
+    items : List Item
+    bound : EachItem bs items
+    stands : EachStands items ts
+
+  bound_there : (ts : Trees) (bs : List Syntax) → EachStood ts
+      → all_present (syntaxes_of ts) ≡ Some bs → Bound bs ts
+  bound_there no_trees bs h e =
+      subst (λ (xs : List Syntax). Bound xs no_trees) (some_is [] bs e)
+      (record { items = []; bound = tt; stands = tt })
+  bound_there (trees.tree t ts) bs h e =
+      by (λ cs. bound_there ts cs h.1) (syntax_of t) refl e
+    where
+      by : ((cs : List Syntax) → all_present (syntaxes_of ts) ≡ Some cs → Bound cs ts)
+          → (o : Option Syntax) → syntax_of t ≡ o → all_present (o ∷ syntaxes_of ts) ≡ Some bs
+          → Bound bs (trees.tree t ts)
+      by rest None k g = absurd cc
+      by rest (Some a) k g =
+          let m = mapped_is (λ xs. a ∷ xs) (all_present (syntaxes_of ts)) bs g in
+          let s = h.0 a k in
+          let r = rest m.a m.there in
+          subst (λ (xs : List Syntax). Bound xs (trees.tree t ts)) m.made (record {
+            items = s.item ∷ r.items;
+            bound = (s.is, r.bound);
+            stands = (s.stands, r.stands);
+          })
+
+  pub named_stands : (f : Standard) (c : EmptyOptions) (ts : Trees) (a : Syntax)
+      → is_some (tree_type meaning (call (custom f c) ts)) ≡ true → EachStood ts
+      → option_map (named_syntax (name_of f)) (all_present (syntaxes_of ts)) ≡ Some a
+      → Standing scope a (call (custom f c) ts)
+  named_stands f c ts a h k e =
+      let m = mapped_is (named_syntax (name_of f)) (all_present (syntaxes_of ts)) a e in
+      let b = bound_there ts m.a k m.there in
+      tree_standing scope a (call (custom f c) ts)
+      (ap (item_of scope) (sym m.made) ∙ named_item (name_of f) m.a b.items b.bound
+      ∙ ap (λ o. and_then (or_refuses NoFunction o) (λ f. as_item (function_call f b.items)))
+      (named_back f)
+      ∙ ap as_item (called_back f b.items ts b.stands h))

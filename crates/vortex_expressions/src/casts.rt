@@ -1,0 +1,175 @@
+//! Types by name, and casts.
+ghost use Rattle.std.specs.Prelude.{◌≡◌, option_map};
+ghost use Rattle.vortex_types.specs.TypeOf.{type_of, allows_null};
+ghost use Rattle.vortex_syntax.specs.Keywords.{same_word};
+ghost use Rattle.vortex_expressions.specs.TypeNames as names;
+ghost use Rattle.vortex_expressions.specs.Casts as specs;
+ghost use Rattle.vortex_expressions.specs.Calls.{type_of_name, cast_item};
+ghost use Rattle.vortex_expressions.specs.Items.{item_in};
+ghost use Rattle.vortex_expressions.specs.Answering.{Gives};
+
+use crate::applied::callable;
+use crate::item::{Item, call_of, called};
+use crate::quotes::text_of;
+use crate::refusal::{BindStop, Refusal};
+use std::alloc::Global;
+use vortex_cells::types::type_named;
+use vortex_columns::{DType, Nullability, PType};
+use vortex_functions::{BoundExpression, ScalarFnRef};
+use vortex_standard::{Cast, Standard, TextToInt, TruthToInt, Widen, has_all_of};
+
+fn is_same_word(word: &str, other: &str) -> bool
+    ensures { result ≡ same_word word.now other.now }
+{
+    word.eq_ignore_ascii_case(other)
+}
+
+fn is_smallint(word: &str) -> bool
+    ensures { result ≡ names.is_smallint word.now }
+{
+    is_same_word(word, "smallint") || is_same_word(word, "int2")
+}
+
+fn is_int(word: &str) -> bool
+    ensures { result ≡ names.is_int word.now }
+{
+    is_same_word(word, "int") || (is_same_word(word, "integer") || is_same_word(word, "int4"))
+}
+
+fn is_bigint(word: &str) -> bool
+    ensures { result ≡ names.is_bigint word.now }
+{
+    is_same_word(word, "bigint") || is_same_word(word, "int8")
+}
+
+fn is_text(word: &str) -> bool
+    ensures { result ≡ names.is_text word.now }
+{
+    is_same_word(word, "text") || is_same_word(word, "varchar")
+}
+
+/// The type that has the name in SQL, in either case.
+fn sql_type(word: &str, nullability: Nullability) -> Option<DType>
+    ensures { option_map (λ t. type_of t) result ≡ names.sql_type (allows_null nullability) word.now }
+{
+    if is_same_word(word, "boolean") {
+        Some(DType::Bool(nullability))
+    } else if is_smallint(word) {
+        Some(DType::Primitive(PType::I16, nullability))
+    } else if is_int(word) {
+        Some(DType::Primitive(PType::I32, nullability))
+    } else if is_bigint(word) {
+        Some(DType::Primitive(PType::I64, nullability))
+    } else if is_text(word) {
+        Some(DType::Utf8(nullability))
+    } else {
+        None
+    }
+}
+
+/// The type of that name: one of this language, or SQL's.
+fn named_type(word: &str, nullability: Nullability) -> Option<DType>
+    ensures { option_map (λ t. type_of t) result
+        ≡ names.named_type (allows_null nullability) word.now }
+{
+    match type_named(word, nullability) {
+        Some(dtype) => Some(dtype),
+        None => sql_type(word, nullability),
+    }
+}
+
+/// The type of that name, nullable if the flag is true.
+pub(crate) fn type_of_name(alloc: Global, name: &[u8], is_nullable: bool) -> Result<DType, BindStop>
+    ensures { Gives (λ t. type_of t) result (type_of_name name.now is_nullable) }
+{
+    let name = text_of(alloc, name)?;
+    let nullability = if is_nullable {
+        Nullability::Nullable
+    } else {
+        Nullability::NonNullable
+    };
+    match named_type(name.as_str(), nullability) {
+        Some(dtype) => Ok(dtype),
+        None => Err(BindStop::Refused(Refusal::UnknownType)),
+    }
+}
+
+fn integer_cast(from: PType, to: PType) -> Standard
+    ensures { result ≡ specs.integer_cast from to }
+{
+    if has_all_of(to, from) {
+        Standard::Widen(Widen { ptype: to })
+    } else {
+        Standard::Cast(Cast { ptype: to })
+    }
+}
+
+/// The function from one type to another without null.
+fn cast_function(from: &DType, to: &DType) -> Option<Standard>
+    ensures { result ≡ specs.cast_function (type_of from.now) (type_of to.now) }
+{
+    match (from, to) {
+        (DType::Primitive(from, _), DType::Primitive(to, Nullability::NonNullable)) => {
+            Some(integer_cast(*from, *to))
+        }
+        (DType::Bool(_), DType::Primitive(ptype, Nullability::NonNullable)) => {
+            Some(Standard::TruthToInt(TruthToInt { ptype: *ptype }))
+        }
+        (DType::Primitive(_, _), DType::Bool(Nullability::NonNullable)) => {
+            Some(Standard::IntToTruth)
+        }
+        (DType::Primitive(_, _), DType::Utf8(Nullability::NonNullable)) => {
+            Some(Standard::IntToText)
+        }
+        (DType::Bool(_), DType::Utf8(Nullability::NonNullable)) => Some(Standard::TruthToText),
+        (DType::Utf8(_), DType::Primitive(ptype, Nullability::NonNullable)) => {
+            Some(Standard::TextToInt(TextToInt { ptype: *ptype }))
+        }
+        (DType::Utf8(_), DType::Bool(Nullability::NonNullable)) => Some(Standard::TextToTruth),
+        _ => None,
+    }
+}
+
+/// A tree cast to a type without null; of that type it is unchanged.
+fn cast_tree(
+    alloc: Global,
+    tree: BoundExpression<Standard>,
+    dtype: &DType,
+) -> Result<BoundExpression<Standard>, BindStop>
+    ensures { Gives (λ t. t) result (specs.cast_tree (type_of dtype.now) tree) }
+{
+    if tree.dtype().eq_ignore_nullability(dtype) {
+        return Ok(tree);
+    }
+    match cast_function(tree.dtype(), dtype) {
+        Some(function) => call_of(alloc, callable(function), vec![in alloc; tree]?),
+        None => Err(BindStop::Refused(Refusal::NoCast)),
+    }
+}
+
+/// To the nullable type of truth values from truth values alone; null is kept by every cast.
+fn cast_to(alloc: Global, item: Item, dtype: &DType) -> Result<BoundExpression<Standard>, BindStop>
+    ensures { Gives (λ t. t) result (specs.cast_to (item_in item) (type_of dtype.now)) }
+{
+    if !dtype.is_nullable() {
+        let tree = item.settle(alloc, Some(dtype))?;
+        return cast_tree(alloc, tree, dtype);
+    }
+    if dtype.is_boolean() {
+        called(alloc, ScalarFnRef::Cast, Some(dtype), vec![in alloc; item]?)
+    } else {
+        Err(BindStop::Refused(Refusal::NoCast))
+    }
+}
+
+pub(crate) fn cast_item(
+    alloc: Global,
+    name: &[u8],
+    is_nullable: bool,
+    item: Item,
+) -> Result<Item, BindStop>
+    ensures { Gives item_in result (cast_item name.now is_nullable (item_in item)) }
+{
+    let dtype = type_of_name(alloc, name, is_nullable)?;
+    Ok(Item::Bound(cast_to(alloc, item, &dtype)?))
+}
