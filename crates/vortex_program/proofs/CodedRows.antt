@@ -9,7 +9,7 @@ use Rattle.vortex_columns.specs.ColumnView.{ColumnView, row, AreBits}
 use Rattle.vortex_columns.specs.ValidityView.{ValidityView, is_valid_row}
 use Rattle.vortex_columns.specs.ValidRows.{AreValid}
 use Rattle.vortex_program.specs.Rows.{numbered}
-use Rattle.vortex_program.specs.Coded.{HasBit, HasCode, AreCoded}
+use Rattle.vortex_program.specs.Coded.{HasBit, HasCode, HaveCodes}
 
 not_null : (b : Bool) → true ≡ not b → b ≡ false
 not_null true e = cc
@@ -41,7 +41,7 @@ all_more P xs x h p k d below = by (nat_lt k (length xs)) refl
         let is : k ≡ length xs = grind (arith, e, below, length-append xs (x ∷ [])) in
         subst P (sym (ap (λ j. get_or (xs ++ x ∷ []) j d) is ∙ last_is xs x d)) p
 
-module _ (b : Bool) (c : ColumnView) (ns cs : List ℕ) (i : ℕ) (h : AreCoded b c ns cs i) where
+module _ (b : Bool) (c : ColumnView) (ns cs : List ℕ) (i : ℕ) (h : HaveCodes b c ns cs i) where
   -- the codes so far, and one more
   codes_more : (ms : List ℕ) (x : ℕ)
       → ((k : ℕ) → k < i → HasCode b c ms k (get_or cs k 0)) → HasCode b c ms i x
@@ -64,9 +64,9 @@ module _ (b : Bool) (c : ColumnView) (ns cs : List ℕ) (i : ℕ) (h : AreCoded 
   -- a row that is decided, as the one of the first number is
   pub decided_more : (j first : ℕ) → j ≡ suc i → 0 < length ns → numbered ns 0 ≡ first
       → row c.rows first ≡ truth b → row c.rows i ≡ truth b
-      → AreCoded b c ns (cs ++ 0 ∷ []) j
+      → HaveCodes b c ns (cs ++ 0 ∷ []) j
   decided_more j first next some is there here =
-      subst (AreCoded b c ns (cs ++ 0 ∷ [])) (sym next) (record {
+      subst (HaveCodes b c ns (cs ++ 0 ∷ [])) (sym next) (record {
         rows = h.rows;
         counted = length-append cs (0 ∷ []) ∙ (let one : length cs + 1 ≡ suc i = omega (arith, h.counted) in one);
         coded = all_more (λ k. k < length ns) cs 0 h.coded some;
@@ -75,10 +75,10 @@ module _ (b : Bool) (c : ColumnView) (ns cs : List ℕ) (i : ℕ) (h : AreCoded 
 
   -- a row that is open has a number of its own
   pub open_more : (j : ℕ) → j ≡ suc i → i < length c.rows
-      → AreCoded b c (ns ++ i ∷ []) (cs ++ length ns ∷ []) j
+      → HaveCodes b c (ns ++ i ∷ []) (cs ++ length ns ∷ []) j
   open_more j next lt =
       let longer : length (ns ++ i ∷ []) ≡ length ns + 1 = length-append ns (i ∷ []) in
-      subst (AreCoded b c (ns ++ i ∷ []) (cs ++ length ns ∷ [])) (sym next) (record {
+      subst (HaveCodes b c (ns ++ i ∷ []) (cs ++ length ns ∷ [])) (sym next) (record {
         rows = all_more (λ k. k < length c.rows) ns i h.rows lt;
         counted = length-append cs (length ns ∷ []) ∙ (let one : length cs + 1 ≡ suc i = omega (arith, h.counted) in one);
         coded = all_more (λ k. k < length (ns ++ i ∷ [])) cs (length ns)
@@ -100,7 +100,7 @@ module _ (b : Bool) (c : ColumnView) (ns cs : List ℕ) (i : ℕ) (h : AreCoded 
 
 -- no row yet, and the number of one that is decided
 pub none_coded : (b : Bool) (c : ColumnView) (first : ℕ) → first < length c.rows
-    → AreCoded b c (first ∷ []) [] 0
+    → HaveCodes b c (first ∷ []) [] 0
 none_coded b c first lt = record {
   rows = all_more (λ k. k < length c.rows) [] first (λ k d no. absurd (omega (arith, no))) lt;
   counted = refl;
@@ -109,13 +109,13 @@ none_coded b c first lt = record {
 }
 
 -- so it is with the rows so far, the first number being that of a decided row
-abbrev pub AreCodedSo : Bool → ColumnView → ℕ → List ℕ → List ℕ → ℕ → Type 0
-AreCodedSo b c first ns cs i =
-    AreCoded b c ns cs i × (numbered ns 0 ≡ first) × (0 < length ns) × (length ns ≤ suc i)
+abbrev pub HaveCodesSo : Bool → ColumnView → ℕ → List ℕ → List ℕ → ℕ → Type 0
+HaveCodesSo b c first ns cs i =
+    HaveCodes b c ns cs i × (numbered ns 0 ≡ first) × (0 < length ns) × (length ns ≤ suc i)
 
 pub decided_next : (b : Bool) (c : ColumnView) (first : ℕ) (ns cs : List ℕ) (i : ℕ)
-    → AreCodedSo b c first ns cs i → row c.rows first ≡ truth b → row c.rows i ≡ truth b
-    → AreCodedSo b c first ns (cs ++ 0 ∷ []) (i + 1)
+    → HaveCodesSo b c first ns cs i → row c.rows first ≡ truth b → row c.rows i ≡ truth b
+    → HaveCodesSo b c first ns (cs ++ 0 ∷ []) (i + 1)
 decided_next b c first ns cs i h there here = (
   decided_more b c ns cs i h.0 (i + 1) first (omega arith) h.2 h.1 there here,
   h.1,
@@ -124,11 +124,11 @@ decided_next b c first ns cs i h there here = (
 )
 
 pub open_next : (b : Bool) (c : ColumnView) (first : ℕ) (ns cs : List ℕ) (i code : ℕ)
-    → AreCodedSo b c first ns cs i → i < length c.rows → code ≡ length ns
-    → AreCodedSo b c first (ns ++ i ∷ []) (cs ++ code ∷ []) (i + 1)
+    → HaveCodesSo b c first ns cs i → i < length c.rows → code ≡ length ns
+    → HaveCodesSo b c first (ns ++ i ∷ []) (cs ++ code ∷ []) (i + 1)
 open_next b c first ns cs i code h lt is =
     let longer : length (ns ++ i ∷ []) ≡ length ns + 1 = length-append ns (i ∷ []) in (
-      subst (λ k. AreCoded b c (ns ++ i ∷ []) (cs ++ k ∷ []) (i + 1)) (sym is)
+      subst (λ k. HaveCodes b c (ns ++ i ∷ []) (cs ++ k ∷ []) (i + 1)) (sym is)
           (open_more b c ns cs i h.0 (i + 1) (omega arith) lt),
       get_or_append_left ns (i ∷ []) 0 0 h.2 ∙ h.1,
       omega (arith, longer),

@@ -23,7 +23,7 @@ use Rattle.vortex_interface.specs.Execution.{LeavesFit, other_length}
 use Rattle.vortex_functions.specs.Executing.{Fits}
 use Rattle.vortex_program.specs.Reads.{Reads, Marks}
 use Rattle.vortex_program.specs.Rows.{numbered, HaveRowsAt, IsMarked}
-use Rattle.vortex_program.specs.Coded.{HasCode, AreCoded}
+use Rattle.vortex_program.specs.Coded.{HasCode, HaveCodes}
 use Rattle.vortex_program.specs.Deciding.{Joins}
 use Rattle.vortex_program.proofs.Decided.{value_at, decided_at}
 use Rattle.vortex_program.proofs.SomeRows.{HasWhereAt, row_is_at, rows_within, leaves_fit_at}
@@ -32,7 +32,7 @@ module _ {V O : Type 0} (m : Meaning V O) (cs ds : List ColumnView) (n : ℕ) (o
     (t left right : trees.Tree V O) (j : Joins op t left right) (c : ColumnView)
     (h : HasTreeRows m cs n left c) (b : Bool) (decides_all : decides op b ≡ true)
     (values : Settled m cs n right) (k : LogicalType) (typed : tree_type m t ≡ Some k)
-    (bound : IsBound t) (ns codes : List ℕ) (coded : AreCoded b c ns codes (length c.rows))
+    (bound : IsBound t) (ns codes : List ℕ) (coded : HaveCodes b c ns codes (length c.rows))
     (have : HasWhereAt (numbered ns) (length ns) cs ds (λ p. Reads p t)) where
   -- a number is one of a row
   row_within : (p : ℕ) → p < length ns → numbered ns p < n

@@ -20,7 +20,8 @@ use Rattle.vortex_expressions.specs.Reading.{Finds, ToldBy, ToldFor, ReadUnlessM
 use Rattle.vortex_expressions.specs.Reading.{TellsWhy}
 use Rattle.vortex_functions.specs.Walks.{AllMean}
 use Rattle.vortex_expressions.proofs.Whole.{tree_left-is}
-use Rattle.vortex_expressions.proofs.Sure.{IsTyped, sure_tree}
+use Rattle.vortex_expressions.proofs.SureCalls.{IsTyped}
+use Rattle.vortex_expressions.proofs.Sure.{sure_tree}
 use Rattle.vortex_expressions.proofs.Why.{why, unread_why}
 use Rattle.vortex_expressions.specs.declared.error.Reason.{Reason}
 use Rattle.vortex_expressions.specs.declared.error.Reason.TheVariants as reason

@@ -18,7 +18,7 @@ HasCode b c numbers i code =
     ⊎ ((row c.rows i ≡ truth b) × (row c.rows (numbered numbers code) ≡ truth b))
 
 -- the first n rows have codes, and the numbers are those of rows
-pub record AreCoded (b : Bool) (c : ColumnView) (numbers codes : List ℕ) (n : ℕ) : Type 0 where
+pub record HaveCodes (b : Bool) (c : ColumnView) (numbers codes : List ℕ) (n : ℕ) : Type 0 where
   pub rows : All (λ k. k < length c.rows) numbers
   pub counted : length codes ≡ n
   pub coded : All (λ j. j < length numbers) codes

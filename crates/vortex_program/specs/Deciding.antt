@@ -16,7 +16,7 @@ use Rattle.vortex_interface.specs.Trees.{leaf, constant, call, Trees, no_trees, 
 use Rattle.vortex_interface.specs.ComparisonTrees.{operated}
 use Rattle.vortex_functions.specs.Executing.{HasRows}
 use Rattle.vortex_expressions.specs.Items.{Tree, meaning}
-use Rattle.vortex_program.specs.Coded.{AreCoded}
+use Rattle.vortex_program.specs.Coded.{HaveCodes}
 use Rattle.vortex_program.specs.declared.coded.CodedRows.{CodedRows}
 use Rattle.vortex_program.specs.declared.deciding.Joined.{Joined}
 
@@ -93,4 +93,4 @@ pub record LeavesCoded (cs : List ColumnView) (n : ℕ) (joined : Joined) (c : C
   pub truth : Bool
   pub decides : decides joined.operator truth ≡ true
   pub values : Settled meaning cs n right
-  pub coded : AreCoded truth c rows.numbers.items rows.codes.items (length c.rows)
+  pub coded : HaveCodes truth c rows.numbers.items rows.codes.items (length c.rows)

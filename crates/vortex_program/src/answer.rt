@@ -1,9 +1,10 @@
 //! Answers: trees under their names.
-use vortex_functions::{BoundExpression, NoCustom};
+use vortex_functions::BoundExpression;
+use vortex_standard::Standard;
 
 /// A tree, and its name in a header.
 #[derive(Drop)]
 pub struct Answer {
     pub name: String,
-    pub tree: BoundExpression<NoCustom>,
+    pub tree: BoundExpression<Standard>,
 }

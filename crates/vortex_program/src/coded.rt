@@ -5,7 +5,7 @@ ghost use Rattle.vortex_types.specs.Values.{truth};
 ghost use Rattle.vortex_columns.specs.ColumnView.{row, AreBits};
 ghost use Rattle.vortex_columns.specs.ValidityView.{FitsRows};
 ghost use Rattle.vortex_columns.specs.ValidRows.{valid_view, AreValid};
-ghost use Rattle.vortex_program.specs.Coded.{HasBit, AreCoded};
+ghost use Rattle.vortex_program.specs.Coded.{HasBit, HaveCodes};
 
 use std::alloc::Global;
 use vortex_columns::{BitBuffer, Column, ValidRows, VortexResult};
@@ -72,7 +72,7 @@ fn rows_after(
     requires decided { row column.now.rows first ≡ truth wanted }
     requires most { length column.now.rows ≤ 4294967295 }
     ensures { AnswersUnlessMemory result (λ found. IfSome found
-        (λ r. AreCoded wanted column.now r.numbers.items r.codes.items (length column.now.rows))) }
+        (λ r. HaveCodes wanted column.now r.numbers.items r.codes.items (length column.now.rows))) }
 {
     let count = column.len();
     let mut codes = Vec::with_capacity(alloc, count)?;
@@ -99,7 +99,7 @@ pub(crate) fn few_other_rows(
     wanted: bool,
 ) -> VortexResult<Option<CodedRows>>
     ensures { AnswersUnlessMemory result (λ found. IfSome found
-        (λ r. AreCoded wanted column.now r.numbers.items r.codes.items (length column.now.rows))) }
+        (λ r. HaveCodes wanted column.now r.numbers.items r.codes.items (length column.now.rows))) }
 {
     let Some(bits) = column.bits() else {
         return Ok(None);

@@ -7,8 +7,8 @@ ghost use Rattle.vortex_operators.specs.Operators.{is_boolean};
 ghost use Rattle.vortex_interface.specs.Eval.{HasTreeRows, IsFirstFault};
 ghost use Rattle.vortex_interface.specs.Execution.{Executes, RefusesExecution};
 ghost use Rattle.vortex_functions.specs.Executing.{Fits, HasRows};
-ghost use Rattle.vortex_functions.specs.Fixed.{fixed_meaning};
-ghost use Rattle.vortex_program.specs.Coded.{AreCoded};
+ghost use Rattle.vortex_standard.specs.Standard.{standard_meaning};
+ghost use Rattle.vortex_program.specs.Coded.{HaveCodes};
 ghost use Rattle.vortex_program.specs.Deciding.{HasLeftRows, IsInfallible, IsJoin, IsSpine};
 ghost use Rattle.vortex_program.specs.Deciding.{LeavesCoded};
 ghost use Rattle.vortex_program.specs.Deciding.{IsTruth};
@@ -21,9 +21,10 @@ use crate::truths::is_truth;
 use std::alloc::Global;
 use std::borrow::Cow;
 use vortex_columns::{Column, ExecutionCtx, Scalar, VortexResult};
-use vortex_functions::{BoundExpression, NoCustom, ScalarFnRef, VecExecutionArgs};
+use vortex_functions::{BoundExpression, ScalarFnRef, VecExecutionArgs};
 use vortex_operators::Operator;
 use vortex_rewriting::laws::types_invariant;
+use vortex_standard::Standard;
 
 /// Fewer rows are not divided.
 const LEAST_ROWS: usize = 64;
@@ -32,11 +33,11 @@ const LEAST_ROWS: usize = 64;
 #[derive(Clone, Copy)]
 pub(crate) struct Joined<'a> {
     pub(crate) operator: Operator,
-    pub(crate) node: &'a BoundExpression<NoCustom>,
+    pub(crate) node: &'a BoundExpression<Standard>,
 }
 
 /// The operator of a call of And or Or.
-fn join_operator(tree: &BoundExpression<NoCustom>) -> Option<Operator>
+fn join_operator(tree: &BoundExpression<Standard>) -> Option<Operator>
     ensures { MatchOption result ⊤ (λ op. IsJoin op tree.now) }
 {
     if tree.children().len() != 2 {
@@ -64,8 +65,8 @@ fn decider(operator: Operator) -> bool
 /// them.
 fn spine<'a>(
     alloc: Global,
-    tree: &'a BoundExpression<NoCustom>,
-) -> VortexResult<(Vec<Joined<'a>>, &'a BoundExpression<NoCustom>)>
+    tree: &'a BoundExpression<Standard>,
+) -> VortexResult<(Vec<Joined<'a>>, &'a BoundExpression<Standard>)>
     ensures { AnswersUnlessMemory result (λ p. IsSpine tree.now p.0.items p.1.now) }
 {
     let mut above = Vec::new(alloc);
@@ -103,8 +104,8 @@ fn execute_right<'a>(
     requires fit { Fits columns.now row_count joined.node.now }
     requires left { HasLeftRows columns.now row_count joined left }
     ensures { Answers result
-        (HasTreeRows fixed_meaning columns.now row_count joined.entry.node.now)
-        (IsFirstFault fixed_meaning columns.now row_count joined.entry.node.now) }
+        (HasTreeRows standard_meaning columns.now row_count joined.entry.node.now)
+        (IsFirstFault standard_meaning columns.now row_count joined.entry.node.now) }
 {
     let _typed = joined.node.dtype();
     let right = joined
@@ -113,18 +114,18 @@ fn execute_right<'a>(
         .execute_fitting(columns, row_count, ctx)?;
     let inputs = both_inputs(ctx.alloc(), left, right)?;
     let args = VecExecutionArgs::new(inputs, row_count);
-    ScalarFnRef::<NoCustom>::Binary(joined.operator).execute(&args, ctx)
+    ScalarFnRef::<Standard>::Binary(joined.operator).execute(&args, ctx)
 }
 
 /// Whether the rows of a left operand decide each row, and the right operand cannot fault.
 fn is_decided(
     left: &Column,
     truth: bool,
-    right: &BoundExpression<NoCustom>,
+    right: &BoundExpression<Standard>,
     alloc: Global,
 ) -> VortexResult<bool>
     ensures { AnswersUnlessMemory result (λ b. IsTrue b
-        → IsTruth truth left.now × IsInfallible fixed_meaning right.now) }
+        → IsTruth truth left.now × IsInfallible standard_meaning right.now) }
 {
     if !is_truth(left, truth) {
         return Ok(false);
@@ -141,12 +142,12 @@ fn is_decided(
 fn few_open_rows(
     left: &Column,
     truth: bool,
-    right: &BoundExpression<NoCustom>,
+    right: &BoundExpression<Standard>,
     alloc: Global,
 ) -> VortexResult<Option<CodedRows>>
     ensures { AnswersUnlessMemory result (λ found. IfSome found (λ r.
-        AreCoded truth left.now r.numbers.items r.codes.items (length left.now.rows)
-        × IsInfallible fixed_meaning right.now)) }
+        HaveCodes truth left.now r.numbers.items r.codes.items (length left.now.rows)
+        × IsInfallible standard_meaning right.now)) }
 {
     if left.len() < LEAST_ROWS {
         return Ok(None);
@@ -171,8 +172,8 @@ fn execute_coded<'a>(
     requires typed { All (λ c. AreTyped c.dtype c.rows) columns.now }
     requires left { LeavesCoded columns.now row_count joined left.now rows.now }
     ensures { Answers result
-        (HasTreeRows fixed_meaning columns.now row_count joined.entry.node.now)
-        (IsFirstFault fixed_meaning columns.now row_count joined.entry.node.now) }
+        (HasTreeRows standard_meaning columns.now row_count joined.entry.node.now)
+        (IsFirstFault standard_meaning columns.now row_count joined.entry.node.now) }
 {
     let alloc = ctx.alloc();
     let _typed = joined.node.dtype();
@@ -196,8 +197,8 @@ fn execute_joined<'a>(
     requires typed { All (λ c. AreTyped c.dtype c.rows) columns.now }
     requires left { HasLeftRows columns.now row_count joined left }
     ensures { Answers result
-        (HasTreeRows fixed_meaning columns.now row_count joined.entry.node.now)
-        (IsFirstFault fixed_meaning columns.now row_count joined.entry.node.now) }
+        (HasTreeRows standard_meaning columns.now row_count joined.entry.node.now)
+        (IsFirstFault standard_meaning columns.now row_count joined.entry.node.now) }
 {
     let truth = decider(joined.operator);
     let right = joined.node.child(1);
@@ -214,15 +215,15 @@ fn execute_joined<'a>(
 
 /// The same of a tree, from its innermost left operand upward.
 fn execute_spine<'a>(
-    tree: &'a BoundExpression<NoCustom>,
+    tree: &'a BoundExpression<Standard>,
     columns: &'a [Column],
     row_count: usize,
     ctx: &mut ExecutionCtx,
 ) -> VortexResult<Cow<'a, Column>>
     requires fit { Fits columns.now row_count tree.now }
     requires typed { All (λ c. AreTyped c.dtype c.rows) columns.now }
-    ensures { Answers result (HasRows fixed_meaning columns.now row_count tree.now)
-        (IsFirstFault fixed_meaning columns.now row_count tree.now) }
+    ensures { Answers result (HasRows standard_meaning columns.now row_count tree.now)
+        (IsFirstFault standard_meaning columns.now row_count tree.now) }
 {
     let (mut above, innermost) = spine(ctx.alloc(), tree)?;
     let mut column = innermost.execute_fitting(columns, row_count, ctx)?;
@@ -237,14 +238,14 @@ fn execute_spine<'a>(
 /// Of a tree that joins operands by And or Or from left to right, an operand is not executed where
 /// those before it decide each row (And: each is false; Or: each is true) and it cannot fault.
 pub(crate) fn execute_deciding(
-    tree: &BoundExpression<NoCustom>,
+    tree: &BoundExpression<Standard>,
     columns: &[Column],
     row_count: usize,
     ctx: &mut ExecutionCtx,
 ) -> VortexResult<Column>
     requires { Fits columns.now row_count tree.now }
-    ensures { Answers result (Executes fixed_meaning columns.now row_count tree.now)
-        (RefusesExecution fixed_meaning columns.now row_count tree.now) }
+    ensures { Answers result (Executes standard_meaning columns.now row_count tree.now)
+        (RefusesExecution standard_meaning columns.now row_count tree.now) }
 {
     types_invariant(columns);
     let column = execute_spine(tree, columns, row_count, ctx)?;
@@ -253,15 +254,15 @@ pub(crate) fn execute_deciding(
 
 /// The same over any columns, which are checked, unless it is known that they fit.
 pub(crate) fn execute_checking(
-    tree: &BoundExpression<NoCustom>,
+    tree: &BoundExpression<Standard>,
     columns: &[Column],
     row_count: usize,
     is_known: bool,
     ctx: &mut ExecutionCtx,
 ) -> VortexResult<Column>
     requires { IsTrue is_known → Fits columns.now row_count tree.now }
-    ensures { Answers result (Executes fixed_meaning columns.now row_count tree.now)
-        (RefusesExecution fixed_meaning columns.now row_count tree.now) }
+    ensures { Answers result (Executes standard_meaning columns.now row_count tree.now)
+        (RefusesExecution standard_meaning columns.now row_count tree.now) }
 {
     if is_known {
         return execute_deciding(tree, columns, row_count, ctx);

@@ -1,6 +1,6 @@
 //! What answers return over columns.
 ghost use Rattle.std.specs.Prelude.{IsTrue};
-ghost use Rattle.vortex_functions.specs.Fixed.{fixed_meaning};
+ghost use Rattle.vortex_standard.specs.Standard.{standard_meaning};
 ghost use Rattle.vortex_program.specs.Programs.{trees_of};
 ghost use Rattle.vortex_program.specs.Executing.{AllFit, AnswersAll};
 
@@ -20,7 +20,7 @@ pub fn execute_answers(
     columns: &[Column],
     row_count: usize,
 ) -> VortexResult<Vec<Column>>
-    ensures { AnswersAll fixed_meaning columns.now row_count (trees_of answers.now) result }
+    ensures { AnswersAll standard_meaning columns.now row_count (trees_of answers.now) result }
 {
     execute_all(alloc, answers, columns, row_count, false)
 }
@@ -34,7 +34,7 @@ pub(crate) fn execute_all(
     is_known: bool,
 ) -> VortexResult<Vec<Column>>
     requires { IsTrue is_known → AllFit columns.now row_count (trees_of answers.now) }
-    ensures { AnswersAll fixed_meaning columns.now row_count (trees_of answers.now) result }
+    ensures { AnswersAll standard_meaning columns.now row_count (trees_of answers.now) result }
 {
     let mut ctx = ExecutionCtx::new(alloc);
     let mut executed = Vec::new(alloc);

@@ -5,7 +5,7 @@ ghost use Rattle.vortex_errors.specs.declared.error.VortexError.TheVariants.{Out
 ghost use Rattle.vortex_errors.specs.Answers.{Answers, AnswersUnlessMemory};
 ghost use Rattle.vortex_interface.specs.Bound.{IsBound};
 ghost use Rattle.vortex_interface.specs.Execution.{other_length};
-ghost use Rattle.vortex_functions.specs.Fixed.{fixed_meaning};
+ghost use Rattle.vortex_standard.specs.Standard.{standard_meaning};
 ghost use Rattle.vortex_rewriting.specs.Keeping.{RewritesKeepRows};
 ghost use Rattle.vortex_program.specs.Programs.{trees_of};
 ghost use Rattle.vortex_program.specs.Reads.{AreRead};
@@ -42,7 +42,7 @@ pub(crate) fn check_answers(
 ) -> VortexResult<()>
     ensures bound { IfOk result (λ _. All IsBound (trees_of answers.now)) }
     ensures kept { IfOk result
-        (λ _. All (RewritesKeepRows fixed_meaning columns.now row_count) (trees_of answers.now)) }
+        (λ _. All (RewritesKeepRows standard_meaning columns.now row_count) (trees_of answers.now)) }
     ensures fit { Answers result
         (λ _. AllFit columns.now row_count (trees_of answers.now))
         (RefusesColumnsFirst columns.now row_count (trees_of answers.now)) }
@@ -84,9 +84,9 @@ fn faults_within(
     requires bound { All IsBound (trees_of answers.now) }
     requires fit { AllFit columns.now row_count (trees_of answers.now) }
     ensures none { AnswersUnlessMemory result (λ faults. faults ≡ false
-        → AllGiveWithin fixed_meaning columns.now first (first + count) (trees_of answers.now)) }
+        → AllGiveWithin standard_meaning columns.now first (first + count) (trees_of answers.now)) }
     ensures some { IfOk result (λ faults. faults ≡ true
-        → ¬ AllGiveWithin fixed_meaning columns.now first (first + count)
+        → ¬ AllGiveWithin standard_meaning columns.now first (first + count)
         (trees_of answers.now)) }
 {
     let mut ctx = ExecutionCtx::new(alloc);
@@ -118,7 +118,7 @@ fn faulty_answer(
     requires even { other_length row_count columns.now ≡ None }
     requires fit { AllFit columns.now row_count (trees_of answers.now) }
     ensures { AnswersUnlessMemory result (λ found. MatchOption found
-        (AllGive fixed_meaning columns.now row (trees_of answers.now))
+        (AllGive standard_meaning columns.now row (trees_of answers.now))
         (λ p. FaultsThere columns.now row (trees_of answers.now) p.0 p.1)) }
 {
     let mut ctx = ExecutionCtx::new(alloc);
@@ -167,7 +167,7 @@ fn suspect_row(
     requires bound { All IsBound (trees_of answers.now) }
     requires fit { AllFit columns.now row_count (trees_of answers.now) }
     ensures { AnswersUnlessMemory result
-        (IsSuspect fixed_meaning columns.now row_count (trees_of answers.now)) }
+        (IsSuspect standard_meaning columns.now row_count (trees_of answers.now)) }
 {
     let mut from = 0;
     let mut to = row_count;
@@ -195,7 +195,7 @@ pub(crate) fn first_row_fault(
     requires bound { All IsBound (trees_of answers.now) }
     requires fit { AllFit columns.now row_count (trees_of answers.now) }
     ensures { AnswersUnlessMemory result (λ found. MatchOption found
-        (AllGiveWithin fixed_meaning columns.now 0 row_count (trees_of answers.now))
+        (AllGiveWithin standard_meaning columns.now 0 row_count (trees_of answers.now))
         (λ f. FaultsFirstThere columns.now row_count (trees_of answers.now) f.row f.answer
         f.error)) }
 {
@@ -221,7 +221,7 @@ pub fn first_fault(
     columns: &[Column],
     row_count: usize,
 ) -> VortexResult<Option<(usize, VortexError)>>
-    ensures { AnswersFirstFault fixed_meaning columns.now row_count (trees_of answers.now)
+    ensures { AnswersFirstFault standard_meaning columns.now row_count (trees_of answers.now)
         result }
 {
     check_answers(alloc, answers, columns, row_count)?;

@@ -1,16 +1,17 @@
 //! Whether a tree faults in no row, whatever its columns hold, and whether it matches a pattern.
 ghost use Rattle.std.specs.Prelude.{IfSome, IsTrue};
 ghost use Rattle.vortex_errors.specs.Answers.{AnswersUnlessMemory};
-ghost use Rattle.vortex_functions.specs.Fixed.{fixed_meaning};
+ghost use Rattle.vortex_standard.specs.Standard.{standard_meaning};
 ghost use Rattle.vortex_program.specs.Deciding.{IsInfallible, IsNodeInfallible};
 
 use std::alloc::Global;
 use vortex_columns::VortexResult;
-use vortex_functions::{BoundExpression, NoCustom};
+use vortex_functions::BoundExpression;
+use vortex_standard::Standard;
 
 /// Whether the function of a node faults for no values. A leaf has none.
-fn is_node_infallible(node: &BoundExpression<NoCustom>) -> bool
-    ensures { IsTrue result → IsNodeInfallible fixed_meaning node.now }
+fn is_node_infallible(node: &BoundExpression<Standard>) -> bool
+    ensures { IsTrue result → IsNodeInfallible standard_meaning node.now }
 {
     match node.as_scalar() {
         Some(function) => function.signature().is_infallible,
@@ -19,7 +20,7 @@ fn is_node_infallible(node: &BoundExpression<NoCustom>) -> bool
 }
 
 /// Whether the function of a node matches texts with a pattern.
-fn has_pattern(node: &BoundExpression<NoCustom>) -> bool {
+fn has_pattern(node: &BoundExpression<Standard>) -> bool {
     match node.as_scalar() {
         Some(function) => function.as_like().is_some(),
         None => false,
@@ -30,12 +31,12 @@ fn has_pattern(node: &BoundExpression<NoCustom>) -> bool {
 /// none if one is not. By a list of the nodes that are still to be read.
 pub(crate) fn infallible_pattern(
     alloc: Global,
-    tree: &BoundExpression<NoCustom>,
+    tree: &BoundExpression<Standard>,
 ) -> VortexResult<Option<bool>>
     ensures { AnswersUnlessMemory result
-        (λ found. IfSome found (λ _. IsInfallible fixed_meaning tree.now)) }
+        (λ found. IfSome found (λ _. IsInfallible standard_meaning tree.now)) }
 {
-    let mut list: Vec<&BoundExpression<NoCustom>> = Vec::new(alloc);
+    let mut list: Vec<&BoundExpression<Standard>> = Vec::new(alloc);
     let mut node = tree;
     let mut matches = false;
     loop {

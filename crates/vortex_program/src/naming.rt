@@ -10,10 +10,11 @@ use crate::answer::Answer;
 use std::alloc::Global;
 use vortex_columns::{StructFields, VortexResult};
 use vortex_expressions::write_expression;
-use vortex_functions::{BoundExpression, NoCustom};
+use vortex_functions::BoundExpression;
+use vortex_standard::Standard;
 
 /// The text of a tree: as it is written, or else as it is printed.
-pub(crate) fn text_of(alloc: Global, tree: &BoundExpression<NoCustom>) -> VortexResult<String>
+pub(crate) fn text_of(alloc: Global, tree: &BoundExpression<Standard>) -> VortexResult<String>
     ensures { AnswersUnlessMemory result (λ text. IsTreeText tree.now (string_bytes text)) }
 {
     match write_expression(alloc, tree)? {
@@ -26,7 +27,7 @@ pub(crate) fn text_of(alloc: Global, tree: &BoundExpression<NoCustom>) -> Vortex
 fn name_of(
     alloc: Global,
     scope: &StructFields,
-    tree: &BoundExpression<NoCustom>,
+    tree: &BoundExpression<Standard>,
 ) -> VortexResult<String>
     ensures { AnswersUnlessMemory result
         (λ name. IsNameOf (struct_fields scope.now) tree.now (string_bytes name)) }

@@ -18,8 +18,9 @@ use crate::parsed::parse_answers;
 use std::alloc::Global;
 use vortex_columns::{StructFields, VortexResult};
 use vortex_expressions::TextError;
-use vortex_functions::{BoundExpression, NoCustom};
+use vortex_functions::BoundExpression;
 use vortex_rewriting::Rewrite;
+use vortex_standard::Standard;
 
 /// An expression over the fields of a scope, which was read.
 #[derive(Drop)]
@@ -35,8 +36,8 @@ pub struct Program {
 /// What rules make of a tree.
 fn optimized_tree(
     alloc: Global,
-    tree: &BoundExpression<NoCustom>,
-) -> VortexResult<BoundExpression<NoCustom>>
+    tree: &BoundExpression<Standard>,
+) -> VortexResult<BoundExpression<Standard>>
     ensures { AnswersUnlessMemory result (IsOptimized tree.now) }
 {
     let optimized = tree.optimize_recursive(alloc, tree.weight())?;

@@ -9,10 +9,11 @@ ghost use Rattle.vortex_program.specs.Running.{UnreadColumnsChangeNothing};
 use crate::answer::Answer;
 use std::alloc::Global;
 use vortex_columns::VortexResult;
-use vortex_functions::{BoundExpression, NoCustom};
+use vortex_functions::BoundExpression;
+use vortex_standard::Standard;
 
 /// Marks the column that a leaf is, where the marks have its place.
-fn mark_leaf(node: &BoundExpression<NoCustom>, read: &mut Vec<bool>)
+fn mark_leaf(node: &BoundExpression<Standard>, read: &mut Vec<bool>)
     ensures { Marks (λ k. IsLeafAt k node.now) read.old.items read.new.items }
 {
     if let Some(place) = node.as_column() {
@@ -26,13 +27,13 @@ fn mark_leaf(node: &BoundExpression<NoCustom>, read: &mut Vec<bool>)
 /// where an allocation fails.
 fn mark_tree(
     alloc: Global,
-    tree: &BoundExpression<NoCustom>,
+    tree: &BoundExpression<Standard>,
     read: &mut Vec<bool>,
 ) -> VortexResult<()>
     ensures { AnswersUnlessMemory result
         (λ _. Marks (λ k. Reads k tree.now) read.old.items read.new.items) }
 {
-    let mut list: Vec<&BoundExpression<NoCustom>> = Vec::new(alloc);
+    let mut list: Vec<&BoundExpression<Standard>> = Vec::new(alloc);
     let mut node = tree;
     loop {
         mark_leaf(node, read);
@@ -49,7 +50,7 @@ fn mark_tree(
 /// Of `count` columns those that a tree reads are marked. E9 where an allocation fails.
 pub(crate) fn tree_marks(
     alloc: Global,
-    tree: &BoundExpression<NoCustom>,
+    tree: &BoundExpression<Standard>,
     count: usize,
 ) -> VortexResult<Vec<bool>>
     ensures { AnswersUnlessMemory result

@@ -2,7 +2,7 @@
 ghost use Rattle.std.specs.Prelude.{MatchResult};
 ghost use Rattle.vortex_interface.specs.Bound.{IsBound};
 ghost use Rattle.std.specs.Prelude.{All, IfOk};
-ghost use Rattle.vortex_functions.specs.Fixed.{fixed_meaning};
+ghost use Rattle.vortex_standard.specs.Standard.{standard_meaning};
 ghost use Rattle.vortex_functions.specs.Walks.{AllMean};
 ghost use Rattle.vortex_interface.specs.Execution.{Executes};
 ghost use Rattle.vortex_program.specs.Executing.{AllFit};
@@ -90,7 +90,7 @@ impl Program {
             (RefusesTrees columns.now rows (trees_of self.now.written.items)
             (trees_of self.now.optimized.items)) }
         ensures executed { IfOk result (λ answers. AllMean
-            (Executes fixed_meaning columns.now rows) (trees_of self.now.optimized.items)
+            (Executes standard_meaning columns.now rows) (trees_of self.now.optimized.items)
             answers.items) }
     {
         if let Err(error) = check_answers(alloc, &self.written, columns, rows) {

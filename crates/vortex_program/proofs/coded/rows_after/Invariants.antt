@@ -1,6 +1,6 @@
-use Rattle.vortex_program.proofs.CodedRows.{AreCodedSo}
+use Rattle.vortex_program.proofs.CodedRows.{HaveCodesSo}
 use Rattle.vortex_program.proofs.coded.rows_after.Given as goal
 
 -- the rows so far have codes; the first number is that of a decided row
 abbrev pub invariant-loop-i : goal.invariant-loop-i
-invariant-loop-i l = AreCodedSo l.wanted l.column l.first l.numbers.items l.codes.items l.i
+invariant-loop-i l = HaveCodesSo l.wanted l.column l.first l.numbers.items l.codes.items l.i

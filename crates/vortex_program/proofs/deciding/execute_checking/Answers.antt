@@ -1,12 +1,12 @@
 use Rattle.vortex_errors.proofs.Answering.{UnlessMemory-weaker}
 use Rattle.vortex_interface.specs.Execution.{Executes, RefusesColumns, RefusesExecution, misfit}
-use Rattle.vortex_functions.specs.Fixed.{fixed_meaning}
+use Rattle.vortex_standard.specs.Standard.{standard_meaning}
 use Rattle.vortex_program.proofs.Answered.{answers_refusal}
 use Rattle.vortex_program.proofs.deciding.execute_checking.Goals as goal
 
 pub returns-in_err-check_columns : goal.returns-in_err-check_columns
 returns-in_err-check_columns c =
-    let m = fixed_meaning in
+    let m = standard_meaning in
     let cs = c.args.columns.now in
     let n = c.args.row_count in
     let t = c.args.tree.now in

@@ -9,7 +9,8 @@ use Rattle.vortex_types.specs.TypeOf.{type_of}
 use Rattle.vortex_columns.specs.ColumnView.{ColumnView}
 use Rattle.vortex_columns.specs.Taken.{IsTaken}
 use Rattle.vortex_interface.specs.Eval.{HasTreeRows, IsFirstFault, Settled}
-use Rattle.vortex_functions.specs.Fixed.{fixed_meaning, fixed_lawful}
+use Rattle.vortex_standard.specs.Standard.{standard_meaning}
+use Rattle.vortex_standard.specs.StandardLaws.{standard_lawful}
 use Rattle.vortex_program.specs.Reads.{Reads}
 use Rattle.vortex_program.specs.Rows.{numbered, HaveRowsAt}
 use Rattle.vortex_program.proofs.Answered.{answers_refusal}
@@ -42,7 +43,7 @@ execute_right-requires-clause-fit c =
 
 pub execute_right-requires-clause-left : goal.execute_right-requires-clause-left
 execute_right-requires-clause-left c =
-    let m = fixed_meaning in
+    let m = standard_meaning in
     let cs = c.args.columns.now in
     let n = c.args.row_count in
     let ds = c.deref-4.result.now in
@@ -71,7 +72,7 @@ execute_right-requires-clause-left c =
 
 pub returns-in_err-answered : goal.returns-in_err-answered
 returns-in_err-answered c =
-    let m = fixed_meaning in
+    let m = standard_meaning in
     let cs = c.args.columns.now in
     let n = c.args.row_count in
     let ds = c.deref-4.result.now in
@@ -98,7 +99,7 @@ returns-in_err-answered c =
 
 pub returns : goal.returns
 returns c =
-    let m = fixed_meaning in
+    let m = standard_meaning in
     let cs = c.args.columns.now in
     let n = c.args.row_count in
     let ds = c.deref-4.result.now in

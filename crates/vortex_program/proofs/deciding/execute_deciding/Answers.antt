@@ -5,13 +5,13 @@ use Rattle.vortex_columns.specs.ColumnView.{ColumnView}
 use Rattle.vortex_interface.specs.Eval.{HasTreeRows, IsFirstFault}
 use Rattle.vortex_interface.specs.Execution.{Executes, RefusesExecution}
 use Rattle.vortex_interface.specs.Execution.{faulty}
-use Rattle.vortex_functions.specs.Fixed.{fixed_meaning}
+use Rattle.vortex_standard.specs.Standard.{standard_meaning}
 use Rattle.vortex_program.proofs.Answered.{answers_refusal, owned_is}
 use Rattle.vortex_program.proofs.deciding.execute_deciding.Goals as goal
 
 pub returns-in_err-column : goal.returns-in_err-column
 returns-in_err-column c =
-    let m = fixed_meaning in
+    let m = standard_meaning in
     let cs = c.args.columns.now in
     let n = c.args.row_count in
     let t = c.args.tree.now in
@@ -25,7 +25,7 @@ returns-in_err-column c =
 pub returns : goal.returns
 returns c =
     let fit = c.requires in
-    let m = fixed_meaning in
+    let m = standard_meaning in
     let cs = c.args.columns.now in
     let n = c.args.row_count in
     let owned = c.in_ok-into_owned.field-0 in

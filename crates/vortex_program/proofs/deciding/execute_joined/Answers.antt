@@ -6,9 +6,10 @@ use Rattle.vortex_types.specs.ScalarView.{ScalarView}
 use Rattle.vortex_types.specs.TypeOf.{type_of, allows_null}
 use Rattle.vortex_columns.specs.ColumnView.{ColumnView, constant_column}
 use Rattle.vortex_interface.specs.Eval.{HasTreeRows, IsFirstFault}
-use Rattle.vortex_functions.specs.Fixed.{fixed_meaning, fixed_lawful}
+use Rattle.vortex_standard.specs.Standard.{standard_meaning}
+use Rattle.vortex_standard.specs.StandardLaws.{standard_lawful}
 use Rattle.vortex_expressions.specs.Items.{meaning}
-use Rattle.vortex_program.specs.Coded.{AreCoded}
+use Rattle.vortex_program.specs.Coded.{HaveCodes}
 use Rattle.vortex_program.specs.Deciding.{IsTruth, IsInfallible}
 use Rattle.vortex_program.specs.declared.coded.CodedRows.{CodedRows}
 use Rattle.vortex_program.proofs.Decided.{joins_right, right_fits, two_there, decided}
@@ -25,7 +26,7 @@ child-right-requires c =
 
 pub returns-then-branch : goal.returns-then-branch
 returns-then-branch c =
-    let m = fixed_meaning in
+    let m = standard_meaning in
     let cs = c.args.columns.now in
     let n = c.args.row_count in
     let q = c.requires.left in
@@ -36,7 +37,7 @@ returns-then-branch c =
     let j = joins_right op node q.0 q.1 right q.2 c.child-right.ensures.tree in
     let fit = right_fits cs n op node q.0 right j c.requires.fit in
     let holds = c.in_ok-is_decided.ensures c.if-branch.true in
-    let values = infallible_settles m fixed_lawful cs n right _ c.dtype-typed.ensures.dtype
+    let values = infallible_settles m standard_lawful cs n right _ c.dtype-typed.ensures.dtype
     c.dtype-typed.ensures.typed fit.0 fit.1 c.requires.typed holds.1 in
     let all = subst (λ (x : ColumnView). IsTruth truth x) c.deref.ensures holds.0 in
     Answers-weaker c.constant.result (λ d. d ≡ constant_column c.bool.result n)
@@ -65,8 +66,8 @@ execute_coded-requires-clause-left c =
     subst
     (λ (r : Option CodedRows).
     IfSome r
-    (λ x. AreCoded truth c.deref-2.result.now x.numbers.items x.codes.items
-    (length c.deref-2.result.now.rows) × IsInfallible fixed_meaning right))
+    (λ x. HaveCodes truth c.deref-2.result.now x.numbers.items x.codes.items
+    (length c.deref-2.result.now.rows) × IsInfallible standard_meaning right))
     c.in-Some.is c.in_ok-rows.ensures in
     record {
       left = q.0;
@@ -75,9 +76,10 @@ execute_coded-requires-clause-left c =
       has = subst (λ (x : ColumnView). HasTreeRows meaning cs n q.0 x) (sym c.deref-in-Some.ensures) q.3;
       truth = truth;
       decides = c.decider-truth.ensures;
-      values = infallible_settles fixed_meaning fixed_lawful cs n right _ c.dtype-typed.ensures.dtype
+      values = infallible_settles standard_meaning standard_lawful cs n right _ c.dtype-typed.ensures.dtype
           c.dtype-typed.ensures.typed fit.0 fit.1 c.requires.typed found.1;
       coded = subst
-          (λ (x : ColumnView). AreCoded truth x rows.numbers.items rows.codes.items (length x.rows))
+          (λ (x : ColumnView).
+          HaveCodes truth x rows.numbers.items rows.codes.items (length x.rows))
           (c.deref-2.ensures ∙ sym c.deref-in-Some.ensures) found.0;
     }

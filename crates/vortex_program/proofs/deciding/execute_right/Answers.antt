@@ -3,7 +3,7 @@ use Rattle.std.specs.Cow.{cow_value}
 use Rattle.vortex_errors.proofs.Answering.{UnlessMemory-weaker}
 use Rattle.vortex_types.specs.TypeOf.{type_of}
 use Rattle.vortex_interface.specs.Eval.{HasTreeRows, IsFirstFault}
-use Rattle.vortex_functions.specs.Fixed.{fixed_meaning}
+use Rattle.vortex_standard.specs.Standard.{standard_meaning}
 use Rattle.vortex_program.proofs.Answered.{answers_refusal}
 use Rattle.vortex_program.proofs.Decided.{joins_right, right_fault, right_fits, two_there}
 use Rattle.vortex_program.proofs.Decided.{both_counted, both_accepted, both_answer}
@@ -24,7 +24,7 @@ execute_fitting-requires c =
 
 pub returns-in_err-right : goal.returns-in_err-right
 returns-in_err-right c =
-    let m = fixed_meaning in
+    let m = standard_meaning in
     let cs = c.args.columns.now in
     let n = c.args.row_count in
     let q = c.requires.left in
@@ -45,7 +45,7 @@ new-args-requires c =
     let op = c.args.joined.operator in
     let right = c.child.result.now in
     let j = joins_right op node q.0 q.1 right q.2 c.child.ensures.tree in
-    both_counted fixed_meaning c.args.columns.now c.args.row_count op node q.0 right j
+    both_counted standard_meaning c.args.columns.now c.args.row_count op node q.0 right j
     (cow_value c.args.left) q.3 (cow_value c.in_ok-right.right) _ c.in_ok-right.ensures.answer
     (ap (map cow_value) c.in_ok-inputs.ensures)
 
@@ -56,7 +56,7 @@ execute-requires-clause-arity c =
     let op = c.args.joined.operator in
     let right = c.child.result.now in
     let j = joins_right op node q.0 q.1 right q.2 c.child.ensures.tree in
-    (both_accepted fixed_meaning c.args.columns.now c.args.row_count op node q.0 right j
+    (both_accepted standard_meaning c.args.columns.now c.args.row_count op node q.0 right j
     (cow_value c.args.left) q.3 (cow_value c.in_ok-right.right) _ c.in_ok-right.ensures.answer
     (c.new-args.ensures.columns ∙ ap (map cow_value) c.in_ok-inputs.ensures)
     (type_of c.dtype-typed.result.now) c.dtype-typed.ensures.dtype).0
@@ -68,7 +68,7 @@ execute-requires-clause-accepted c =
     let op = c.args.joined.operator in
     let right = c.child.result.now in
     let j = joins_right op node q.0 q.1 right q.2 c.child.ensures.tree in
-    let here = both_accepted fixed_meaning c.args.columns.now c.args.row_count op node q.0 right j
+    let here = both_accepted standard_meaning c.args.columns.now c.args.row_count op node q.0 right j
     (cow_value c.args.left) q.3 (cow_value c.in_ok-right.right) _ c.in_ok-right.ensures.answer
     (c.new-args.ensures.columns ∙ ap (map cow_value) c.in_ok-inputs.ensures)
     (type_of c.dtype-typed.result.now) c.dtype-typed.ensures.dtype in
@@ -81,7 +81,7 @@ returns c =
     let op = c.args.joined.operator in
     let right = c.child.result.now in
     let j = joins_right op node q.0 q.1 right q.2 c.child.ensures.tree in
-    both_answer fixed_meaning c.args.columns.now c.args.row_count op node q.0 right j
+    both_answer standard_meaning c.args.columns.now c.args.row_count op node q.0 right j
     (cow_value c.args.left) q.3 (cow_value c.in_ok-right.right) _ c.in_ok-right.ensures.answer
     (c.new-args.ensures.columns ∙ ap (map cow_value) c.in_ok-inputs.ensures)
     (type_of c.dtype-typed.result.now) c.execute.result c.dtype-typed.ensures.dtype

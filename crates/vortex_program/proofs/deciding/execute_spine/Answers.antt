@@ -2,7 +2,7 @@ use Rattle.std.proofs.Common.{List, subst}
 use Rattle.vortex_errors.proofs.Answering.{UnlessMemory-weaker}
 use Rattle.vortex_interface.specs.Eval.{IsFirstFault}
 use Rattle.vortex_functions.specs.Executing.{HasRows}
-use Rattle.vortex_functions.specs.Fixed.{fixed_meaning}
+use Rattle.vortex_standard.specs.Standard.{standard_meaning}
 use Rattle.vortex_program.proofs.Answered.{answers_refusal}
 use Rattle.vortex_program.proofs.Decided.{spine_last, spine_fits, spine_fault, left_rows}
 use Rattle.vortex_program.specs.declared.deciding.Joined.{Joined}
@@ -16,7 +16,7 @@ execute_fitting-requires c =
 
 pub returns-in_err-column : goal.returns-in_err-column
 returns-in_err-column c =
-    let m = fixed_meaning in
+    let m = standard_meaning in
     let cs = c.args.columns.now in
     let n = c.args.row_count in
     let t = c.args.tree.now in
@@ -50,7 +50,7 @@ execute_joined-requires-clause-left c =
 
 pub returns-in_err-execute_joined : goal.returns-in_err-execute_joined
 returns-in_err-execute_joined c =
-    let m = fixed_meaning in
+    let m = standard_meaning in
     let cs = c.args.columns.now in
     let n = c.args.row_count in
     let t = c.args.tree.now in

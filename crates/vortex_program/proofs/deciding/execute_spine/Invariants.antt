@@ -1,6 +1,6 @@
 use Rattle.std.proofs.Common.{length}
 use Rattle.vortex_functions.specs.Executing.{HasRows}
-use Rattle.vortex_functions.specs.Fixed.{fixed_meaning}
+use Rattle.vortex_standard.specs.Standard.{standard_meaning}
 use Rattle.vortex_expressions.specs.Items.{Tree}
 use Rattle.vortex_program.specs.Deciding.{IsSpine}
 use Rattle.vortex_program.proofs.deciding.execute_spine.Given as goal
@@ -9,7 +9,7 @@ use Rattle.vortex_program.proofs.deciding.execute_spine.Given as goal
 abbrev pub invariant-loop-joined : goal.invariant-loop-joined
 invariant-loop-joined l =
     (node : Tree) × IsSpine l.tree l.above.items node
-    × HasRows fixed_meaning l.columns l.row_count node l.column
+    × HasRows standard_meaning l.columns l.row_count node l.column
 
 abbrev pub decreases-loop-joined : goal.decreases-loop-joined
 decreases-loop-joined l = length l.above.items

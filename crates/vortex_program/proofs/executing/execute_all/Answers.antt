@@ -5,7 +5,7 @@ use Rattle.vortex_functions.specs.Walks.{AllMean}
 use Rattle.vortex_program.specs.Executing.{RefusesFirst}
 use Rattle.vortex_program.proofs.Answered.{all_more, answers_refusal, refuses_at}
 use Rattle.vortex_program.proofs.Faulty.{fit_at}
-use Rattle.vortex_functions.specs.Fixed.{fixed_meaning}
+use Rattle.vortex_standard.specs.Standard.{standard_meaning}
 use Rattle.vortex_program.proofs.executing.execute_all.Goals as goal
 
 pub execute_checking-requires : goal.execute_checking-requires
@@ -15,7 +15,7 @@ execute_checking-requires c = λ known.
 
 pub returns-in_err-column : goal.returns-in_err-column
 returns-in_err-column c =
-    let m = fixed_meaning in
+    let m = standard_meaning in
     let cs = c.args.columns.now in
     let n = c.args.row_count in
     let answers = c.args.answers.now in
@@ -33,7 +33,7 @@ returns-in_err-column c =
 
 pub loop-answer-preserved : goal.loop-answer-preserved
 loop-answer-preserved c =
-    let m = fixed_meaning in
+    let m = standard_meaning in
     let cs = c.args.columns.now in
     let n = c.args.row_count in
     let k = c.loop-answer.answer-index in

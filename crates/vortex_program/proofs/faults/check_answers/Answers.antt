@@ -2,7 +2,7 @@ use Rattle.std.proofs.Common.{add-one}
 use Rattle.vortex_errors.proofs.Answering.{UnlessMemory-weaker}
 use Rattle.vortex_interface.specs.Bound.{IsBound}
 use Rattle.vortex_interface.specs.Execution.{RefusesColumns}
-use Rattle.vortex_functions.specs.Fixed.{fixed_meaning}
+use Rattle.vortex_standard.specs.Standard.{standard_meaning}
 use Rattle.vortex_rewriting.specs.Keeping.{RewritesKeepRows}
 use Rattle.vortex_program.specs.Executing.{RefusesColumnsFirst}
 use Rattle.vortex_program.specs.Programs.{trees_of}
@@ -21,7 +21,7 @@ returns-in_err-check_columns-clause-fit c =
     c.from_residual.ensures.1
     (UnlessMemory-weaker (RefusesColumns cs n answer.tree) refuses
     (λ e h.
-    refuses_columns_at fixed_meaning cs n (λ a. a.tree) answers c.loop-answer.answer-index answer e
+    refuses_columns_at standard_meaning cs n (λ a. a.tree) answers c.loop-answer.answer-index answer e
     c.loop-answer-test.true c.answer-item.is c.loop-answer.invariant.1 h)
     c.in_err-check_columns.field-0.0 c.in_err-check_columns.ensures.answer)
 
@@ -34,10 +34,10 @@ loop-answer-preserved c =
     let answer = c.answer-item.result in (
       placed_more IsBound (λ a. a.tree) answers k _ answer (add-one k) c.loop-answer-test.true
           c.answer-item.is c.loop-answer.invariant.0 c.dtype-typed.ensures.typed,
-      fit_more fixed_meaning cs n (λ a. a.tree) answers k _ answer (add-one k)
+      fit_more standard_meaning cs n (λ a. a.tree) answers k _ answer (add-one k)
           c.loop-answer-test.true c.answer-item.is c.loop-answer.invariant.1
           c.in_ok-check_columns.ensures.answer,
-      placed_more (RewritesKeepRows fixed_meaning cs n) (λ a. a.tree) answers k _ answer (add-one k)
+      placed_more (RewritesKeepRows standard_meaning cs n) (λ a. a.tree) answers k _ answer (add-one k)
           c.loop-answer-test.true c.answer-item.is c.loop-answer.invariant.2
           c.rewrites_keep_rows.ensures,
     )

@@ -5,7 +5,7 @@ use Rattle.vortex_errors.specs.declared.error.VortexError.{VortexError}
 use Rattle.vortex_errors.specs.Answers.{UnlessMemory}
 use Rattle.vortex_columns.specs.ColumnView.{ColumnView}
 use Rattle.vortex_interface.specs.Eval.{IsFirstFault}
-use Rattle.vortex_functions.specs.Fixed.{fixed_meaning}
+use Rattle.vortex_standard.specs.Standard.{standard_meaning}
 use Rattle.vortex_program.specs.declared.answer.Answer as bound
 use Rattle.vortex_program.specs.Executing.{AllGiveWithin}
 use Rattle.vortex_program.specs.Programs.{trees_of}
@@ -62,7 +62,7 @@ loop-answer-preserved c =
     bound_at answers k answer c.loop-answer-test.true c.answer-item.is c.requires.bound in
     within_more cs first count answers k _ answer (add-one k) c.loop-answer-test.true
     c.answer-item.is c.loop-answer.invariant
-    (gives_within fixed_meaning cs ds first answer.tree bound count here (cow_value c.in-Ok.field-0)
+    (gives_within standard_meaning cs ds first answer.tree bound count here (cow_value c.in-Ok.field-0)
     c.in-Ok.ensures.answer)
 
 pub returns-in-Err-clause-some : goal.returns-in-Err-clause-some
@@ -86,11 +86,11 @@ returns-in-Err-clause-some c = λ is.
     bound_at answers k answer c.loop-answer-test.true c.answer-item.is c.requires.bound in
     let faulty =
     subst
-    (λ (d : VortexError). UnlessMemory (IsFirstFault fixed_meaning ds count answer.tree) d)
+    (λ (d : VortexError). UnlessMemory (IsFirstFault standard_meaning ds count answer.tree) d)
     (sym same.0) c.in-Err.ensures.answer in
     faults_within_at cs first count answers k answer c.loop-answer-test.true c.answer-item.is
-    (some_faults fixed_meaning cs ds first answer.tree bound count here e
-    (unless_not (IsFirstFault fixed_meaning ds count answer.tree) e same.1 faulty))
+    (some_faults standard_meaning cs ds first answer.tree bound count here e
+    (unless_not (IsFirstFault standard_meaning ds count answer.tree) e same.1 faulty))
 
 pub returns-clause-none : goal.returns-clause-none
 returns-clause-none c = λ _.
@@ -100,6 +100,6 @@ returns-clause-none c = λ _.
     let answers = c.args.answers.now in
     subst
     (λ (xs : List bound.Answer).
-    AllGiveWithin fixed_meaning cs first (first + count) (trees_of xs))
+    AllGiveWithin standard_meaning cs first (first + count) (trees_of xs))
     (take_all c.loop-answer.answer-index answers c.loop-answer-test.false)
     c.loop-answer.invariant

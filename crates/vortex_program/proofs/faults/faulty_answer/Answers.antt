@@ -4,7 +4,7 @@ use Rattle.vortex_columns.specs.ColumnView.{ColumnView}
 use Rattle.vortex_errors.specs.Answers.{UnlessMemory}
 use Rattle.vortex_errors.specs.declared.error.VortexError.{VortexError}
 use Rattle.vortex_interface.specs.Eval.{IsFirstFault}
-use Rattle.vortex_functions.specs.Fixed.{fixed_meaning}
+use Rattle.vortex_standard.specs.Standard.{standard_meaning}
 use Rattle.vortex_program.specs.Programs.{trees_of}
 use Rattle.vortex_program.specs.Rows.{HaveRows, IsMarked}
 use Rattle.vortex_program.proofs.Answered.{unless_not}
@@ -55,7 +55,7 @@ loop-k-preserved c =
     have_at answers k answer row 1 cs ds c.loop-k-test.true c.index-answers-k.is have in
     give_more cs row answers k _ answer (add-one k) c.loop-k-test.true c.index-answers-k.is
     c.loop-k.invariant
-    (gives_one fixed_meaning cs ds row answer.tree c.dtype-typed.ensures.typed here
+    (gives_one standard_meaning cs ds row answer.tree c.dtype-typed.ensures.typed here
     (cow_value c.in-Ok.field-0) c.in-Ok.ensures.answer)
 
 pub returns-in-Err : goal.returns-in-Err
@@ -75,9 +75,9 @@ returns-in-Err c =
     let here =
     have_at answers k answer row 1 cs ds c.loop-k-test.true c.index-answers-k.is have in
     let faulty =
-    subst (λ (d : VortexError). UnlessMemory (IsFirstFault fixed_meaning ds 1 answer.tree) d)
+    subst (λ (d : VortexError). UnlessMemory (IsFirstFault standard_meaning ds 1 answer.tree) d)
     (sym same.0) c.in-Err.ensures.answer in
     faults_there_at cs row answers k answer e c.loop-k-test.true c.index-answers-k.is
     c.loop-k.invariant
-    (faults_there fixed_meaning cs ds row answer.tree c.dtype-typed.ensures.typed here e
-    (unless_not (IsFirstFault fixed_meaning ds 1 answer.tree) e same.1 faulty))
+    (faults_there standard_meaning cs ds row answer.tree c.dtype-typed.ensures.typed here e
+    (unless_not (IsFirstFault standard_meaning ds 1 answer.tree) e same.1 faulty))

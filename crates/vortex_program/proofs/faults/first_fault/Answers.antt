@@ -1,5 +1,5 @@
 use Rattle.std.proofs.Common.{rules, arith}
-use Rattle.vortex_functions.specs.Fixed.{fixed_meaning}
+use Rattle.vortex_standard.specs.Standard.{standard_meaning}
 use Rattle.vortex_program.specs.Executing.{AllGiveWithin}
 use Rattle.vortex_program.specs.Programs.{trees_of}
 use Rattle.vortex_program.specs.Running.{FaultsFirstThere}
@@ -22,6 +22,6 @@ returns-in-Some c =
 pub returns-in-None : goal.returns-in-None
 returns-in-None c = λ k lt.
     let all :
-    AllGiveWithin fixed_meaning c.args.columns.now 0 c.args.row_count
+    AllGiveWithin standard_meaning c.args.columns.now 0 c.args.row_count
     (trees_of c.args.answers.now) = search rules in
     all k (omega arith) lt

@@ -1,6 +1,6 @@
 use Rattle.std.proofs.Common.{rules, ◌<◌, length, arith}
 use Rattle.std.proofs.lemmas.List.{length-map}
-use Rattle.vortex_functions.specs.Fixed.{fixed_meaning}
+use Rattle.vortex_standard.specs.Standard.{standard_meaning}
 use Rattle.vortex_program.specs.Executing.{AllGive}
 use Rattle.vortex_program.specs.Programs.{trees_of}
 use Rattle.vortex_program.specs.Running.{FaultsThere}
@@ -38,5 +38,5 @@ returns c =
     let cs = c.args.columns.now in
     let ts = trees_of c.args.answers.now in
     let suspect = c.in_ok-row.ensures in
-    let here : AllGive fixed_meaning cs c.in_ok-row.row ts = search rules in
-    suspect.after (one_more_within fixed_meaning cs c.in_ok-row.row ts suspect.before here)
+    let here : AllGive standard_meaning cs c.in_ok-row.row ts = search rules in
+    suspect.after (one_more_within standard_meaning cs c.in_ok-row.row ts suspect.before here)

@@ -1,5 +1,5 @@
 use Rattle.std.proofs.Common.{◌≡◌, ◌+◌, ℕ, arith, subst}
-use Rattle.vortex_functions.specs.Fixed.{fixed_meaning}
+use Rattle.vortex_standard.specs.Standard.{standard_meaning}
 use Rattle.vortex_program.specs.Executing.{AllGiveWithin}
 use Rattle.vortex_program.specs.Programs.{trees_of}
 use Rattle.vortex_program.proofs.SomeRows.{joined_within, to_end, not_before}
@@ -11,7 +11,7 @@ parts-preserved-then-branch c =
       c.row_between-end.ensures.after,
       omega (arith, c.row_between-end.ensures.before, c.parts.invariant.1),
       c.parts.invariant.2,
-      not_before fixed_meaning c.args.columns.now c.parts.from end c.args.row_count
+      not_before standard_meaning c.args.columns.now c.parts.from end c.args.row_count
           (trees_of c.args.answers.now)
           (omega (arith, c.row_between-end.ensures.after))
           (c.in_ok-faults_within.ensures.some c.if-branch.true),
@@ -24,8 +24,8 @@ parts-preserved c =
     let end = c.row_between-end.result in (
       c.row_between-end.ensures.before,
       c.parts.invariant.1,
-      joined_within fixed_meaning cs c.parts.from end ts c.parts.invariant.2
-          (to_end fixed_meaning cs c.parts.from end ts
+      joined_within standard_meaning cs c.parts.from end ts c.parts.invariant.2
+          (to_end standard_meaning cs c.parts.from end ts
           (omega (arith, c.row_between-end.ensures.after))
           (c.in_ok-faults_within.ensures.none c.if-branch.false)),
       c.parts.invariant.3,
@@ -42,5 +42,5 @@ returns c =
       before = c.parts.invariant.2;
       after = λ all.
           c.parts.invariant.3
-          (subst (λ (n : ℕ). AllGiveWithin fixed_meaning cs 0 n ts) last all);
+          (subst (λ (n : ℕ). AllGiveWithin standard_meaning cs 0 n ts) last all);
     }

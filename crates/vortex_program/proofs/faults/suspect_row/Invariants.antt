@@ -1,5 +1,5 @@
 use Rattle.std.proofs.Common.{◌<◌, ◌≤◌, ◌-◌}
-use Rattle.vortex_functions.specs.Fixed.{fixed_meaning}
+use Rattle.vortex_standard.specs.Standard.{standard_meaning}
 use Rattle.vortex_program.specs.Executing.{AllGiveWithin}
 use Rattle.vortex_program.specs.Programs.{trees_of}
 use Rattle.vortex_program.proofs.faults.suspect_row.Given as goal
@@ -9,9 +9,9 @@ abbrev pub invariant-parts : goal.invariant-parts
 invariant-parts l =
     (l.from < l.to)
     × (l.to ≤ l.row_count)
-    × AllGiveWithin fixed_meaning l.columns 0 l.from (trees_of l.answers)
-    × (AllGiveWithin fixed_meaning l.columns 0 l.to (trees_of l.answers)
-    → AllGiveWithin fixed_meaning l.columns 0 l.row_count (trees_of l.answers))
+    × AllGiveWithin standard_meaning l.columns 0 l.from (trees_of l.answers)
+    × (AllGiveWithin standard_meaning l.columns 0 l.to (trees_of l.answers)
+    → AllGiveWithin standard_meaning l.columns 0 l.row_count (trees_of l.answers))
 
 abbrev pub decreases-parts : goal.decreases-parts
 decreases-parts l = l.to - l.from
