@@ -1,0 +1,3 @@
+pub mod DescribedColumns
+pub mod TreesKnown
+pub mod Verdicts

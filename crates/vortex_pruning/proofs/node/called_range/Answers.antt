@@ -1,0 +1,29 @@
+use Rattle.std.proofs.Common.{◌≡◌, ◌∙◌, sym, ap, subst, map, List}
+use Rattle.std.specs.List.{list_any}
+use Rattle.vortex_types.specs.TypeOf.{type_of}
+use Rattle.vortex_functions.specs.Words.{function_of, function_type, function_means}
+use Rattle.vortex_ranges.specs.declared.range.Range.{Range}
+use Rattle.vortex_ranges.specs.BoundViews.{range_of}
+use Rattle.vortex_ranges.specs.Calls.{AdmitsCalls}
+use Rattle.vortex_pruning.specs.Knowing.{Knows, with_faults}
+use Rattle.vortex_pruning.proofs.TreesKnown.{called_known}
+use Rattle.vortex_pruning.proofs.node.called_range.Goals as goal
+
+pub returns : goal.returns
+returns g c =
+    let m = g.C.ScalarFnVTable.meaning in
+    let ss = c.args.statistics.now in
+    let n = c.args.rows in
+    let t = c.args.node.now in
+    let f = function_of c.args.function.now in
+    let k = type_of c.dtype.result.now in
+    let own = range_of c.in_ok-own.own in
+    let faulty = c.any_may_fault.ensures
+    ∙ ap (λ (rs : List Range). list_any (λ (r : Range). r.may_fault) rs) c.deref-2.ensures.value in
+    let admits = subst (λ (rs : List Range).
+    AdmitsCalls (function_type m f) (function_means m f) k (map range_of rs) own)
+    c.deref.ensures.value c.in_ok-own.ensures in
+    subst (λ r. Knows m n ss t r)
+    (sym (c.with_faults.ensures ∙ ap (λ b. with_faults b own) faulty))
+    (called_known m n ss g.met.C.ScalarFnVTable.lawful f k c.args.inputs.items own admits t
+    c.requires.called c.dtype.ensures.dtype c.dtype.ensures.typed c.requires.inputs)

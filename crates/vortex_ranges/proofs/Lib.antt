@@ -1,0 +1,11 @@
+pub mod Tests
+pub mod Above
+pub mod KleeneTables
+pub mod Compared
+pub mod OfType
+pub mod CallsAdmit
+pub mod Defaults
+pub mod DescribedRows
+pub mod Products
+pub mod Anything
+pub mod Computed

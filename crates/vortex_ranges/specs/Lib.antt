@@ -1,0 +1,10 @@
+pub mod Ranges
+pub mod Truths
+pub mod Comparing
+pub mod TypeRanges
+pub mod BoundViews
+pub mod Calls
+pub mod ShippedCalls
+pub mod Described
+pub mod Arithmetic
+pub mod Sound

@@ -1,0 +1,18 @@
+//! The laws of ranges. The functions are empty: their contracts are the laws, proved.
+ghost use Rattle.vortex_ranges.specs.Sound.{AdmitTruths, AdmitComparisons, AdmitTyped};
+
+/// The ranges of Kleene's And, Or and Not and of the null tests admit the values of these functions
+/// for all values that the ranges of their arguments admit.
+pub fn truths_are_admitted()
+    ensures { AdmitTruths }
+{}
+
+/// So do the ranges of comparisons and of Between.
+pub fn comparisons_are_admitted()
+    ensures { AdmitComparisons }
+{}
+
+/// The range of a value admits that value, and the range of a type each value of the type.
+pub fn typed_values_are_admitted()
+    ensures { AdmitTyped }
+{}
