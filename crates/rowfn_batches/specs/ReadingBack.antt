@@ -6,7 +6,7 @@ use Rattle.vortex_types.specs.LogicalTypes.{LogicalType, is_nullable}
 use Rattle.vortex_types.specs.Values.{Value, is_null}
 use Rattle.vortex_columns.specs.ColumnView.{ColumnView, row}
 use Rattle.vortex_interface.specs.Eval.{tree_type}
-use Rattle.vortex_functions.specs.Fixed.{fixed_meaning}
+use Rattle.vortex_standard.specs.Standard.{standard_meaning}
 use Rattle.vortex_program.specs.declared.answer.Answer.{Answer}
 use Rattle.rowfn_csv.specs.declared.format.Format.{Format}
 use Rattle.rowfn_batches.specs.declared.settings.Settings.{Settings}
@@ -33,7 +33,7 @@ module _ (format : Format) where
 
   -- the answer may be null, and its null is lost where it stands alone
   abbrev pub may_be_lost : Answer → Bool
-  may_be_lost a = loses_nulls && allows_null (tree_type fixed_meaning a.tree)
+  may_be_lost a = loses_nulls && allows_null (tree_type standard_meaning a.tree)
 
   -- no row of the answers is lost
   abbrev pub KeepsRows : List Answer → Type 0

@@ -5,6 +5,7 @@ use std::alloc::{AllocError, AllocFailed};
 use std::fmt::{self, Write};
 use std::{io, str};
 use vortex_columns::{DType, VortexError};
+use vortex_standard::ErrorText;
 
 /// What ends a stream before the end of its input. Records are counted from 1, without the header.
 #[derive(Drop)]
@@ -161,10 +162,7 @@ impl StreamError {
     /// Writes why a row is refused, without its number, its column and its field.
     pub(crate) fn write_reason<W: fmt::Write>(&self, f: &mut fmt::Formatter<W>) -> fmt::Result {
         match self {
-            StreamError::Fault { error, .. } => {
-                let (number, name) = (error.number(), error.name());
-                write!(f, "E{number} {name}")
-            }
+            StreamError::Fault { error, .. } => write_error(f, error),
             StreamError::Misfit { dtype, .. } => write!(f, "is no {dtype:?}"),
             StreamError::Width { wanted, found, .. } => {
                 write!(f, "{found} fields instead of {wanted}")
@@ -173,6 +171,19 @@ impl StreamError {
             StreamError::HeaderTooLong(limit) => write_too_long(f, *limit),
             _ => f.write_str("a quote is not closed"),
         }
+    }
+}
+
+/// Writes an error's number and its name, and what the fault of a function of SQL is.
+fn write_error<W: fmt::Write>(f: &mut fmt::Formatter<W>, error: &VortexError) -> fmt::Result {
+    let (number, name) = (error.number(), error.name());
+    write!(f, "E{number} {name}")?;
+    match ErrorText::new(error).fault() {
+        Some(fault) => {
+            let text = fault.text();
+            write!(f, ": {text}")
+        }
+        None => Ok(()),
     }
 }
 
@@ -307,10 +318,7 @@ fn write_answers<W: fmt::Write>(f: &mut fmt::Formatter<W>, error: &StreamError) 
 impl fmt::Display for StreamError {
     fn fmt<W: fmt::Write>(&self, f: &mut fmt::Formatter<W>) -> fmt::Result {
         match self {
-            StreamError::Refused(error) => {
-                let (number, name) = (error.number(), error.name());
-                write!(f, "E{number} {name}")
-            }
+            StreamError::Refused(error) => write_error(f, error),
             StreamError::Reading(error) => write!(f, "reading: {error}"),
             StreamError::Writing(error) => write!(f, "writing: {error}"),
             StreamError::OutOfMemory => f.write_str("out of memory"),

@@ -12,11 +12,12 @@ use itoa::Buffer;
 use std::alloc::{AllocError, Global};
 use vortex_columns::VortexResult;
 use vortex_expressions::write_expression;
-use vortex_functions::{BoundExpression, NoCustom};
+use vortex_functions::BoundExpression;
 use vortex_program::{Answer, Program};
+use vortex_standard::Standard;
 
 /// The text of a tree as people write it, where it has one. E9 where an allocation fails.
-fn text_of(alloc: Global, tree: &BoundExpression<NoCustom>) -> VortexResult<String>
+fn text_of(alloc: Global, tree: &BoundExpression<Standard>) -> VortexResult<String>
     ensures { AnswersUnlessMemory result (λ text. string_bytes text
         ≡ unwrap_or (text_of_tree tree.now) (codes "no expression")) }
 {
@@ -55,7 +56,7 @@ fn push_tree(
     out: &mut String,
     alloc: Global,
     title: &str,
-    tree: &BoundExpression<NoCustom>,
+    tree: &BoundExpression<Standard>,
     printed: &str,
 ) -> VortexResult<()>
     requires { IfSome (tree_text tree.now) (λ words. printed.now ≡ words) }

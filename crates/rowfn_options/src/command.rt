@@ -8,15 +8,19 @@ const AFTER_HELP: &str = "Rows are CSV. EXPRESSION is one answer or more:
   price * stock as worth, price      answers, each with a name if it has one
   price, \"unit price\"                columns; in double quotes any name
   7  -7  7::u8  'it''s'  true  null  literals; null::utf8? is a null of a type
-  + - * /                            whole numbers of one type
+  + - * / %  -a                      whole numbers of one type
+  s || t                             one text after the other
   = <> != < <= > >=                  two values of one type; texts by their bytes
   a between x and y                  both ends count; not between
   a like 'b%', a ilike 'B_'          not like, not ilike; like p escape '!'
-  a is null, a is not null
+  a in (x, y), a is null, a is true  not in, is not; a is distinct from b
   and or not                         three-valued, as in SQL
-  cast(a as bool?)                   a truth value that may be null
+  case when a > 0 then x else y end  the value of the first condition that is true
+  coalesce(a, 0), substr(s, 1, 3)    and nullif greatest least abs sign length lower upper left
+                                     right trim strpos starts_with bit_and shift_left ..
+  cast(a as int)                     between integers, truth values and texts
 Types are bool, i8 to i64, u8 to u64 and utf8; a ? after one allows null.
-There are no fractions, dates, functions, IN, CASE, || or %.
+There are no fractions, dates or times.
 
 Columns that --columns does not declare take their types from the first rows. --columns also takes a
 column by its place, from 1, and gives it a name: '3 as category utf8'. Without a header columns are

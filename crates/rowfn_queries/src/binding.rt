@@ -19,8 +19,9 @@ use crate::scopes::{add_all, add_needed};
 use crate::texts::{Texts, place_of};
 use std::alloc::Global;
 use vortex_columns::{StructFields, VortexResult};
-use vortex_functions::{BoundExpression, NoCustom};
+use vortex_functions::BoundExpression;
 use vortex_program::{Answer, Form, Parsed, Program};
+use vortex_standard::Standard;
 
 /// The columns that texts may read: some are declared, others have the types of their fields.
 #[derive(Clone, Copy)]
@@ -34,7 +35,7 @@ pub(crate) struct Binding<'a> {
 }
 
 /// Fails where a tree is no truth value.
-fn check_tree(alloc: Global, tree: &BoundExpression<NoCustom>) -> Result<(), QueryError>
+fn check_tree(alloc: Global, tree: &BoundExpression<Standard>) -> Result<(), QueryError>
     ensures { MatchResult result (λ _. IsTruth tree.now) (IsNoTruth tree.now) }
 {
     let dtype = tree.dtype();
