@@ -11,12 +11,12 @@ use Rattle.vortex_arrow.specs.declared.error.CopyError.{CopyError}
 use Rattle.vortex_arrow.specs.Written.{SameBehind, RefusesSelection, mask_of, RefusesMask}
 use Rattle.yurkije_columns.specs.declared.borrowed.BorrowedColumn.{BorrowedColumn}
 use Rattle.yurkije_columns.specs.declared.borrowed.BorrowedError.{BorrowedError}
-use Rattle.yurkije_columns.specs.declared.rooms.Size.{Size}
-use Rattle.yurkije_columns.specs.declared.rooms.Room.{Room}
-use Rattle.yurkije_columns.specs.declared.rooms.RoomError.{RoomError}
-use Rattle.yurkije_columns.specs.declared.rooms.RoomError.TheVariants as room
+use Rattle.yurkije_columns.specs.declared.outputs.Size.{Size}
+use Rattle.yurkije_columns.specs.declared.outputs.Room.{Room}
+use Rattle.yurkije_columns.specs.declared.outputs.RoomError.{RoomError}
+use Rattle.yurkije_columns.specs.declared.outputs.RoomError.TheVariants as room
 use Rattle.yurkije_columns.specs.Borrowed.{AllSay, RefusesBorrowed}
-use Rattle.yurkije_columns.specs.Rooms.{IsSize, RefusesSize, IsCopied, RefusesCopy}
+use Rattle.yurkije_columns.specs.Outputs.{IsSize, RefusesSize, IsCopied, RefusesCopy}
 use Rattle.yurkije_columns.specs.Statuses.{copy_status}
 use Rattle.yurkije_core.specs.declared.running.BatchRunError.{BatchRunError}
 use Rattle.yurkije_core.specs.declared.report.Report.{Report}

@@ -1,5 +1,6 @@
 -- Codes of what a handle holds, as its ghost field wants them.
-use Rattle.std.specs.Prelude.{ℕ, Bool, List, Option, refl}
+use Rattle.std.specs.Prelude.{ℕ, Bool, List, Option, refl, unwrap_or}
+use Rattle.std.proofs.Common.{ap}
 use Rattle.std.specs.Coded.{Coded, code_by, coded×, coded_ℕ, coded_bool, coded_list}
 use Rattle.std.specs.Coded.{coded_option}
 use Rattle.vortex_types.specs.Codes.{coded_fields}
@@ -7,12 +8,22 @@ use Rattle.vortex_types.specs.LogicalTypes.{Fields}
 use Rattle.vortex_columns.specs.ColumnView.{ColumnView, coded_column}
 use Rattle.vortex_interface.specs.TreeCodes.{coded_tree}
 use Rattle.vortex_interface.specs.declared.options.EmptyOptions.{EmptyOptions}
-use Rattle.vortex_functions.specs.declared.custom.NoCustom.{NoCustom}
+use Rattle.vortex_standard.specs.declared.standard.Standard.{Standard}
+use Rattle.vortex_standard.specs.declared.standard.Standard.TheVariants.{Coalesce}
+use Rattle.vortex_standard.specs.Names.{name_of, standard_named}
+use Rattle.vortex_standard.specs.NameLaws.{named_back}
 use Rattle.vortex_expressions.specs.Items.{Tree}
 use Rattle.yurkije.specs.Views.{ProgramView, HeldView}
 
-abbrev coded_none : Coded NoCustom
-coded_none = code_by ℕ coded_ℕ (λ _. 0) (λ _. record {}) (λ _. refl)
+-- a function by its name
+function_named : List ℕ → Standard
+function_named w = unwrap_or (standard_named w) Coalesce
+
+pub coded_standard : Coded Standard
+unfolding function_named
+coded_standard =
+    code_by (List ℕ) (coded_list coded_ℕ) name_of function_named
+    (λ f. ap (λ o. unwrap_or o Coalesce) (named_back f))
 
 abbrev coded_empty : Coded EmptyOptions
 coded_empty = code_by ℕ coded_ℕ (λ _. 0) (λ _. record {}) (λ _. refl)
@@ -34,7 +45,7 @@ of_parts p = record {
 
 abbrev pub coded_program : Coded ProgramView
 coded_program =
-    let trees = coded_list (coded_tree coded_none coded_empty) in
+    let trees = coded_list (coded_tree coded_standard coded_empty) in
     let parts =
     coded× coded_fields (coded× (coded_list (coded_list coded_ℕ))
     (coded× trees (coded× trees (coded_list coded_bool)))) in

@@ -1,7 +1,7 @@
 pub mod Serving
 pub mod ScopesSoFar
 pub mod BorrowedSoFar
-pub mod TextRooms
+pub mod TextOutputs
 pub mod PutMessages
 pub mod JoinedRows
 pub mod FlatColumns

@@ -5,5 +5,5 @@ pub mod Borrowed
 pub mod Scopes
 pub mod Batches
 pub mod Statuses
-pub mod Rooms
+pub mod Outputs
 pub mod Messages

@@ -1,4 +1,4 @@
--- The numbers of what is refused of columns, fields and rooms.
+-- The numbers of what is refused of columns, fields and outputs.
 use Rattle.std.specs.Prelude.{ℕ}
 use Rattle.vortex_arrow.specs.declared.error.ArrowError.{ArrowError}
 use Rattle.vortex_arrow.specs.declared.error.ArrowError.TheVariants as arrow

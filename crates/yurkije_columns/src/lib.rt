@@ -1,5 +1,5 @@
 //! Columns, fields and buffers as C has them: a scope of fields, columns that are lent over it, and
-//! rooms for answers.
+//! outputs for answers.
 #![tactic(auto)]
 
 pub mod batch;
@@ -8,7 +8,7 @@ pub mod checking;
 pub mod fields;
 pub mod joined;
 pub mod kinds;
-pub mod rooms;
+pub mod outputs;
 pub mod statuses;
 pub mod texts;
 mod words;
@@ -19,6 +19,6 @@ pub use checking::{check_batch, is_flat};
 pub use fields::{BorrowedField, FieldError, ScopeFault, read_fields};
 pub use joined::Joined;
 pub use kinds::{Kind, Type, kind_numbered, reported_type};
-pub use rooms::{Room, RoomError, Size, copy_answer, size_of};
+pub use outputs::{Room, RoomError, Size, copy_answer, size_of};
 pub use texts::{put_message, put_text};
 pub use words::{batch_words, borrowed_words, scope_words};

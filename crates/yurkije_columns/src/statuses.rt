@@ -1,4 +1,4 @@
-//! The numbers that the C interface has for what is refused of columns, fields and rooms.
+//! The numbers that the C interface has for what is refused of columns, fields and outputs.
 ghost use Rattle.std.specs.Prelude.{◌≡◌};
 ghost use Rattle.yurkije_columns.specs.Statuses.{scope_status, value_status, arrow_status};
 ghost use Rattle.yurkije_columns.specs.Statuses.{copy_status, column_status};

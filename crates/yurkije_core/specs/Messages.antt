@@ -3,7 +3,7 @@ use Rattle.std.specs.Prelude.{◌≡◌, ◌⊎◌, ◌++◌, ℕ, List, [], cod
 use Rattle.std.specs.Prelude.{slice_get, string_bytes, map}
 use Rattle.std.specs.Fmt.{decimal}
 use Rattle.vortex_errors.specs.declared.error.VortexError.{VortexError}
-use Rattle.vortex_errors.specs.Errors.{error_text}
+use Rattle.vortex_standard.specs.ErrorTexts.{standard_error_text}
 use Rattle.vortex_types.specs.LogicalTypes.{Fields}
 use Rattle.vortex_expressions.specs.Messages.{read_error_text}
 use Rattle.vortex_program.specs.declared.answer.Answer as bound
@@ -33,13 +33,13 @@ name_in (Some name) = name
 abbrev pub faulty_words : ℕ → ℕ → List ℕ → VortexError → List ℕ
 faulty_words row k name e =
     codes "row " ++ (decimal row ++ (codes ", answer " ++ (decimal k
-    ++ (codes " (" ++ (name ++ (codes "): " ++ error_text e))))))
+    ++ (codes " (" ++ (name ++ (codes "): " ++ standard_error_text e))))))
 
 -- why answers of those names return nothing
 abbrev pub IsFaultWords : List (List ℕ) → fault.RunError → List ℕ → Type 0
 IsFaultWords names (fault_of.Fault row k e) words =
     words ≡ faulty_words row k (name_in (slice_get names k)) e
-IsFaultWords names (fault_of.Refused e) words = words ≡ error_text e
+IsFaultWords names (fault_of.Refused e) words = words ≡ standard_error_text e
 IsFaultWords names fault_of.OutOfMemory words = words ≡ memory_words
 
 -- why they return nothing for a batch of n rows over fields

@@ -10,6 +10,7 @@ use crate::running::BatchRunError;
 use std::alloc::Global;
 use vortex_columns::{VortexError, VortexResult};
 use vortex_program::Program;
+use vortex_standard::ErrorText;
 use yurkije_columns::batch_words;
 
 /// The words for a text that is no program: those that its error displays. E9 where memory is
@@ -44,6 +45,7 @@ fn faulty_words(
     ensures { AnswersUnlessMemory result
         (λ words. string_bytes words ≡ faulty_words row answer name.now error.now) }
 {
+    let error = ErrorText::new(error);
     Ok(format!(in alloc; "row {row}, answer {answer} ({name}): {error}")?)
 }
 
@@ -60,7 +62,10 @@ fn fault_words(
         vortex_program::RunError::Fault { row, answer, error } => {
             faulty_words(alloc, *row, *answer, answer_named(program, *answer), error)
         }
-        vortex_program::RunError::Refused(error) => Ok(format!(in alloc; "{error}")?),
+        vortex_program::RunError::Refused(error) => {
+            let error = ErrorText::new(error);
+            Ok(format!(in alloc; "{error}")?)
+        }
         vortex_program::RunError::OutOfMemory => Ok(String::from_str(alloc, "out of memory")?),
     }
 }

@@ -3,7 +3,7 @@ use Rattle.vortex_types.specs.LogicalTypes.{is_nullable}
 use Rattle.vortex_types.specs.TypeOf.{type_of}
 use Rattle.vortex_types.specs.TypeEquality.{type_eq-decides}
 use Rattle.yurkije_columns.specs.Kinds.{kind_type}
-use Rattle.yurkije_columns.proofs.rooms.is_of_kind.Goals as goal
+use Rattle.yurkije_columns.proofs.outputs.is_of_kind.Goals as goal
 
 pub returns : goal.returns
 returns c =

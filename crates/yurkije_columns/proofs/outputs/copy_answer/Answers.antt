@@ -1,6 +1,6 @@
 use Rattle.std.proofs.Common.{rules, ◌∙◌, sym, inr}
-use Rattle.yurkije_columns.specs.Rooms.{IsOfKind}
-use Rattle.yurkije_columns.proofs.rooms.copy_answer.Goals as goal
+use Rattle.yurkije_columns.specs.Outputs.{IsOfKind}
+use Rattle.yurkije_columns.proofs.outputs.copy_answer.Goals as goal
 
 pub returns-in-Ok-clause-copied : goal.returns-in-Ok-clause-copied
 returns-in-Ok-clause-copied c =

@@ -1,8 +1,8 @@
 //! Answers copied into a caller's buffers.
 ghost use Rattle.std.specs.Prelude.{◌≡◌, ◌↔◌, IsTrue, MatchResult, OnOk, OnErr, true, ⊤};
 ghost use Rattle.vortex_columns.specs.ColumnView.{is_bytes_like};
-ghost use Rattle.yurkije_columns.specs.Rooms.{IsSize, RefusesSize, StandsIn, RefusesRoom};
-ghost use Rattle.yurkije_columns.specs.Rooms.{IsCopied, RefusesCopy, IsOfKind, KeepsLoans};
+ghost use Rattle.yurkije_columns.specs.Outputs.{IsSize, RefusesSize, StandsIn, RefusesRoom};
+ghost use Rattle.yurkije_columns.specs.Outputs.{IsCopied, RefusesCopy, IsOfKind, KeepsLoans};
 
 use crate::kinds::{Kind, kind_numbered};
 use vortex_arrow::{CopyError, byte_count, bytes_for, copy_bools, copy_integers, copy_texts};

@@ -1,8 +1,8 @@
 use Rattle.std.proofs.Common.{refl, true, false}
 use Rattle.yurkije_columns.specs.declared.kinds.Kind.TheVariants as kind
-use Rattle.yurkije_columns.specs.Rooms.{holding}
-use Rattle.yurkije_columns.proofs.TextRooms.{text_of_kind, texts_stand, same_of_two, same_of_three}
-use Rattle.yurkije_columns.proofs.rooms.copy_into.Goals as goal
+use Rattle.yurkije_columns.specs.Outputs.{holding}
+use Rattle.yurkije_columns.proofs.TextOutputs.{text_of_kind, texts_stand, same_of_two, same_of_three}
+use Rattle.yurkije_columns.proofs.outputs.copy_into.Goals as goal
 
 pub returns-in-Utf8-clause-copied : goal.returns-in-Utf8-clause-copied
 returns-in-Utf8-clause-copied c =

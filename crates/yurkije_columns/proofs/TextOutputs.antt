@@ -6,9 +6,9 @@ use Rattle.vortex_columns.specs.ColumnView.{ColumnView}
 use Rattle.vortex_arrow.specs.Layouts.{Layout, offsets}
 use Rattle.vortex_arrow.specs.Written.{bytes_for, SameBehind, AreCopied}
 use Rattle.yurkije_columns.specs.declared.kinds.Kind.{Kind}
-use Rattle.yurkije_columns.specs.declared.rooms.Room.{Room}
+use Rattle.yurkije_columns.specs.declared.outputs.Room.{Room}
 use Rattle.yurkije_columns.specs.Kinds.{kind_type}
-use Rattle.yurkije_columns.specs.Rooms.{room_layout, KeepsBehind, StandsIn, IsOfKind, with_buffers}
+use Rattle.yurkije_columns.specs.Outputs.{room_layout, KeepsBehind, StandsIn, IsOfKind, with_buffers}
 
 -- whether a type is that of texts, of which a kind is
 pub text_of_kind : (k j : Kind) (t : LogicalType) → k ≡ j → IsOfKind k t

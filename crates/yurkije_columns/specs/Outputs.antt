@@ -15,10 +15,10 @@ use Rattle.vortex_arrow.specs.declared.error.CopyError.{CopyError}
 use Rattle.vortex_arrow.specs.declared.error.CopyError.TheVariants.{OtherType, TooLong}
 use Rattle.yurkije_columns.specs.declared.kinds.Kind.{Kind}
 use Rattle.yurkije_columns.specs.declared.kinds.Kind.TheVariants as kind
-use Rattle.yurkije_columns.specs.declared.rooms.Size.{Size}
-use Rattle.yurkije_columns.specs.declared.rooms.Room.{Room}
-use Rattle.yurkije_columns.specs.declared.rooms.RoomError.{RoomError}
-use Rattle.yurkije_columns.specs.declared.rooms.RoomError.TheVariants as error
+use Rattle.yurkije_columns.specs.declared.outputs.Size.{Size}
+use Rattle.yurkije_columns.specs.declared.outputs.Room.{Room}
+use Rattle.yurkije_columns.specs.declared.outputs.RoomError.{RoomError}
+use Rattle.yurkije_columns.specs.declared.outputs.RoomError.TheVariants as error
 use Rattle.yurkije_columns.specs.Kinds.{kind_numbered, kind_type, type_number}
 
 -- how many values n rows of a type take, and offsets
