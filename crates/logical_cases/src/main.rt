@@ -38,12 +38,12 @@ fn holds(rt: &(impl Print + AllocGlobal), line: &str) -> io::Result<bool> {
         println!(rt; "{line}: no question")?;
         return Ok(false);
     };
-    let (asked, wanted) = match rest.rsplit_once('|') {
+    let (asked, expected) = match rest.rsplit_once('|') {
         Some(parts) => parts,
         None => (rest, ""),
     };
     let came = answer(rt.alloc(), question, asked)?;
-    if came.as_str() == wanted {
+    if came.as_str() == expected {
         return Ok(true);
     }
     println!(rt; "{line}: came {came}")?;

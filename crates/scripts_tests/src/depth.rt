@@ -3,14 +3,15 @@
 use std::alloc::Global;
 use vortex_columns::{DType, Nullability, StructFields, VortexResult};
 use vortex_expressions::{read_expression, write_expression};
-use vortex_functions::{BoundExpression, NoCustom, ScalarFnRef};
+use vortex_functions::{BoundExpression, ScalarFnRef};
+use vortex_standard::Standard;
 
 fn scope(alloc: Global) -> VortexResult<StructFields> {
     StructFields::of(alloc, &[("dear", DType::Bool(Nullability::NonNullable))])
 }
 
 /// That many casts of a column within one another.
-fn casts(alloc: Global, count: usize) -> VortexResult<BoundExpression<NoCustom>> {
+fn casts(alloc: Global, count: usize) -> VortexResult<BoundExpression<Standard>> {
     let scope = scope(alloc)?;
     let mut tree = BoundExpression::column(alloc, &scope, "dear")?;
     for _ in 0..count {
