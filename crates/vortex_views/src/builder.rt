@@ -147,6 +147,19 @@ impl ViewsBuilder {
         }
     }
 
+    /// No value yet, and room for the views of this many values.
+    pub fn with_capacity(alloc: Global, capacity: usize) -> VortexResult<ViewsBuilder>
+        ensures { AnswersUnlessMemory result (λ b. b ≡ []) }
+    {
+        Ok(ViewsBuilder {
+            views: Vec::with_capacity(alloc, capacity)?,
+            buffers: Buffers {
+                full: Vec::new(alloc),
+                last: Vec::new(alloc),
+            },
+        })
+    }
+
     /// Adds a value. E12 exactly where it is longer than 4,294,967,295 bytes, or more than
     /// 4,294,967,296 buffers of that many bytes would be needed; an error leaves the builder
     /// unchanged.
@@ -162,7 +175,7 @@ impl ViewsBuilder {
         }
         self.views.try_reserve(1)?;
         let view = self.buffers.put(value)?;
-        self.views.push(view)?;
+        self.views.push_reserved(view);
         Ok(())
     }
 

@@ -50,7 +50,7 @@ pub fn collect_views<T: ByteString>(alloc: Global, values: &[T]) -> VortexResult
         (λ v. v ≡ map T.bytes values.now)
         InvalidColumn }
 {
-    let mut builder = ViewsBuilder::new(alloc);
+    let mut builder = ViewsBuilder::with_capacity(alloc, values.len())?;
     for value in values {
         builder.push(value.borrow_bytes())?;
     }

@@ -9,7 +9,7 @@ use Rattle.vortex_views.proofs.collect.collect_views.Goals as goal
 pub returns-in_err-push : goal.returns-in_err-push
 returns-in_err-push g c =
     let f = g.T.ByteString.bytes in
-    let p = err_from_is_err_and c.from_residual.result c.from_residual.ensures.1 in
+    let p = err_from_is_err_and c.from_residual-in_err-push.result c.from_residual-in_err-push.ensures.1 in
     rw (p.1, p.2)
     (refused_sooner (HasRoomFor c.loop-value.builder c.borrow_bytes.result.now)
     (HaveRoom (map f c.args.values.now)) c.in_err-push.field-0.0

@@ -26,11 +26,11 @@ invariant_of-self-2 c =
     let old = a.buffers in
     let new = c.put.new.self in
     let vs = a.views.items in
-    let us = c.push.new.self.items in
+    let us = c.push_reserved.new.self.items in
     let w = c.in_ok-view.view in
     let value = c.args.value.now in
     let more : us ≡ vs ++ w ∷ [] =
-    c.in_ok-push.ensures.items ∙ ap (λ xs. xs ++ w ∷ []) c.try_reserve.ensures.items in
+    c.push_reserved.ensures.items ∙ ap (λ xs. xs ++ w ∷ []) c.try_reserve.ensures.items in
     let fit = c.self.invariant.fit in
     let is = c.in_ok-view.ensures.answer.1 in
     record {
@@ -46,11 +46,11 @@ returns-clause-answer c =
     let old = a.buffers in
     let new = c.put.new.self in
     let vs = a.views.items in
-    let us = c.push.new.self.items in
+    let us = c.push_reserved.new.self.items in
     let w = c.in_ok-view.view in
     let value = c.args.value.now in
     let more : us ≡ vs ++ w ∷ [] =
-    c.in_ok-push.ensures.items ∙ ap (λ xs. xs ++ w ∷ []) c.try_reserve.ensures.items in
+    c.push_reserved.ensures.items ∙ ap (λ xs. xs ++ w ∷ []) c.try_reserve.ensures.items in
     let fit = c.self.invariant.fit in
     let is = c.in_ok-view.ensures.answer.1 in
     let placed_is : filled old ≡ placed c.args.self.now =
