@@ -13,20 +13,20 @@ CLASSES = [{"=", "<>", "<", "<=", ">", ">="}, {"+", "-", "*", "/"}, {"and", "or"
            {"i64_a", "i64_b", "i64_c"}, {"i32_a", "i32_b", "i32_c"}, {"bool_a", "bool_b", "bool_c"}, {"utf8_a", "utf8_b"}]
 # What PostgreSQL reads and we refuse, by how the refusal begins behind its place. Whatever else only PostgreSQL reads is told.
 REFUSED_HERE = {
-    "operands of two types": r"E3 TypeMismatch\.",
+    "operands of two types": r"E3 (TypeMismatch\.|Scalars)",
     "null without a type": r"null has no type here",
     "a number that its type does not hold": r"\S+ is no (bool|utf8|[iu]\d+)",
     "another type": r"no type ",
-    "another cast": r"a cast leads from",
+    "another cast": r"no cast leads from",
+    "case with an operand": r"case takes conditions alone",
 }
 # Where a text is refused for its order of words, PostgreSQL refuses it at the same word, or the word is one of these, by how
 # the refusal goes on: here PostgreSQL reads on.
-ATOM = r"expected a column, a literal, (not, )?cast or \("
+ATOM = r"expected a column, a literal, (not, )?case, cast or \("
 READ_ON = {
     "`not` behind a sign": r'found "not", ' + ATOM,
     "`+` before a value": r'found "\+", ' + ATOM,
-    "`-` before what is no number": r"found .*, expected digits",
-    "a chain, or `is null` before a comparison": r"found .*, expected brackets round the comparison, is null, between or like before it",
+    "a chain, or `is null` before a comparison": r"found .*, expected brackets round the comparison, is, between, in or like before it",
     "a type behind what is no literal": r'found "::", expected a literal before ::',
     "an escape that is no text in quotes": r"found .*, expected a text in single quotes",
     "a keyword as a name": rf'found "(is|like|ilike|between|escape)", ({ATOM}|expected (the name of a type|a text in single quotes))',
@@ -47,7 +47,7 @@ def is_at_that_word(told, answers):
     # the texts end with `as`, and PostgreSQL's with END; of a text in quotes we tell the first of these
     same = ours == there or (ours, there) == ("as", "end") or ours == "'" == there[:1]
     # a `not` that none of these follows is refused there itself
-    return same or there == "not" and found[2].startswith("between, like or ilike")
+    return same or there == "not" and found[2].startswith("between, in, like or ilike")
 
 
 def changed_text(rng, table):
