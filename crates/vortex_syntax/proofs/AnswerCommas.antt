@@ -10,15 +10,14 @@ use Rattle.std.proofs.lemmas.List.{append-nil, map-append, map_more, take-append
 use Rattle.std.proofs.lemmas.List.{take_all}
 use Rattle.vortex_syntax.specs.declared.step.WrittenOperator.{WrittenOperator}
 use Rattle.vortex_syntax.specs.declared.step.WrittenOperator.TheVariants as operator
-use Rattle.vortex_syntax.specs.declared.step.Test.{Test}
-use Rattle.vortex_syntax.specs.declared.step.Test.TheVariants as test
 use Rattle.vortex_syntax.specs.declared.token.Sign.TheVariants as sign
 use Rattle.vortex_syntax.specs.Tokens.{Token, name, nullable, function, quoted, number, text, sign}
 use Rattle.vortex_syntax.specs.Syntax as tree
-use Rattle.vortex_syntax.specs.Syntax.{Syntax, Arguments, Branches}
+use Rattle.vortex_syntax.specs.Syntax.{Syntax, Tested, Arguments, Branches}
 use Rattle.vortex_syntax.specs.Levels.{Fits, AllFit, BranchesFit, is_operand}
 use Rattle.vortex_syntax.specs.Spelling.{spelling, all_spelled, operator_sign, type_token, with_not}
-use Rattle.vortex_syntax.specs.Spelling.{is_tokens, test_sign, test_tokens, distinct_tokens}
+use Rattle.vortex_syntax.specs.Spelling.{is_tokens, test_token, test_tokens, null_test_sign}
+use Rattle.vortex_syntax.specs.Spelling.{distinct_tokens, function_tokens}
 use Rattle.vortex_syntax.specs.Spelling.{in_tokens, like_sign, escape_tokens, branches_spelled}
 use Rattle.vortex_syntax.specs.AnswerLists.{Answer, is_name, name_tokens, SpellsAnswer}
 use Rattle.vortex_syntax.specs.AnswerParts.{is_comma, depth_behind, ends_answer, parts_from}
@@ -90,6 +89,11 @@ operator_stays operator.Mul d = first d d (sign sign.Times) [] refl (passes_none
 operator_stays operator.Div d = first d d (sign sign.Divide) [] refl (passes_none d)
 operator_stays operator.Mod d = first d d (sign sign.Modulo) [] refl (passes_none d)
 operator_stays operator.Concat d = first d d (sign sign.Concat) [] refl (passes_none d)
+operator_stays operator.BitAnd d = first d d (sign sign.BitAnd) [] refl (passes_none d)
+operator_stays operator.BitOr d = first d d (sign sign.BitOr) [] refl (passes_none d)
+operator_stays operator.BitXor d = first d d (sign sign.BitXor) [] refl (passes_none d)
+operator_stays operator.ShiftLeft d = first d d (sign sign.ShiftLeft) [] refl (passes_none d)
+operator_stays operator.ShiftRight d = first d d (sign sign.ShiftRight) [] refl (passes_none d)
 
 type_first : (d e : ℕ) (w : List ℕ) (n : Bool) (ts : List Token) → Passes d e ts
     → Passes d e (type_token w n ∷ ts)
@@ -102,11 +106,15 @@ is_stays true d =
     (first d d (sign sign.Not) [] refl (passes_none d))
 is_stays false d = first d d (sign sign.Is) [] refl (passes_none d)
 
-test_stays : (k : Test) → Stays (sign (test_sign k) ∷ [])
-test_stays test.Null d = first d d (sign sign.Null) [] refl (passes_none d)
-test_stays test.True d = first d d (sign sign.True) [] refl (passes_none d)
-test_stays test.False d = first d d (sign sign.False) [] refl (passes_none d)
-test_stays test.Unknown d = first d d (sign sign.Unknown) [] refl (passes_none d)
+test_stays : (k : Tested) → Stays (test_token k ∷ [])
+test_stays tree.Null d = first d d (sign sign.Null) [] refl (passes_none d)
+test_stays tree.True d = first d d (sign sign.True) [] refl (passes_none d)
+test_stays tree.False d = first d d (sign sign.False) [] refl (passes_none d)
+test_stays (tree.Unknown w) d = first d d (name w) [] refl (passes_none d)
+
+null_test_stays : (n : Bool) → Stays (sign (null_test_sign n) ∷ [])
+null_test_stays true d = first d d (sign sign.NotNull) [] refl (passes_none d)
+null_test_stays false d = first d d (sign sign.IsNull) [] refl (passes_none d)
 
 distinct_stays : (n : Bool) → Stays (distinct_tokens n)
 distinct_stays n d =
@@ -147,6 +155,12 @@ in_opens false d =
     first d (suc d) (sign sign.In) (sign sign.Open ∷ []) refl
     (first d (suc d) (sign sign.Open) [] refl (passes_none (suc d)))
 
+function_opens : (p : Bool) (w : List ℕ) (d : ℕ) → Passes d (suc d) (function_tokens p w)
+function_opens true w d =
+    first d (suc d) (name w) (sign sign.Open ∷ []) refl
+    (first d (suc d) (sign sign.Open) [] refl (passes_none (suc d)))
+function_opens false w d = first d (suc d) (function w) [] refl (passes_none (suc d))
+
 -- `when`, a condition, `then` and what follows
 branch_stays : (d : ℕ) (ts us : List Token) → Passes d d ts → Passes d d us
     → Passes d d (sign sign.When ∷ (ts ++ (sign sign.Then ∷ us)))
@@ -165,6 +179,10 @@ mutual
       (first d d (number ds) [] refl (passes_none d))
   tree_stays (tree.minus a) f d =
       first d d (sign sign.Minus) (spelling a) refl (tree_stays a f.2 d)
+  tree_stays (tree.plus a) f d =
+      first d d (sign sign.Plus) (spelling a) refl (tree_stays a f.1 d)
+  tree_stays (tree.bit_not a) f d =
+      first d d (sign sign.BitNot) (spelling a) refl (tree_stays a f.1 d)
   tree_stays (tree.typed a w n) f d =
       both d d d (spelling a) (sign sign.Typed ∷ type_token w n ∷ []) (tree_stays a f.1 d)
       (first d d (sign sign.Typed) (type_token w n ∷ []) refl
@@ -180,7 +198,10 @@ mutual
       (tree_stays b f.3 d))
   tree_stays (tree.tested k n a) f d =
       both d d d (spelling a) (test_tokens k n) (tree_stays a f.1 d)
-      (both d d d (is_tokens n) (sign (test_sign k) ∷ []) (is_stays n d) (test_stays k d))
+      (both d d d (is_tokens n) (test_token k ∷ []) (is_stays n d) (test_stays k d))
+  tree_stays (tree.null_tested n a) f d =
+      both d d d (spelling a) (sign (null_test_sign n) ∷ []) (tree_stays a f.1 d)
+      (null_test_stays n d)
   tree_stays (tree.distinct n a b) f d =
       both d d d (spelling a) (distinct_tokens n ++ spelling b) (tree_stays a f.2 d)
       (both d d d (distinct_tokens n) (spelling b) (distinct_stays n d) (tree_stays b f.3 d))
@@ -226,11 +247,12 @@ mutual
       (both d d d (spelling v) (sign sign.Else ∷ other) (tree_stays v f.2 d)
       (first d d (sign sign.Else) other refl
       (last d d (spelling e) (sign sign.End) (tree_stays e f.3 d) refl))))
-  tree_stays (tree.nullary w) f d =
-      first d d (function w) (sign sign.Close ∷ []) refl
+  tree_stays (tree.nullary p w) f d =
+      both d (suc d) d (function_tokens p w) (sign sign.Close ∷ []) (function_opens p w d)
       (first (suc d) d (sign sign.Close) [] refl (passes_none d))
-  tree_stays (tree.applied w args a) f d =
-      first d d (function w) (all_spelled args ++ (spelling a ++ (sign sign.Close ∷ []))) refl
+  tree_stays (tree.applied p w args a) f d =
+      both d (suc d) d (function_tokens p w)
+      (all_spelled args ++ (spelling a ++ (sign sign.Close ∷ []))) (function_opens p w d)
       (both (suc d) (suc d) d (all_spelled args) (spelling a ++ (sign sign.Close ∷ []))
       (all_stay args f.0 d)
       (last (suc d) (suc d) (spelling a) (sign sign.Close) (tree_stays a f.1 (suc d)) refl))

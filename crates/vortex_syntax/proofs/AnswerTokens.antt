@@ -7,6 +7,7 @@ use Rattle.vortex_syntax.specs.Frames as frame
 use Rattle.vortex_syntax.specs.declared.frame.Mode.{Mode}
 use Rattle.vortex_syntax.specs.declared.frame.Mode.TheVariants as mode
 use Rattle.vortex_syntax.specs.Tokens.{Token, name, nullable, sign}
+use Rattle.vortex_syntax.specs.Levels.{atom_level}
 use Rattle.vortex_syntax.specs.Postfix.{Step}
 use Rattle.vortex_syntax.specs.Reading.{State, settled, as_behind, predicate, word_after}
 use Rattle.vortex_syntax.specs.Reading.{cast_expected, next, finish, run}
@@ -33,6 +34,8 @@ as_next : (m : Mode) (fs : List Frame) (out : List Step) (r : State)
 unfolding next word_after predicate
 as_next (mode.Have l) fs out r e =
     cast_behind (settled 0 l fs out).frames (settled 0 l fs out).steps r e
+as_next mode.Named fs out r e =
+    cast_behind (settled 0 atom_level fs out).frames (settled 0 atom_level fs out).steps r e
 as_next m fs out r e = absurd cc
 
 type_next : (t : Token) (fs : List Frame) (out : List Step) (r : State)

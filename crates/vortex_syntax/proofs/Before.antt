@@ -9,12 +9,12 @@ use Rattle.vortex_syntax.specs.Frames.{Frame, top_hole, top_ceiling, whole}
 use Rattle.vortex_syntax.specs.Frames as frame
 use Rattle.vortex_syntax.specs.declared.frame.Mode.{Mode}
 use Rattle.vortex_syntax.specs.declared.frame.Mode.TheVariants as mode
-use Rattle.vortex_syntax.specs.Tokens.{Token, sign}
+use Rattle.vortex_syntax.specs.Tokens.{Token, name, sign}
 use Rattle.vortex_syntax.specs.Syntax.{Syntax, Arguments}
 use Rattle.vortex_syntax.specs.Levels.{level, Fits, distinct_level, is_level, predicate_level}
 use Rattle.vortex_syntax.specs.Levels.{concat_level, literal_level}
 use Rattle.vortex_syntax.specs.Spelling.{spelling, type_token, with_not, is_tokens, like_sign}
-use Rattle.vortex_syntax.specs.Postfix.{Step, cast, argument_count, postfix}
+use Rattle.vortex_syntax.specs.Postfix.{Step, operand, cast, argument_count, postfix}
 use Rattle.vortex_syntax.specs.Reading.{State, Operand, settled}
 use Rattle.vortex_syntax.proofs.Held.{Held, opened, casting, lower, matching, calling, listing}
 use Rattle.vortex_syntax.proofs.Held.{frame_of, written, held, IsSound, frames_of, all_written}
@@ -149,10 +149,11 @@ pub called_count : (w v : List ℕ) (n m : ℕ) → frame.Arguments w n ≡ fram
 called_count w v n m e = cc
 
 pub call_is : (w : List ℕ) (n : ℕ) (h : Held) → frame.Arguments w n ≡ frame_of h
-    → (args : Arguments) × (h ≡ calling w args) × (n ≡ argument_count args)
-call_is w n (calling v args) e = (
+    → (args : Arguments) × (p : Bool) × (h ≡ calling p w args) × (n ≡ argument_count args)
+call_is w n (calling p v args) e = (
   args,
-  ap (λ u. calling u args) (sym (called_name w v n (argument_count args) e)),
+  p,
+  ap (λ u. calling p u args) (sym (called_name w v n (argument_count args) e)),
   called_count w v n (argument_count args) e,
 )
 call_is w n h e = absurd cc
@@ -223,6 +224,8 @@ abbrev pub Holds : Mode → List Frame → List Step → List Token → Type 0
 Holds mode.Want fs out before = Behind fs out before [] []
 Holds mode.Signed fs out before = Behind fs out before [] (sign sign.Minus ∷ [])
 Holds (mode.Have l) fs out before = HasOperand l fs out before []
+Holds mode.Named fs out before =
+    (w : List ℕ) × Behind fs out before (operand (name w) ∷ []) (name w ∷ [])
 Holds mode.Typing fs out before = (l : ℕ) × HasOperand l fs out before (sign sign.Typed ∷ [])
     × (literal_level ≤ l)
 Holds (mode.Is n) fs out before =

@@ -2,21 +2,22 @@
 use Rattle.std.proofs.Common.{◌≡◌, ℕ, ◌≤◌, List, [], ◌∷◌, ◌++◌, false, true, Some, refl, ap, subst}
 use Rattle.std.proofs.Common.{◌∙◌, append_assoc, arith, lit<, lit≤}
 use Rattle.std.proofs.lemmas.List.{append-nil}
-use Rattle.vortex_syntax.specs.declared.step.Test.TheVariants as test
 use Rattle.vortex_syntax.specs.declared.token.Sign.TheVariants as sign
 use Rattle.vortex_syntax.specs.Frames.{Frame, hole, top_hole, ceiling, top_ceiling, whole}
 use Rattle.vortex_syntax.specs.declared.frame.Mode.{Mode}
 use Rattle.vortex_syntax.specs.declared.frame.Mode.TheVariants as mode
-use Rattle.vortex_syntax.specs.Tokens.{Token, name, function, text, sign}
+use Rattle.vortex_syntax.specs.Tokens.{Token, name, text, sign}
 use Rattle.vortex_syntax.specs.Syntax as tree
 use Rattle.vortex_syntax.specs.Syntax.{Syntax}
 use Rattle.vortex_syntax.specs.Levels.{level, Fits, is_level, concat_level, literal_level}
 use Rattle.vortex_syntax.specs.Spelling.{spelling, all_spelled, with_not, is_tokens, like_sign}
-use Rattle.vortex_syntax.specs.Spelling.{type_token, in_tokens, branches_spelled}
+use Rattle.vortex_syntax.specs.Spelling.{type_token, in_tokens, branches_spelled, function_tokens}
+use Rattle.vortex_syntax.specs.Postfix as step
 use Rattle.vortex_syntax.specs.Postfix.{Step, postfix}
 use Rattle.vortex_syntax.specs.Refusals.{Begins}
 use Rattle.vortex_syntax.proofs.Tables.{top_atom, top_sign, own_right, whole_atom, atom_ceiling}
 use Rattle.vortex_syntax.proofs.Held.{Held, opened, casting, negating, minusing, joining}
+use Rattle.vortex_syntax.proofs.Held.{plusing, inverting}
 use Rattle.vortex_syntax.proofs.Held.{distinguishing, lower, upper, matching, calling, listing}
 use Rattle.vortex_syntax.proofs.Held.{frame_of, written, choosing, asking, answering, defaulting}
 use Rattle.vortex_syntax.proofs.Held.{IsSound, frames_of, all_written, Nested, Plugged, plugged}
@@ -50,6 +51,9 @@ items_closed : (a b c d : List Token)
     ≡ a ++ (b ++ (c ++ (d ++ (sign sign.Close ∷ []))))
 items_closed a b c d = simp append_assoc
 
+call_closed : (a b c d : List Token) → ((a ++ b) ++ c) ++ d ≡ a ++ (b ++ (c ++ d))
+call_closed a b c d = simp append_assoc
+
 asked : (a b c : List Token)
     → ((a ++ (sign sign.When ∷ [])) ++ b) ++ c ≡ a ++ (sign sign.When ∷ (b ++ c))
 asked a b c = simp append_assoc
@@ -82,6 +86,8 @@ filled casting e s f le under = record {
 }
 filled negating e s f le under = closed negating e (plugged negating e (lit< tt) s f le under)
 filled minusing e s f le under = closed minusing e (plugged minusing e (lit< tt) s f le under)
+filled plusing e s f le under = closed plusing e (plugged plusing e (lit< tt) s f le under)
+filled inverting e s f le under = closed inverting e (plugged inverting e (lit< tt) s f le under)
 filled (joining o a) e s f le under =
     closed (joining o a) e (plugged (joining o a) e (omega (arith, own_right o)) s f le under)
 filled (distinguishing n a) e s f le under =
@@ -135,14 +141,13 @@ filled (defaulting bs c v) e s f le under = record {
   tokens = defaulted (branches_spelled bs) (spelling c) (spelling v) (spelling e)
       (sign sign.End ∷ []);
 }
-filled (calling w args) e s f le under = record {
-  tree = tree.applied w args e;
+filled (calling p w args) e s f le under = record {
+  tree = tree.applied p w args e;
   fits = (s, f);
   level = refl;
   more = sign sign.Close ∷ [];
   tokens =
-      ap (λ ts. function w ∷ ts) (append_assoc (all_spelled args) (spelling e)
-      (sign sign.Close ∷ []));
+      call_closed (function_tokens p w) (all_spelled args) (spelling e) (sign sign.Close ∷ []);
 }
 
 regrouped : (a b c d e : List Token) → ((a ++ b) ++ c) ++ (d ++ e) ≡ (a ++ ((b ++ c) ++ d)) ++ e
@@ -221,6 +226,9 @@ holds_begins (mode.Have l) fs out before h =
     (subst (λ (m : ℕ). top_hole fs ≤ m) h.level h.place)
     (subst (λ (m : ℕ). m ≤ top_ceiling fs) h.level h.under)
     (append-nil (spelling h.tree ++ []) ∙ append-nil (spelling h.tree))
+holds_begins mode.Named fs out before h =
+    begun_by fs out before (step.operand (name h.0) ∷ []) (name h.0 ∷ []) h.1
+    (tree.operand (name h.0)) [] refl (top_atom fs) (atom_ceiling fs) refl
 holds_begins mode.Typing fs out before h =
     let a = h.1 in
     operand_begun h.0 fs out before (sign sign.Typed ∷ []) a (tree.typed a.tree column false)
@@ -229,8 +237,8 @@ holds_begins mode.Typing fs out before h =
     (append_assoc (spelling a.tree) (sign sign.Typed ∷ []) (name column ∷ []))
 holds_begins (mode.Is n) fs out before h =
     let a = h.1 in
-    operand_begun h.0 fs out before (is_tokens n) a (tree.tested test.Null n a.tree)
-    (sign sign.Null ∷ []) (subst (λ (m : ℕ). is_level ≤ m) a.level h.2, a.fits) h.3
+    operand_begun h.0 fs out before (is_tokens n) a (tree.tested tree.Null n a.tree)
+    (sign sign.Null ∷ []) (subst (λ (m : ℕ). is_level ≤ m) a.level h.2, a.fits, tt) h.3
     (omega (arith, atom_ceiling fs))
     (append_assoc (spelling a.tree) (is_tokens n) (sign sign.Null ∷ []))
 holds_begins (mode.Distinct n) fs out before h =

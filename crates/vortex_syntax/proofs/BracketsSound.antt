@@ -1,5 +1,5 @@
 -- What closing brackets and commas do to what was read.
-use Rattle.std.proofs.Common.{◌≡◌, ℕ, suc, List, [], ◌∷◌, ◌++◌, Some, ap, sym, subst, ◌∙◌}
+use Rattle.std.proofs.Common.{◌≡◌, ℕ, suc, Bool, List, [], ◌∷◌, ◌++◌, Some, ap, sym, subst, ◌∙◌}
 use Rattle.std.proofs.Common.{append_assoc}
 use Rattle.std.proofs.lemmas.List.{append-nil}
 use Rattle.vortex_syntax.specs.declared.token.Sign.{Sign}
@@ -7,11 +7,11 @@ use Rattle.vortex_syntax.specs.declared.token.Sign.TheVariants as sign
 use Rattle.vortex_syntax.specs.Frames.{Frame}
 use Rattle.vortex_syntax.specs.Frames as frame
 use Rattle.vortex_syntax.specs.declared.frame.Mode.TheVariants as mode
-use Rattle.vortex_syntax.specs.Tokens.{Token, function, sign}
+use Rattle.vortex_syntax.specs.Tokens.{Token, sign}
 use Rattle.vortex_syntax.specs.Syntax as tree
 use Rattle.vortex_syntax.specs.Syntax.{Syntax, Arguments}
 use Rattle.vortex_syntax.specs.Levels.{Fits, AllFit, predicate_level, atom_level}
-use Rattle.vortex_syntax.specs.Spelling.{spelling, all_spelled}
+use Rattle.vortex_syntax.specs.Spelling.{spelling, all_spelled, function_tokens}
 use Rattle.vortex_syntax.specs.Postfix.{Step, applied, listed, argument_count, postfix, all_postfix}
 use Rattle.vortex_syntax.specs.Reading.{State, state, close_behind, comma_behind}
 use Rattle.vortex_syntax.proofs.Tables.{top_atom, atom_ceiling}
@@ -40,64 +40,69 @@ grouped_is a h fs out before f e r =
     (sign sign.Close ∷ []) b))
 
 -- a call with its operand
-pub in_call : (w : List ℕ) (args : Arguments) (a : Syntax) (u : Sign)
-    → (function w ∷ (all_spelled args ++ (spelling a ++ []))) ++ (sign u ∷ [])
-    ≡ function w ∷ (all_spelled args ++ (spelling a ++ (sign u ∷ [])))
-in_call w args a u =
-    ap (λ ts. function w ∷ ts) (append_assoc (all_spelled args) (spelling a ++ []) (sign u ∷ [])
-    ∙ ap (λ ts. all_spelled args ++ (ts ++ (sign u ∷ []))) (append-nil (spelling a)))
+in_call_by : (a b c d : List Token) → ((a ++ b) ++ (c ++ [])) ++ d ≡ a ++ (b ++ (c ++ d))
+in_call_by a b c d =
+    ap (λ ts. ((a ++ b) ++ ts) ++ d) (append-nil c) ∙ append_assoc (a ++ b) c d
+    ∙ append_assoc a b (c ++ d)
 
-abbrev pub Called : List ℕ → Arguments → Syntax → List Frame → List Step → List Token → Type 0
-Called w args a fs out before =
+pub in_call : (p : Bool) (w : List ℕ) (args : Arguments) (a : Syntax) (u : Sign)
+    → (written (calling p w args) ++ (spelling a ++ [])) ++ (sign u ∷ [])
+    ≡ function_tokens p w ++ (all_spelled args ++ (spelling a ++ (sign u ∷ [])))
+in_call p w args a u =
+    in_call_by (function_tokens p w) (all_spelled args) (spelling a) (sign u ∷ [])
+
+abbrev pub Called : Bool → List ℕ → Arguments → Syntax → List Frame → List Step → List Token
+    → Type 0
+Called p w args a fs out before =
     Behind fs out before (all_postfix args ++ postfix a)
-    (function w ∷ (all_spelled args ++ (spelling a ++ [])))
+    (written (calling p w args) ++ (spelling a ++ []))
 
-pub called_is : (w : List ℕ) (args : Arguments) (a : Syntax) (h : Held) (fs : List Frame)
-    (out : List Step) (before : List Token) → h ≡ calling w args
+pub called_is : (p : Bool) (w : List ℕ) (args : Arguments) (a : Syntax) (h : Held)
+    (fs : List Frame) (out : List Step) (before : List Token) → h ≡ calling p w args
     → Behind fs out before (held h ++ postfix a) (written h ++ (spelling a ++ []))
-    → Called w args a fs out before
-called_is w args a h fs out before e r =
+    → Called p w args a fs out before
+called_is p w args a h fs out before e r =
     subst (λ (v : Held). Behind fs out before (held v ++ postfix a)
     (written v ++ (spelling a ++ []))) e r
 
-pub all_fit_is : (w : List ℕ) (args : Arguments) (h : Held) → h ≡ calling w args → IsSound h
-    → AllFit args
-all_fit_is w args h e s = subst (λ (v : Held). IsSound v) e s
+pub all_fit_is : (p : Bool) (w : List ℕ) (args : Arguments) (h : Held) → h ≡ calling p w args
+    → IsSound h → AllFit args
+all_fit_is p w args h e s = subst (λ (v : Held). IsSound v) e s
 
-pub applied_is : (w : List ℕ) (n : ℕ) (args : Arguments) (a : Syntax) (fs : List Frame)
+pub applied_is : (p : Bool) (w : List ℕ) (n : ℕ) (args : Arguments) (a : Syntax) (fs : List Frame)
     (out : List Step) (before : List Token) → n ≡ argument_count args → AllFit args → Fits a
-    → Called w args a fs out before
+    → Called p w args a fs out before
     → HasOperand atom_level fs (out ++ (applied w (suc n) ∷ [])) (before ++
     (sign sign.Close ∷ [])) []
-applied_is w n args a fs out before e s f b =
+applied_is p w n args a fs out before e s f b =
     let last : List Step = applied w (suc n) ∷ [] in
     let close : List Token = sign sign.Close ∷ [] in
     let xs = (all_postfix args ++ postfix a) ++ last in
-    operand_is (tree.applied w args a) fs (out ++ last) (before ++ close) (s, f) (top_atom fs)
+    operand_is (tree.applied p w args a) fs (out ++ last) (before ++ close) (s, f) (top_atom fs)
     (atom_ceiling fs)
-    (as_steps fs (out ++ last) (before ++ close) xs (postfix (tree.applied w args a))
-    (spelling (tree.applied w args a))
+    (as_steps fs (out ++ last) (before ++ close) xs (postfix (tree.applied p w args a))
+    (spelling (tree.applied p w args a))
     (append_assoc (all_postfix args) (postfix a) last
     ∙ ap (λ m. all_postfix args ++ (postfix a ++ (applied w (suc m) ∷ []))) e)
     (as_tokens fs (out ++ last) (before ++ close) xs
-    ((function w ∷ (all_spelled args ++ (spelling a ++ []))) ++ close)
-    (spelling (tree.applied w args a)) (in_call w args a sign.Close)
+    ((written (calling p w args) ++ (spelling a ++ [])) ++ close)
+    (spelling (tree.applied p w args a)) (in_call p w args a sign.Close)
     (more fs out before (all_postfix args ++ postfix a)
-    (function w ∷ (all_spelled args ++ (spelling a ++ []))) last close b)))
+    (written (calling p w args) ++ (spelling a ++ [])) last close b)))
 
-pub argument_is : (w : List ℕ) (n : ℕ) (args : Arguments) (a : Syntax) (fs : List Frame)
+pub argument_is : (p : Bool) (w : List ℕ) (n : ℕ) (args : Arguments) (a : Syntax) (fs : List Frame)
     (out : List Step) (before : List Token) → n ≡ argument_count args → AllFit args → Fits a
-    → Called w args a fs out before
+    → Called p w args a fs out before
     → Behind (frame.Arguments w (suc n) ∷ fs) out (before ++ (sign sign.Comma ∷ [])) [] []
-argument_is w n args a fs out before e s f b =
+argument_is p w n args a fs out before e s f b =
     let comma : List Token = sign sign.Comma ∷ [] in
     subst (λ (m : ℕ). Behind (frame.Arguments w (suc m) ∷ fs) out (before ++ comma) [] []) (sym e)
-    (pushed (calling w (tree.argument args a)) fs out (before ++ comma)
+    (pushed (calling p w (tree.argument args a)) fs out (before ++ comma)
     (as_tokens fs out (before ++ comma) (all_postfix args ++ postfix a)
-    ((function w ∷ (all_spelled args ++ (spelling a ++ []))) ++ comma)
-    (written (calling w (tree.argument args a))) (in_call w args a sign.Comma)
+    ((written (calling p w args) ++ (spelling a ++ [])) ++ comma)
+    (written (calling p w (tree.argument args a))) (in_call p w args a sign.Comma)
     (more_tokens fs out before (all_postfix args ++ postfix a)
-    (function w ∷ (all_spelled args ++ (spelling a ++ []))) comma b)) (s, f) (top_atom fs))
+    (written (calling p w args) ++ (spelling a ++ [])) comma b)) (s, f) (top_atom fs))
 
 pub comma_sound : (l : ℕ) (fs : List Frame) (out : List Step) (s : State) (before : List Token)
     → comma_behind fs out ≡ Some s → HasOperand l fs out before []
@@ -108,8 +113,8 @@ comma_sound l (frame.Arguments w n ∷ fs) out s before e a =
     let i = call_is w n r.h r.is in
     along (state mode.Want (frame.Arguments w (suc n) ∷ fs) out) s
     (before ++ (sign sign.Comma ∷ [])) e
-    (argument_is w n i.0 a.tree fs out before i.2 (all_fit_is w i.0 r.h i.1 r.sound) a.fits
-    (called_is w i.0 a.tree r.h fs out before i.1 r.behind))
+    (argument_is i.1 w n i.0 a.tree fs out before i.3 (all_fit_is i.1 w i.0 r.h i.2 r.sound) a.fits
+    (called_is i.1 w i.0 a.tree r.h fs out before i.2 r.behind))
 comma_sound l (frame.Items n k ∷ fs) out s before e a =
     let r = popped (frame.Items n k) fs out before (postfix a.tree)
     (spelling a.tree ++ []) a.behind in
@@ -133,8 +138,8 @@ close_sound l (frame.Arguments w n ∷ fs) out s before e a =
     let i = call_is w n r.h r.is in
     along (state (mode.Have atom_level) fs (out ++ (applied w (suc n) ∷ []))) s
     (before ++ (sign sign.Close ∷ [])) e
-    (applied_is w n i.0 a.tree fs out before i.2 (all_fit_is w i.0 r.h i.1 r.sound) a.fits
-    (called_is w i.0 a.tree r.h fs out before i.1 r.behind))
+    (applied_is i.1 w n i.0 a.tree fs out before i.3 (all_fit_is i.1 w i.0 r.h i.2 r.sound) a.fits
+    (called_is i.1 w i.0 a.tree r.h fs out before i.2 r.behind))
 close_sound l (frame.Items n k ∷ fs) out s before e a =
     let r = popped (frame.Items n k) fs out before (postfix a.tree)
     (spelling a.tree ++ []) a.behind in

@@ -88,6 +88,12 @@ sign_closes l f fs out sign.Not ts h =
     (settled_one predicate_level l f fs out h)
 sign_closes l f fs out sign.Is ts h =
     ap (λ a. ran ts (specs.is_behind a.level a.frames a.steps)) (settled_one is_level l f fs out h)
+sign_closes l f fs out sign.IsNull ts h =
+    ap (λ a. ran ts (specs.null_test_behind false a.level a.frames a.steps))
+    (settled_one is_level l f fs out h)
+sign_closes l f fs out sign.NotNull ts h =
+    ap (λ a. ran ts (specs.null_test_behind true a.level a.frames a.steps))
+    (settled_one is_level l f fs out h)
 sign_closes l f fs out sign.Between ts h =
     predicate_closes (frame.Between false) l f fs out ts h
 sign_closes l f fs out sign.Like ts h =
@@ -114,6 +120,11 @@ sign_closes l f fs out sign.Times ts h = join_closes operator.Mul l f fs out ts 
 sign_closes l f fs out sign.Divide ts h = join_closes operator.Div l f fs out ts h
 sign_closes l f fs out sign.Modulo ts h = join_closes operator.Mod l f fs out ts h
 sign_closes l f fs out sign.Concat ts h = join_closes operator.Concat l f fs out ts h
+sign_closes l f fs out sign.BitAnd ts h = join_closes operator.BitAnd l f fs out ts h
+sign_closes l f fs out sign.BitOr ts h = join_closes operator.BitOr l f fs out ts h
+sign_closes l f fs out sign.BitXor ts h = join_closes operator.BitXor l f fs out ts h
+sign_closes l f fs out sign.ShiftLeft ts h = join_closes operator.ShiftLeft l f fs out ts h
+sign_closes l f fs out sign.ShiftRight ts h = join_closes operator.ShiftRight l f fs out ts h
 sign_closes l f fs out sign.Close ts h =
     ap (λ a. ran ts (specs.close_behind a.frames a.steps)) (settled_one or_level l f fs out h)
 sign_closes l f fs out sign.Comma ts h =

@@ -4,7 +4,7 @@ use Rattle.std.proofs.Common.{Some, None, refl, ap, sym, ◌∙◌, append_assoc
 use Rattle.std.proofs.lemmas.List.{append-nil}
 use Rattle.vortex_syntax.specs.declared.step.WrittenOperator.{WrittenOperator}
 use Rattle.vortex_syntax.specs.declared.step.WrittenOperator.TheVariants as operator
-use Rattle.vortex_syntax.specs.declared.step.Test.{Test}
+use Rattle.vortex_syntax.specs.declared.step.Test.TheVariants as test
 use Rattle.vortex_syntax.specs.declared.step.LikeKind.{LikeKind}
 use Rattle.vortex_syntax.specs.declared.step.Call.TheVariants as call
 use Rattle.vortex_syntax.specs.declared.token.Sign.TheVariants as sign
@@ -12,19 +12,20 @@ use Rattle.vortex_syntax.specs.Frames.{Frame, hole, top_hole, ceiling, top_ceili
 use Rattle.vortex_syntax.specs.Frames as frame
 use Rattle.vortex_syntax.specs.Tokens.{Token, sign}
 use Rattle.vortex_syntax.specs.Syntax as tree
-use Rattle.vortex_syntax.specs.Syntax.{Syntax, Arguments, Branches}
+use Rattle.vortex_syntax.specs.Syntax.{Syntax, Tested, Arguments, Branches}
 use Rattle.vortex_syntax.specs.Levels.{sign_level, typed_level, own, left, right, level, Fits}
 use Rattle.vortex_syntax.specs.Levels.{AllFit, BranchesFit, is_operand, not_level, distinct_level}
 use Rattle.vortex_syntax.specs.Levels.{is_level, comparison_level, predicate_level, concat_level}
-use Rattle.vortex_syntax.specs.Levels.{atom_level, literal_level}
+use Rattle.vortex_syntax.specs.Levels.{bit_not_level, atom_level, literal_level, IsTested}
 use Rattle.vortex_syntax.specs.Spelling.{spelling, all_spelled, operator_sign, type_token, with_not}
 use Rattle.vortex_syntax.specs.Spelling.{test_tokens, distinct_tokens, in_tokens, like_sign}
-use Rattle.vortex_syntax.specs.Spelling.{escape_tokens}
+use Rattle.vortex_syntax.specs.Spelling.{escape_tokens, null_test_sign, function_tokens}
 use Rattle.vortex_syntax.specs.Postfix.{Step, typed, cast, applied, listed, called, like_step}
-use Rattle.vortex_syntax.specs.Postfix.{argument_count, postfix, all_postfix}
+use Rattle.vortex_syntax.specs.Postfix.{argument_count, postfix, all_postfix, test_of}
 use Rattle.vortex_syntax.specs.Reading as specs
 use Rattle.vortex_syntax.specs.Reading.{next, settled, finish, run, steps_of}
-use Rattle.vortex_syntax.proofs.Tables.{not_ten, own_product, level_literal, ceiling_below}
+use Rattle.vortex_syntax.proofs.Tables.{not_eight, not_eleven, own_product, level_literal}
+use Rattle.vortex_syntax.proofs.Tables.{ceiling_below}
 use Rattle.vortex_syntax.proofs.Tables.{typed_ceiling, top_atom, own_left, own_right, tight}
 use Rattle.vortex_syntax.proofs.Tables.{reach_of, reach, not_two}
 use Rattle.vortex_syntax.proofs.Closes.{want, have, closed, closes, IsRead}
@@ -36,13 +37,15 @@ use Rattle.vortex_syntax.proofs.StepsRead.{step_test, step_distinct, step_close,
 use Rattle.vortex_syntax.proofs.StepsRead.{step_cast, step_escape, step_operand, step_negative}
 use Rattle.vortex_syntax.proofs.StepsRead.{step_not, step_open, step_cast_open, step_function}
 use Rattle.vortex_syntax.proofs.StepsRead.{step_nullary, step_comma, step_applied, step_in}
-use Rattle.vortex_syntax.proofs.StepsRead.{step_item, step_listed}
+use Rattle.vortex_syntax.proofs.StepsRead.{step_item, step_listed, step_plus, step_bit_not}
+use Rattle.vortex_syntax.proofs.StepsRead.{step_null_test}
 
 waits_closed : (l : ℕ) (f : Frame) (fs : List Frame) (out : List Step) (rest : List Token)
     → 0 < guard f → reach rest ≤ whole f
     → have l (f ∷ fs) out rest ≡ have (whole f) fs (closed out f) rest
 waits_closed l f fs out rest h k =
-    closes l f fs out rest (tight f (reach rest) h k (not_two rest) (not_ten rest))
+    closes l f fs out rest
+    (tight f (reach rest) h k (not_two rest) (not_eight rest) (not_eleven rest))
 
 regrouped_2 : (out a : List Step) (x : Step) → (out ++ a) ++ (x ∷ []) ≡ out ++ (a ++ (x ∷ []))
 regrouped_2 out a x = append_assoc out a (x ∷ [])
@@ -70,6 +73,11 @@ reach_operator operator.Mul = refl
 reach_operator operator.Div = refl
 reach_operator operator.Mod = refl
 reach_operator operator.Concat = refl
+reach_operator operator.BitAnd = refl
+reach_operator operator.BitOr = refl
+reach_operator operator.BitXor = refl
+reach_operator operator.ShiftLeft = refl
+reach_operator operator.ShiftRight = refl
 
 -- any tree may come where a frame looser than a minus sign waits
 beneath : (a : Syntax) (fs : List Frame) (n : ℕ) → top_hole fs ≤ n → n < sign_level
@@ -94,7 +102,7 @@ read_joined o a b h k ia ib = λ fs out rest top under end.
     (regrouped_3 out (postfix a) (postfix b) (called (call.Join o)))
 
 read_operand : (t : Token) → is_operand t ≡ true → IsRead (tree.operand t)
-read_operand t h = λ fs out rest top under end. step_operand t fs out rest h under
+read_operand t h = λ fs out rest top under end. step_operand t fs out rest h under end
 
 read_negative : (ds : List ℕ) → IsRead (tree.negative ds)
 read_negative ds = λ fs out rest top under end. step_negative ds fs out rest under
@@ -118,6 +126,20 @@ read_minus a h k ia = λ fs out rest top under end.
     ∙ waits_closed (level a) frame.Minus fs (out ++ postfix a) rest (lit< tt) end
     ∙ ap (λ xs. have sign_level fs xs rest) (regrouped_2 out (postfix a) (called call.Minus))
 
+read_plus : (a : Syntax) → sign_level ≤ level a → IsRead a → IsRead (tree.plus a)
+read_plus a h ia = λ fs out rest top under end.
+    step_plus fs out (spelling a ++ rest)
+    ∙ ia (frame.Plus ∷ fs) out rest h (level_literal a) (omega (arith, end, h))
+    ∙ waits_closed (level a) frame.Plus fs (out ++ postfix a) rest (lit< tt) end
+    ∙ ap (λ xs. have sign_level fs xs rest) (regrouped_2 out (postfix a) (called call.Plus))
+
+read_bit_not : (a : Syntax) → bit_not_level ≤ level a → IsRead a → IsRead (tree.bit_not a)
+read_bit_not a h ia = λ fs out rest top under end.
+    step_bit_not fs out (spelling a ++ rest) top
+    ∙ ia (frame.BitNot ∷ fs) out rest h (level_literal a) (omega (arith, end, h))
+    ∙ waits_closed (level a) frame.BitNot fs (out ++ postfix a) rest (lit< tt) end
+    ∙ ap (λ xs. have bit_not_level fs xs rest) (regrouped_2 out (postfix a) (called call.BitNot))
+
 read_grouped : (a : Syntax) → IsRead a → IsRead (tree.grouped a)
 read_grouped a ia = λ fs out rest top under end.
     ap (λ ts. want fs out (sign sign.Open ∷ ts))
@@ -134,19 +156,35 @@ read_negated a h ia = λ fs out rest top under end.
     ∙ waits_closed (level a) frame.Not fs (out ++ postfix a) rest (lit< tt) end
     ∙ ap (λ xs. have not_level fs xs rest) (regrouped_2 out (postfix a) (called call.Not))
 
-reach_test : (k : Test) (n : Bool) (ts : List Token) → reach (test_tokens k n ++ ts) ≡ is_level
+reach_test : (k : Tested) (n : Bool) (ts : List Token) → reach (test_tokens k n ++ ts) ≡ is_level
 reach_test k true ts = refl
 reach_test k false ts = refl
 
-read_tested : (k : Test) (n : Bool) (a : Syntax) → is_level ≤ level a → IsRead a
+read_tested : (k : Tested) (n : Bool) (a : Syntax) → IsTested k → is_level ≤ level a → IsRead a
     → IsRead (tree.tested k n a)
-read_tested k n a h ia = λ fs out rest top under end.
+read_tested k n a i h ia = λ fs out rest top under end.
     ap (want fs out) (append_assoc (spelling a) (test_tokens k n) rest)
     ∙ ia fs out (test_tokens k n ++ rest) (omega (arith, top, h))
     (beneath a fs is_level top (lit< tt))
     (omega (arith, h, reach_test k n rest))
-    ∙ step_test k n (level a) fs (out ++ postfix a) rest h top
-    ∙ ap (λ xs. have is_level fs xs rest) (regrouped_2 out (postfix a) (called (call.Is k n)))
+    ∙ step_test k n (level a) fs (out ++ postfix a) rest i h top
+    ∙ ap (λ xs. have is_level fs xs rest)
+    (regrouped_2 out (postfix a) (called (call.Is (test_of k) n)))
+
+reach_null_test : (n : Bool) → reach_of (null_test_sign n) ≡ is_level
+reach_null_test true = refl
+reach_null_test false = refl
+
+read_null_tested : (n : Bool) (a : Syntax) → is_level ≤ level a → IsRead a
+    → IsRead (tree.null_tested n a)
+read_null_tested n a h ia = λ fs out rest top under end.
+    let last : List Token = sign (null_test_sign n) ∷ rest in
+    ap (want fs out) (append_assoc (spelling a) (sign (null_test_sign n) ∷ []) rest)
+    ∙ ia fs out last (omega (arith, top, h)) (beneath a fs is_level top (lit< tt))
+    (omega (arith, h, reach_null_test n))
+    ∙ step_null_test n (level a) fs (out ++ postfix a) rest h top
+    ∙ ap (λ xs. have is_level fs xs rest)
+    (regrouped_2 out (postfix a) (called (call.Is test.Null n)))
 
 reach_distinct : (n : Bool) (ts : List Token) → reach (distinct_tokens n ++ ts) ≡ is_level
 reach_distinct true ts = refl
@@ -297,15 +335,21 @@ read_argument args a ias ia = λ f s fs out rest.
     ∙ s.comma n (level a) fs ((out ++ all_postfix args) ++ postfix a) rest
     ∙ ap (λ xs. want (f (suc n) ∷ fs) xs rest) (append_assoc out (all_postfix args) (postfix a))
 
-read_nullary : (w : List ℕ) → IsRead (tree.nullary w)
-read_nullary w = λ fs out rest top under end. step_function w fs out (sign sign.Close ∷ rest)
+read_nullary : (p : Bool) (w : List ℕ) → IsRead (tree.nullary p w)
+read_nullary p w = λ fs out rest top under end.
+    ap (want fs out) (append_assoc (function_tokens p w) (sign sign.Close ∷ []) rest)
+    ∙ step_function p w fs out (sign sign.Close ∷ rest)
     ∙ step_nullary w fs out rest
 
-read_applied : (w : List ℕ) (args : Arguments) (a : Syntax) → AreRead args → IsRead a
-    → IsRead (tree.applied w args a)
-read_applied w args a ias ia = λ fs out rest top under end.
+read_applied : (p : Bool) (w : List ℕ) (args : Arguments) (a : Syntax) → AreRead args → IsRead a
+    → IsRead (tree.applied p w args a)
+read_applied p w args a ias ia = λ fs out rest top under end.
     let n = argument_count args in
-    step_function w fs out ((all_spelled args ++ (spelling a ++ (sign sign.Close ∷ []))) ++ rest)
+    ap (want fs out)
+    (append_assoc (function_tokens p w)
+    (all_spelled args ++ (spelling a ++ (sign sign.Close ∷ []))) rest)
+    ∙ step_function p w fs out
+    ((all_spelled args ++ (spelling a ++ (sign sign.Close ∷ []))) ++ rest)
     ∙ ap (want (frame.Arguments w 0 ∷ fs) out)
     (append_assoc (all_spelled args) (spelling a ++ (sign sign.Close ∷ [])) rest
     ∙ ap (λ ts. all_spelled args ++ ts) (append_assoc (spelling a) (sign sign.Close ∷ []) rest))
@@ -355,7 +399,10 @@ mutual
   is_read (tree.grouped a) h = read_grouped a (is_read a h)
   is_read (tree.negated a) h = read_negated a h.0 (is_read a h.1)
   is_read (tree.joined o a b) h = read_joined o a b h.0 h.1 (is_read a h.2) (is_read b h.3)
-  is_read (tree.tested k n a) h = read_tested k n a h.0 (is_read a h.1)
+  is_read (tree.plus a) h = read_plus a h.0 (is_read a h.1)
+  is_read (tree.bit_not a) h = read_bit_not a h.0 (is_read a h.1)
+  is_read (tree.tested k n a) h = read_tested k n a h.2 h.0 (is_read a h.1)
+  is_read (tree.null_tested n a) h = read_null_tested n a h.0 (is_read a h.1)
   is_read (tree.distinct n a b) h = read_distinct n a b h.0 h.1 (is_read a h.2) (is_read b h.3)
   is_read (tree.between n a b c) h =
       read_between n a b c h.0 h.1 h.2 (is_read a h.3) (is_read b h.4) (is_read c h.5)
@@ -368,8 +415,8 @@ mutual
   is_read (tree.chosen_else bs c v e) h =
       read_chosen_else bs c v e (branches_read bs h.0) (is_read c h.1) (is_read v h.2)
       (is_read e h.3)
-  is_read (tree.nullary w) h = read_nullary w
-  is_read (tree.applied w args a) h = read_applied w args a (are_read args h.0) (is_read a h.1)
+  is_read (tree.nullary p w) h = read_nullary p w
+  is_read (tree.applied p w args a) h = read_applied p w args a (are_read args h.0) (is_read a h.1)
 
   are_read : (args : Arguments) → AllFit args → AreRead args
   are_read tree.no_arguments h = read_no_arguments

@@ -11,13 +11,14 @@ use Rattle.vortex_syntax.specs.declared.frame.CasePart.TheVariants as part
 use Rattle.vortex_syntax.specs.Frames.{Frame, hole, top_hole, ceiling, top_ceiling, guard, whole}
 use Rattle.vortex_syntax.specs.Frames.{closing}
 use Rattle.vortex_syntax.specs.Frames as frame
-use Rattle.vortex_syntax.specs.Tokens.{Token, function, sign}
+use Rattle.vortex_syntax.specs.Tokens.{Token, sign}
 use Rattle.vortex_syntax.specs.Syntax as tree
 use Rattle.vortex_syntax.specs.Syntax.{Syntax, Arguments, Branches}
 use Rattle.vortex_syntax.specs.Levels.{left, level, Fits, AllFit, BranchesFit, is_level}
 use Rattle.vortex_syntax.specs.Levels.{concat_level}
 use Rattle.vortex_syntax.specs.Spelling.{spelling, all_spelled, operator_sign, with_not}
 use Rattle.vortex_syntax.specs.Spelling.{distinct_tokens, in_tokens, like_sign, branches_spelled}
+use Rattle.vortex_syntax.specs.Spelling.{function_tokens}
 use Rattle.vortex_syntax.specs.Postfix.{Step, called, argument_count, has_operand, branch_count}
 use Rattle.vortex_syntax.specs.Postfix.{postfix, all_postfix, branches_postfix}
 use Rattle.vortex_syntax.specs.Reading.{Operand, operand_of, settled}
@@ -28,12 +29,14 @@ pub data Held : Type 0 where
   casting : Held
   negating : Held
   minusing : Held
+  plusing : Held
+  inverting : Held
   joining : WrittenOperator → Syntax → Held
   distinguishing : Bool → Syntax → Held
   lower : Bool → Syntax → Held
   upper : Bool → Syntax → Syntax → Held
   matching : LikeKind → Syntax → Held
-  calling : List ℕ → Arguments → Held
+  calling : Bool → List ℕ → Arguments → Held
   listing : Bool → Syntax → Arguments → Held
   choosing : Held
   asking : Branches → Held
@@ -45,12 +48,14 @@ frame_of opened = frame.Open
 frame_of casting = frame.Cast
 frame_of negating = frame.Not
 frame_of minusing = frame.Minus
+frame_of plusing = frame.Plus
+frame_of inverting = frame.BitNot
 frame_of (joining o a) = frame.Join o
 frame_of (distinguishing n a) = frame.Distinct n
 frame_of (lower n a) = frame.Between n
 frame_of (upper n a b) = frame.Bounded n
 frame_of (matching k a) = frame.Like k
-frame_of (calling w args) = frame.Arguments w (argument_count args)
+frame_of (calling p w args) = frame.Arguments w (argument_count args)
 frame_of (listing n a args) = frame.Items n (argument_count args)
 frame_of choosing = frame.Case part.Operand false 0
 frame_of (asking bs) = frame.Case part.When (has_operand bs) (branch_count bs)
@@ -62,13 +67,15 @@ written opened = sign sign.Open ∷ []
 written casting = sign sign.Cast ∷ sign sign.Open ∷ []
 written negating = sign sign.Not ∷ []
 written minusing = sign sign.Minus ∷ []
+written plusing = sign sign.Plus ∷ []
+written inverting = sign sign.BitNot ∷ []
 written (joining o a) = spelling a ++ (sign (operator_sign o) ∷ [])
 written (distinguishing n a) = spelling a ++ distinct_tokens n
 written (lower n a) = spelling a ++ with_not n sign.Between
 written (upper n a b) =
     spelling a ++ (with_not n sign.Between ++ (spelling b ++ (sign sign.And ∷ [])))
 written (matching k a) = spelling a ++ like_sign k
-written (calling w args) = function w ∷ all_spelled args
+written (calling p w args) = function_tokens p w ++ all_spelled args
 written (listing n a args) = spelling a ++ (in_tokens n ++ all_spelled args)
 written choosing = sign sign.Case ∷ []
 written (asking bs) = branches_spelled bs ++ (sign sign.When ∷ [])
@@ -83,12 +90,14 @@ held opened = []
 held casting = []
 held negating = []
 held minusing = []
+held plusing = []
+held inverting = []
 held (joining o a) = postfix a
 held (distinguishing n a) = postfix a
 held (lower n a) = postfix a
 held (upper n a b) = postfix a ++ postfix b
 held (matching k a) = postfix a
-held (calling w args) = all_postfix args
+held (calling p w args) = all_postfix args
 held (listing n a args) = postfix a ++ all_postfix args
 held choosing = []
 held (asking bs) = branches_postfix bs
@@ -100,12 +109,14 @@ IsSound opened = Unit {0}
 IsSound casting = Unit {0}
 IsSound negating = Unit {0}
 IsSound minusing = Unit {0}
+IsSound plusing = Unit {0}
+IsSound inverting = Unit {0}
 IsSound (joining o a) = (left o ≤ level a) × Fits a
 IsSound (distinguishing n a) = (is_level ≤ level a) × Fits a
 IsSound (lower n a) = (concat_level ≤ level a) × Fits a
 IsSound (upper n a b) = (concat_level ≤ level a) × (concat_level ≤ level b) × Fits a × Fits b
 IsSound (matching k a) = (concat_level ≤ level a) × Fits a
-IsSound (calling w args) = AllFit args
+IsSound (calling p w args) = AllFit args
 IsSound (listing n a args) = (concat_level ≤ level a) × Fits a × AllFit args
 IsSound choosing = Unit {0}
 IsSound (asking bs) = BranchesFit bs
@@ -144,6 +155,10 @@ plugged negating e g s f le under =
     record { tree = tree.negated e; fits = (le, f); level = refl; steps = refl; tokens = refl }
 plugged minusing e g s f le under =
     record { tree = tree.minus e; fits = (le, under, f); level = refl; steps = refl; tokens = refl }
+plugged plusing e g s f le under =
+    record { tree = tree.plus e; fits = (le, f); level = refl; steps = refl; tokens = refl }
+plugged inverting e g s f le under =
+    record { tree = tree.bit_not e; fits = (le, f); level = refl; steps = refl; tokens = refl }
 plugged (joining o a) e g s f le under = record {
   tree = tree.joined o a e;
   fits = (s.0, le, s.1, f);
@@ -180,7 +195,7 @@ plugged (matching k a) e g s f le under = record {
   tokens = append_assoc (spelling a) (like_sign k) (spelling e)
       ∙ ap (λ ts. spelling a ++ (like_sign k ++ ts)) (sym (append-nil (spelling e)));
 }
-plugged (calling w args) e g s f le under = absurd (let k : ⊥ = omega (arith, g) in k)
+plugged (calling p w args) e g s f le under = absurd (let k : ⊥ = omega (arith, g) in k)
 plugged (listing n a args) e g s f le under = absurd (let k : ⊥ = omega (arith, g) in k)
 plugged choosing e g s f le under = absurd (let k : ⊥ = omega (arith, g) in k)
 plugged (asking bs) e g s f le under = absurd (let k : ⊥ = omega (arith, g) in k)

@@ -10,6 +10,8 @@ pub mod Writable
 pub mod Tables
 pub mod Settling
 pub mod Steps
+pub mod LastName
+pub mod LastStep
 pub mod Closes
 pub mod StepsRead
 pub mod CaseRead
@@ -22,6 +24,7 @@ pub mod ItemsSound
 pub mod CaseSound
 pub mod BracketsSound
 pub mod SignsSound
+pub mod NameSound
 pub mod OperandsSound
 pub mod Sound
 pub mod Whole

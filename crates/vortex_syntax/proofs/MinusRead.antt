@@ -1,5 +1,6 @@
 -- A minus sign before what is no literal.
-use Rattle.std.proofs.Common.{◌≡◌, ◌≤◌, List, [], ◌∷◌, ◌++◌, refl, ap, sym, ◌∙◌, append_assoc}
+use Rattle.std.proofs.Common.{◌≡◌, ◌≤◌, true, false, List, [], ◌∷◌, ◌++◌, refl, ap, sym, ◌∙◌}
+use Rattle.std.proofs.Common.{append_assoc}
 use Rattle.std.proofs.Common.{arith}
 use Rattle.vortex_syntax.specs.declared.token.Sign.TheVariants as sign
 use Rattle.vortex_syntax.specs.Frames.{Frame}
@@ -46,14 +47,17 @@ signed_read (tree.operand (number ds)) h k fs out ts =
 signed_read (tree.operand t) h k fs out ts = refl
 signed_read (tree.negative ds) h k fs out ts = refl
 signed_read (tree.minus a) h k fs out ts = refl
+signed_read (tree.plus a) h k fs out ts = refl
 signed_read (tree.typed a w n) h k fs out ts = absurd (let j : ⊥ = omega (arith, k) in j)
 signed_read (tree.grouped a) h k fs out ts = refl
 signed_read (tree.negated a) h k fs out ts = refl
 signed_read (tree.joined o a b) h k fs out ts =
     absurd (let j : ⊥ = omega (arith, h, own_product o) in j)
 signed_read (tree.cast a w n) h k fs out ts = refl
-signed_read (tree.nullary w) h k fs out ts = refl
-signed_read (tree.applied w args a) h k fs out ts = refl
+signed_read (tree.nullary true w) h k fs out ts = refl
+signed_read (tree.nullary false w) h k fs out ts = refl
+signed_read (tree.applied true w args a) h k fs out ts = refl
+signed_read (tree.applied false w args a) h k fs out ts = refl
 signed_read (tree.chosen bs c v) h k fs out ts =
     case_signed bs
     (sign sign.When ∷ (spelling c ++ (sign sign.Then ∷ (spelling v ++ (sign sign.End ∷ [])))))

@@ -1,8 +1,9 @@
 -- What the other tokens do to what was read.
 use Rattle.std.proofs.Common.{◌≡◌, ℕ, zero, ◌≤◌, Bool, true, false, nat_le, cond, List, [], ◌∷◌}
 use Rattle.std.proofs.Common.{◌++◌, Some, None, refl, ap, subst, ◌∙◌, append_assoc, arith, lit≤}
-use Rattle.vortex_syntax.specs.declared.step.Test.{Test}
+use Rattle.std.proofs.lemmas.List.{append-nil}
 use Rattle.vortex_syntax.specs.declared.step.Test.TheVariants as test
+use Rattle.std.specs.Prelude.{codes}
 use Rattle.vortex_syntax.specs.declared.step.LikeKind.{LikeKind}
 use Rattle.vortex_syntax.specs.declared.step.Call.TheVariants as call
 use Rattle.vortex_syntax.specs.declared.token.Sign.{Sign}
@@ -12,19 +13,21 @@ use Rattle.vortex_syntax.specs.Frames as frame
 use Rattle.vortex_syntax.specs.declared.frame.Mode.TheVariants as mode
 use Rattle.vortex_syntax.specs.Tokens.{Token, name, nullable, function, quoted, number, text, sign}
 use Rattle.vortex_syntax.specs.Syntax as tree
-use Rattle.vortex_syntax.specs.Syntax.{Syntax, Arguments}
+use Rattle.vortex_syntax.specs.Syntax.{Syntax, Tested, Arguments}
 use Rattle.vortex_syntax.specs.Levels.{typed_level, level, Fits, is_operand, operand_level}
 use Rattle.vortex_syntax.specs.Levels.{not_level, distinct_level, is_level, predicate_level}
-use Rattle.vortex_syntax.specs.Levels.{concat_level, atom_level, literal_level}
-use Rattle.vortex_syntax.specs.Spelling.{spelling, type_token, is_tokens, test_sign, test_tokens}
-use Rattle.vortex_syntax.specs.Spelling.{distinct_tokens, like_sign}
+use Rattle.vortex_syntax.specs.Levels.{bit_not_level, concat_level, atom_level, literal_level}
+use Rattle.vortex_syntax.specs.Levels.{IsTested}
+use Rattle.vortex_syntax.specs.Keywords.{same_word}
+use Rattle.vortex_syntax.specs.Spelling.{spelling, type_token, is_tokens, test_token, test_tokens}
+use Rattle.vortex_syntax.specs.Spelling.{distinct_tokens, like_sign, function_tokens}
 use Rattle.vortex_syntax.specs.Postfix.{Step, operand, negative, typed, cast, escaped, applied}
-use Rattle.vortex_syntax.specs.Postfix.{called, argument_count, postfix}
+use Rattle.vortex_syntax.specs.Postfix.{called, test_of, argument_count, postfix}
 use Rattle.vortex_syntax.specs.Reading as specs
 use Rattle.vortex_syntax.specs.Reading.{State, state}
 use Rattle.vortex_syntax.proofs.Tables.{top_atom, top_sign, atom_ceiling}
 use Rattle.vortex_syntax.proofs.Held.{Held, opened, casting, negating, minusing, distinguishing}
-use Rattle.vortex_syntax.proofs.Held.{calling, written, held}
+use Rattle.vortex_syntax.proofs.Held.{plusing, inverting, calling, written, held}
 use Rattle.vortex_syntax.proofs.Before.{Behind, more, more_tokens, as_tokens, as_steps, pushed}
 use Rattle.vortex_syntax.proofs.Before.{popped, call_is, HasOperand, Holds, HoldsIn, along, chosen}
 use Rattle.vortex_syntax.proofs.Before.{fits_below, operand_more, operand_is}
@@ -50,21 +53,36 @@ not_sound fs out s before e b =
     (more_tokens fs out before [] [] (sign sign.Not ∷ []) b) tt
     (fits_below (top_hole fs) not_level c.0))
 
+bit_not_sound : (fs : List Frame) (out : List Step) (s : State) (before : List Token)
+    → cond (nat_le (top_hole fs) bit_not_level)
+    (Some (state mode.Want (frame.BitNot ∷ fs) out)) None ≡ Some s
+    → Behind fs out before [] [] → HoldsIn s (before ++ (sign sign.BitNot ∷ []))
+bit_not_sound fs out s before e b =
+    let after = state mode.Want (frame.BitNot ∷ fs) out in
+    let c = chosen (nat_le (top_hole fs) bit_not_level) after s e in
+    along after s (before ++ (sign sign.BitNot ∷ [])) c.1
+    (pushed inverting fs out (before ++ (sign sign.BitNot ∷ []))
+    (more_tokens fs out before [] [] (sign sign.BitNot ∷ []) b) tt
+    (fits_below (top_hole fs) bit_not_level c.0))
+
 none_are : (args : Arguments) → 0 ≡ argument_count args → args ≡ tree.no_arguments
 none_are tree.no_arguments e = refl
 none_are (tree.argument args a) e = absurd (let k : ⊥ = omega (arith, e) in k)
 
-pub nullary_is : (w : List ℕ) (args : Arguments) (h : Held) (fs : List Frame) (out : List Step)
-    (before : List Token) → h ≡ calling w args → 0 ≡ argument_count args
+pub nullary_is : (p : Bool) (w : List ℕ) (args : Arguments) (h : Held) (fs : List Frame)
+    (out : List Step) (before : List Token) → h ≡ calling p w args → 0 ≡ argument_count args
     → Behind fs out before (held h ++ []) (written h ++ [])
     → HasOperand atom_level fs (out ++ (applied w 0 ∷ [])) (before ++ (sign sign.Close ∷ [])) []
-nullary_is w args h fs out before e k r =
-    let is : h ≡ calling w tree.no_arguments = e ∙ ap (calling w) (none_are args k) in
-    let b : Behind fs out before [] (function w ∷ []) =
+nullary_is p w args h fs out before e k r =
+    let is : h ≡ calling p w tree.no_arguments = e ∙ ap (calling p w) (none_are args k) in
+    let here : Behind fs out before [] ((function_tokens p w ++ []) ++ []) =
     subst (λ (v : Held). Behind fs out before (held v ++ []) (written v ++ [])) is r in
-    operand_is (tree.nullary w) fs (out ++ (applied w 0 ∷ [])) (before ++ (sign sign.Close ∷ [])) tt
-    (top_atom fs) (atom_ceiling fs)
-    (more fs out before [] (function w ∷ []) (applied w 0 ∷ []) (sign sign.Close ∷ []) b)
+    let b : Behind fs out before [] (function_tokens p w) =
+    as_tokens fs out before [] ((function_tokens p w ++ []) ++ []) (function_tokens p w)
+    (append-nil (function_tokens p w ++ []) ∙ append-nil (function_tokens p w)) here in
+    operand_is (tree.nullary p w) fs (out ++ (applied w 0 ∷ []))
+    (before ++ (sign sign.Close ∷ [])) tt (top_atom fs) (atom_ceiling fs)
+    (more fs out before [] (function_tokens p w) (applied w 0 ∷ []) (sign sign.Close ∷ []) b)
 
 pub nullary_sound : (fs : List Frame) (out : List Step) (s : State) (before : List Token)
     → specs.close_expected fs out ≡ Some s → Behind fs out before [] []
@@ -74,7 +92,7 @@ nullary_sound (frame.Arguments w zero ∷ fs) out s before e b =
     let i = call_is w 0 r.h r.is in
     along (state (mode.Have atom_level) fs (out ++ (applied w 0 ∷ []))) s
     (before ++ (sign sign.Close ∷ []))
-    e (nullary_is w i.0 r.h fs out before i.1 i.2 r.behind)
+    e (nullary_is i.1 w i.0 r.h fs out before i.2 i.3 r.behind)
 nullary_sound fs out s before e b = absurd cc
 
 pub sign_wanted_sound : (fs : List Frame) (out : List Step) (u : Sign) (s : State)
@@ -83,6 +101,11 @@ pub sign_wanted_sound : (fs : List Frame) (out : List Step) (u : Sign) (s : Stat
 sign_wanted_sound fs out sign.Minus s before e b =
     along (state mode.Signed fs out) s (before ++ (sign sign.Minus ∷ [])) e
     (more_tokens fs out before [] [] (sign sign.Minus ∷ []) b)
+sign_wanted_sound fs out sign.Plus s before e b =
+    along (state mode.Want (frame.Plus ∷ fs) out) s (before ++ (sign sign.Plus ∷ [])) e
+    (pushed plusing fs out (before ++ (sign sign.Plus ∷ []))
+    (more_tokens fs out before [] [] (sign sign.Plus ∷ []) b) tt (top_sign fs))
+sign_wanted_sound fs out sign.BitNot s before e b = bit_not_sound fs out s before e b
 sign_wanted_sound fs out sign.Not s before e b = not_sound fs out s before e b
 sign_wanted_sound fs out sign.Open s before e b =
     along (state mode.Want (frame.Open ∷ fs) out) s (before ++ (sign sign.Open ∷ [])) e
@@ -102,14 +125,25 @@ pub other_wanted_sound : (fs : List Frame) (out : List Step) (t : Token) (s : St
 other_wanted_sound fs out (sign u) s before e b = sign_wanted_sound fs out u s before e b
 other_wanted_sound fs out (function w) s before e b =
     along (state mode.Want (frame.Arguments w 0 ∷ fs) out) s (before ++ (function w ∷ [])) e
-    (pushed (calling w tree.no_arguments) fs out (before ++ (function w ∷ []))
+    (pushed (calling false w tree.no_arguments) fs out (before ++ (function w ∷ []))
     (more_tokens fs out before [] [] (function w ∷ []) b) tt (top_atom fs))
 other_wanted_sound fs out t s before e b = absurd cc
 
-pub operand_sound : (fs : List Frame) (out : List Step) (t : Token) (s : State)
-    (before : List Token) → is_operand t ≡ true → specs.operand_read fs out t ≡ Some s
+name_sound : (fs : List Frame) (out : List Step) (w : List ℕ) (s : State)
+    (before : List Token) → specs.operand_read fs out (name w) ≡ Some s
+    → Behind fs out before [] [] → HoldsIn s (before ++ (name w ∷ []))
+name_sound fs out w s before e b =
+    let after = state mode.Named fs (out ++ (operand (name w) ∷ [])) in
+    let c = chosen (nat_le atom_level (top_ceiling fs)) after s e in
+    along after s (before ++ (name w ∷ [])) c.1
+    (w, more fs out before [] [] (operand (name w) ∷ []) (name w ∷ []) b)
+
+other_sound : (fs : List Frame) (out : List Step) (t : Token) (s : State)
+    (before : List Token) → is_operand t ≡ true
+    → cond (nat_le (operand_level t) (top_ceiling fs))
+    (Some (state (mode.Have (operand_level t)) fs (out ++ (operand t ∷ [])))) None ≡ Some s
     → Behind fs out before [] [] → HoldsIn s (before ++ (t ∷ []))
-operand_sound fs out t s before k e b =
+other_sound fs out t s before k e b =
     let after = state (mode.Have (operand_level t)) fs (out ++ (operand t ∷ [])) in
     let c = chosen (nat_le (operand_level t) (top_ceiling fs)) after s e in
     along after s (before ++ (t ∷ [])) c.1
@@ -117,6 +151,12 @@ operand_sound fs out t s before k e b =
     (omega (arith, top_atom fs, operand_atom t))
     (fits_below (operand_level t) (top_ceiling fs) c.0)
     (more fs out before [] [] (operand t ∷ []) (t ∷ []) b))
+
+pub operand_sound : (fs : List Frame) (out : List Step) (t : Token) (s : State)
+    (before : List Token) → is_operand t ≡ true → specs.operand_read fs out t ≡ Some s
+    → Behind fs out before [] [] → HoldsIn s (before ++ (t ∷ []))
+operand_sound fs out (name w) s before k e b = name_sound fs out w s before e b
+operand_sound fs out t s before k e b = other_sound fs out t s before k e b
 
 pub wanted_sound : (fs : List Frame) (out : List Step) (t : Token) (s : State) (before : List Token)
     (b : Bool) → is_operand t ≡ b
@@ -178,28 +218,37 @@ type_sound l fs out (nullable w) s before e a le =
     (typed_is l fs out before w true a le)
 type_sound l fs out t s before e a le = absurd cc
 
-pub tested_is : (k : Test) (n : Bool) (l : ℕ) (fs : List Frame) (out : List Step)
-    (before : List Token) → HasOperand l fs out before (is_tokens n) → is_level ≤ l
+pub tested_is : (k : Tested) (n : Bool) (l : ℕ) (fs : List Frame) (out : List Step)
+    (before : List Token) → IsTested k → HasOperand l fs out before (is_tokens n) → is_level ≤ l
     → top_hole fs ≤ is_level
-    → HasOperand is_level fs (out ++ (called (call.Is k n) ∷ []))
-    (before ++ (sign (test_sign k) ∷ [])) []
-tested_is k n l fs out before a le place =
-    let last : List Token = sign (test_sign k) ∷ [] in
-    let step : List Step = called (call.Is k n) ∷ [] in
+    → HasOperand is_level fs (out ++ (called (call.Is (test_of k) n) ∷ []))
+    (before ++ (test_token k ∷ [])) []
+tested_is k n l fs out before i a le place =
+    let last : List Token = test_token k ∷ [] in
+    let step : List Step = called (call.Is (test_of k) n) ∷ [] in
     operand_is (tree.tested k n a.tree) fs (out ++ step) (before ++ last)
-    (subst (λ (m : ℕ). is_level ≤ m) a.level le, a.fits) place (omega (arith, atom_ceiling fs))
+    (subst (λ (m : ℕ). is_level ≤ m) a.level le, a.fits, i) place (omega (arith, atom_ceiling fs))
     (as_tokens fs (out ++ step) (before ++ last) (postfix a.tree ++ step)
     ((spelling a.tree ++ is_tokens n) ++ last) (spelling a.tree ++ test_tokens k n)
     (append_assoc (spelling a.tree) (is_tokens n) last)
     (more fs out before (postfix a.tree) (spelling a.tree ++ is_tokens n) step last a.behind))
 
-pub tested_sound : (k : Test) (n : Bool) (l : ℕ) (fs : List Frame) (out : List Step) (s : State)
-    (before : List Token) → specs.tested k n fs out ≡ Some s
+pub tested_sound : (k : Tested) (n : Bool) (l : ℕ) (fs : List Frame) (out : List Step) (s : State)
+    (before : List Token) → IsTested k → specs.tested (test_of k) n fs out ≡ Some s
     → HasOperand l fs out before (is_tokens n) → is_level ≤ l → top_hole fs ≤ is_level
-    → HoldsIn s (before ++ (sign (test_sign k) ∷ []))
-tested_sound k n l fs out s before e a le place =
-    along (state (mode.Have is_level) fs (out ++ (called (call.Is k n) ∷ []))) s
-    (before ++ (sign (test_sign k) ∷ [])) e (tested_is k n l fs out before a le place)
+    → HoldsIn s (before ++ (test_token k ∷ []))
+tested_sound k n l fs out s before i e a le place =
+    along (state (mode.Have is_level) fs (out ++ (called (call.Is (test_of k) n) ∷ []))) s
+    (before ++ (test_token k ∷ [])) e (tested_is k n l fs out before i a le place)
+
+word_sound : (w : List ℕ) (n : Bool) (l : ℕ) (fs : List Frame) (out : List Step) (s : State)
+    (before : List Token) → specs.word_tested n w fs out ≡ Some s
+    → HasOperand l fs out before (is_tokens n) → is_level ≤ l → top_hole fs ≤ is_level
+    → HoldsIn s (before ++ (name w ∷ []))
+word_sound w n l fs out s before e a le place =
+    let after = state (mode.Have is_level) fs (out ++ (called (call.Is test.Unknown n) ∷ [])) in
+    let c = chosen (same_word w (codes "unknown")) after s e in
+    tested_sound (tree.Unknown w) n l fs out s before c.0 c.1 a le place
 
 pub is_not_sound : (n : Bool) (l : ℕ) (fs : List Frame) (out : List Step) (s : State)
     (before : List Token) → specs.is_not n fs out ≡ Some s
@@ -228,13 +277,13 @@ pub is_follows : (n : Bool) (l : ℕ) (fs : List Frame) (out : List Step) (t : T
     → HasOperand l fs out before (is_tokens n) → is_level ≤ l → top_hole fs ≤ is_level
     → HoldsIn s (before ++ (t ∷ []))
 is_follows n l fs out (sign sign.Null) s before e a le place =
-    tested_sound test.Null n l fs out s before e a le place
+    tested_sound tree.Null n l fs out s before tt e a le place
 is_follows n l fs out (sign sign.True) s before e a le place =
-    tested_sound test.True n l fs out s before e a le place
+    tested_sound tree.True n l fs out s before tt e a le place
 is_follows n l fs out (sign sign.False) s before e a le place =
-    tested_sound test.False n l fs out s before e a le place
-is_follows n l fs out (sign sign.Unknown) s before e a le place =
-    tested_sound test.Unknown n l fs out s before e a le place
+    tested_sound tree.False n l fs out s before tt e a le place
+is_follows n l fs out (name w) s before e a le place =
+    word_sound w n l fs out s before e a le place
 is_follows n l fs out (sign sign.Not) s before e a le place =
     is_not_sound n l fs out s before e a le place
 is_follows n l fs out (sign sign.Distinct) s before e a le place =

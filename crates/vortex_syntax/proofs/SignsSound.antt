@@ -1,21 +1,25 @@
 -- What a sign after an operand does to what was read.
 use Rattle.std.proofs.Common.{◌≡◌, ℕ, ◌≤◌, Bool, true, false, nat_le, ◌&&◌, cond, List, [], ◌∷◌}
-use Rattle.std.proofs.Common.{◌++◌, Some, None, refl, ap, sym, subst, ◌∙◌, append_assoc}
+use Rattle.std.proofs.Common.{◌++◌, Some, None, refl, ap, sym, subst, ◌∙◌, append_assoc, arith}
 use Rattle.std.proofs.lemmas.List.{append-nil}
 use Rattle.vortex_syntax.specs.declared.step.WrittenOperator.{WrittenOperator}
 use Rattle.vortex_syntax.specs.declared.step.WrittenOperator.TheVariants as operator
+use Rattle.vortex_syntax.specs.declared.step.Test.TheVariants as test
 use Rattle.vortex_syntax.specs.declared.step.LikeKind.{LikeKind}
+use Rattle.vortex_syntax.specs.declared.step.Call.TheVariants as call
 use Rattle.vortex_syntax.specs.declared.token.Sign.{Sign}
 use Rattle.vortex_syntax.specs.declared.token.Sign.TheVariants as sign
 use Rattle.vortex_syntax.specs.Frames.{Frame, top_hole, whole}
 use Rattle.vortex_syntax.specs.Frames as frame
 use Rattle.vortex_syntax.specs.declared.frame.Mode.TheVariants as mode
 use Rattle.vortex_syntax.specs.Tokens.{Token, sign}
+use Rattle.vortex_syntax.specs.Syntax as tree
 use Rattle.vortex_syntax.specs.Syntax.{Syntax}
 use Rattle.vortex_syntax.specs.Levels.{own, left, level, Fits, or_level, and_level, is_level}
 use Rattle.vortex_syntax.specs.Levels.{predicate_level, concat_level, literal_level}
 use Rattle.vortex_syntax.specs.Spelling.{spelling, operator_sign, with_not, like_sign}
-use Rattle.vortex_syntax.specs.Postfix.{Step, postfix}
+use Rattle.vortex_syntax.specs.Spelling.{null_test_sign}
+use Rattle.vortex_syntax.specs.Postfix.{Step, called, postfix}
 use Rattle.vortex_syntax.specs.Reading as specs
 use Rattle.vortex_syntax.specs.Reading.{State, state, operand_of, settled, waiting, shifted}
 use Rattle.vortex_syntax.specs.Reading.{and_behind, is_behind, not_behind, as_behind, escape_behind}
@@ -25,7 +29,8 @@ use Rattle.vortex_syntax.proofs.Held.{written, held, IsSound}
 use Rattle.vortex_syntax.proofs.Before.{Behind, more_tokens, as_tokens, as_steps, pushed, popped}
 use Rattle.vortex_syntax.proofs.Before.{cast_is, lower_is, like_is, HasOperand, settled_operand}
 use Rattle.vortex_syntax.proofs.Before.{Holds, HoldsIn, along, both, chosen, fits_below}
-use Rattle.vortex_syntax.proofs.Before.{operand_more}
+use Rattle.vortex_syntax.proofs.Before.{more, operand_more, operand_is}
+use Rattle.vortex_syntax.proofs.Tables.{atom_ceiling}
 use Rattle.vortex_syntax.proofs.CaseSound.{case_word_sound}
 use Rattle.vortex_syntax.proofs.BracketsSound.{comma_sound, close_sound}
 
@@ -200,6 +205,31 @@ is_sound l fs out s before e a =
       fits_below (top_hole fs) is_level t.1,
     )
 
+null_tested_is : (n : Bool) (l : ℕ) (fs : List Frame) (out : List Step) (before : List Token)
+    → HasOperand l fs out before [] → is_level ≤ l → top_hole fs ≤ is_level
+    → HasOperand is_level fs (out ++ (called (call.Is test.Null n) ∷ []))
+    (before ++ (sign (null_test_sign n) ∷ [])) []
+null_tested_is n l fs out before a le place =
+    let last : List Token = sign (null_test_sign n) ∷ [] in
+    let step : List Step = called (call.Is test.Null n) ∷ [] in
+    operand_is (tree.null_tested n a.tree) fs (out ++ step) (before ++ last)
+    (subst (λ (m : ℕ). is_level ≤ m) a.level le, a.fits) place (omega (arith, atom_ceiling fs))
+    (as_tokens fs (out ++ step) (before ++ last) (postfix a.tree ++ step)
+    ((spelling a.tree ++ []) ++ last) (spelling a.tree ++ last)
+    (ap (λ ts. ts ++ last) (append-nil (spelling a.tree)))
+    (more fs out before (postfix a.tree) (spelling a.tree ++ []) step last a.behind))
+
+pub null_test_sound : (n : Bool) (l : ℕ) (fs : List Frame) (out : List Step) (s : State)
+    (before : List Token) → specs.null_test_behind n l fs out ≡ Some s
+    → HasOperand l fs out before [] → HoldsIn s (before ++ (sign (null_test_sign n) ∷ []))
+null_test_sound n l fs out s before e a =
+    let after = state (mode.Have is_level) fs (out ++ (called (call.Is test.Null n) ∷ [])) in
+    let c = chosen (nat_le is_level l && nat_le (top_hole fs) is_level) after s e in
+    let t = both (nat_le is_level l) (nat_le (top_hole fs) is_level) c.0 in
+    along after s (before ++ (sign (null_test_sign n) ∷ [])) c.1
+    (null_tested_is n l fs out before a (fits_below is_level l t.0)
+    (fits_below (top_hole fs) is_level t.1))
+
 pub not_sound : (l : ℕ) (fs : List Frame) (out : List Step) (s : State) (before : List Token)
     → not_behind l fs out ≡ Some s → HasOperand l fs out before []
     → HoldsIn s (before ++ (sign sign.Not ∷ []))
@@ -305,6 +335,12 @@ behind_sign l fs out sign.Not s before e a = let b = settled predicate_level l f
     (settled_operand predicate_level l fs out before [] a)
 behind_sign l fs out sign.Is s before e a = let b = settled is_level l fs out in
     is_sound b.level b.frames b.steps s before e (settled_operand is_level l fs out before [] a)
+behind_sign l fs out sign.IsNull s before e a = let b = settled is_level l fs out in
+    null_test_sound false b.level b.frames b.steps s before e
+    (settled_operand is_level l fs out before [] a)
+behind_sign l fs out sign.NotNull s before e a = let b = settled is_level l fs out in
+    null_test_sound true b.level b.frames b.steps s before e
+    (settled_operand is_level l fs out before [] a)
 behind_sign l fs out sign.Between s before e a = between_sound false l fs out s before e a
 behind_sign l fs out sign.Like s before e a =
     like_sound false false sign.Like l fs out s before refl e a
@@ -346,6 +382,16 @@ behind_sign l fs out sign.Times s before e a = joining_sound operator.Mul l fs o
 behind_sign l fs out sign.Divide s before e a = joining_sound operator.Div l fs out s before e a
 behind_sign l fs out sign.Modulo s before e a = joining_sound operator.Mod l fs out s before e a
 behind_sign l fs out sign.Concat s before e a = joining_sound operator.Concat l fs out s before e a
+behind_sign l fs out sign.BitAnd s before e a =
+    joining_sound operator.BitAnd l fs out s before e a
+behind_sign l fs out sign.BitOr s before e a =
+    joining_sound operator.BitOr l fs out s before e a
+behind_sign l fs out sign.BitXor s before e a =
+    joining_sound operator.BitXor l fs out s before e a
+behind_sign l fs out sign.ShiftLeft s before e a =
+    joining_sound operator.ShiftLeft l fs out s before e a
+behind_sign l fs out sign.ShiftRight s before e a =
+    joining_sound operator.ShiftRight l fs out s before e a
 behind_sign l fs out sign.Close s before e a = let b = settled 0 l fs out in
     close_sound b.level b.frames b.steps s before e (settled_operand 0 l fs out before [] a)
 behind_sign l fs out sign.Comma s before e a = let b = settled 0 l fs out in

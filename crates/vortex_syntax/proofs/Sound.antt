@@ -8,7 +8,7 @@ use Rattle.vortex_syntax.specs.declared.frame.Mode.{Mode}
 use Rattle.vortex_syntax.specs.declared.frame.Mode.TheVariants as mode
 use Rattle.vortex_syntax.specs.Tokens.{Token}
 use Rattle.vortex_syntax.specs.Syntax.{Syntax}
-use Rattle.vortex_syntax.specs.Levels.{Fits, is_operand}
+use Rattle.vortex_syntax.specs.Levels.{Fits, is_operand, atom_level}
 use Rattle.vortex_syntax.specs.Spelling.{spelling}
 use Rattle.vortex_syntax.specs.Postfix.{Step, postfix}
 use Rattle.vortex_syntax.specs.Reading.{State, state, settled, end_behind, next, finish, run}
@@ -16,6 +16,7 @@ use Rattle.vortex_syntax.specs.Reading.{steps_of}
 use Rattle.vortex_syntax.proofs.Held.{Held, frames_of, all_written, all_held}
 use Rattle.vortex_syntax.proofs.Before.{HasOperand, settled_operand, Holds, HoldsIn}
 use Rattle.vortex_syntax.proofs.ItemsSound.{in_follows}
+use Rattle.vortex_syntax.proofs.NameSound.{named_operand, named_sound}
 use Rattle.vortex_syntax.proofs.SignsSound.{behind_sound, negating_sound}
 use Rattle.vortex_syntax.proofs.OperandsSound.{wanted_sound, signed_sound, type_sound, is_follows}
 use Rattle.vortex_syntax.proofs.OperandsSound.{distinct_follows, cast_follows, cast_type_sound}
@@ -29,6 +30,7 @@ unfolding next
 step_sound mode.Want fs out t s before e h = wanted_sound fs out t s before (is_operand t) refl e h
 step_sound mode.Signed fs out t s before e h = signed_sound fs out t s before e h
 step_sound (mode.Have l) fs out t s before e h = behind_sound l fs out t s before e h
+step_sound mode.Named fs out t s before e h = named_sound fs out t s before e h
 step_sound mode.Typing fs out t s before e h = type_sound h.0 fs out t s before e h.1 h.2
 step_sound (mode.Is n) fs out t s before e h = is_follows n h.0 fs out t s before e h.1 h.2 h.3
 step_sound (mode.Distinct n) fs out t s before e h =
@@ -71,6 +73,9 @@ pub finish_sound : (m : Mode) (fs : List Frame) (out xs : List Step) (before : L
 unfolding finish
 finish_sound (mode.Have l) fs out xs before e h = let b = settled 0 l fs out in
     ended b.level b.frames b.steps xs before e (settled_operand 0 l fs out before [] h)
+finish_sound mode.Named fs out xs before e h = let b = settled 0 atom_level fs out in
+    ended b.level b.frames b.steps xs before e
+    (settled_operand 0 atom_level fs out before [] (named_operand fs out before h))
 finish_sound m fs out xs before e h = absurd cc
 
 abbrev pub ran_from : List Token → Option State → Option (List Step)

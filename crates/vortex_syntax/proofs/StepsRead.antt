@@ -3,7 +3,6 @@ use Rattle.std.proofs.Common.{◌≡◌, ℕ, suc, ◌≤◌, Bool, true, false,
 use Rattle.std.proofs.Common.{ap, ◌∙◌, append_assoc, arith}
 use Rattle.vortex_syntax.specs.declared.step.WrittenOperator.{WrittenOperator}
 use Rattle.vortex_syntax.specs.declared.step.WrittenOperator.TheVariants as operator
-use Rattle.vortex_syntax.specs.declared.step.Test.{Test}
 use Rattle.vortex_syntax.specs.declared.step.Test.TheVariants as test
 use Rattle.vortex_syntax.specs.declared.step.LikeKind.{LikeKind}
 use Rattle.vortex_syntax.specs.declared.step.Call.TheVariants as call
@@ -11,18 +10,23 @@ use Rattle.vortex_syntax.specs.declared.token.Sign.TheVariants as sign
 use Rattle.vortex_syntax.specs.Frames.{Frame, hole, top_hole, top_ceiling}
 use Rattle.vortex_syntax.specs.Frames as frame
 use Rattle.vortex_syntax.specs.declared.frame.Mode.TheVariants as mode
-use Rattle.vortex_syntax.specs.Tokens.{Token, function, number, text, sign}
+use Rattle.vortex_syntax.specs.Tokens.{Token, name, function, number, text, sign}
+use Rattle.vortex_syntax.specs.Syntax as tree
+use Rattle.vortex_syntax.specs.Syntax.{Tested}
 use Rattle.vortex_syntax.specs.Levels.{typed_level, own, left, is_operand, operand_level, and_level}
+use Rattle.vortex_syntax.specs.Levels.{bit_not_level, IsTested}
 use Rattle.vortex_syntax.specs.Levels.{not_level, distinct_level, is_level, predicate_level}
 use Rattle.vortex_syntax.specs.Levels.{concat_level, atom_level, literal_level}
-use Rattle.vortex_syntax.specs.Spelling.{operator_sign, type_token, with_not, is_tokens, test_sign}
+use Rattle.vortex_syntax.specs.Spelling.{operator_sign, type_token, with_not, is_tokens, test_token}
+use Rattle.vortex_syntax.specs.Spelling.{null_test_sign, function_tokens}
 use Rattle.vortex_syntax.specs.Spelling.{test_tokens, distinct_tokens, in_tokens, like_sign}
 use Rattle.vortex_syntax.specs.Postfix.{Step, operand, negative, typed, cast, escaped, applied}
-use Rattle.vortex_syntax.specs.Postfix.{listed, called}
+use Rattle.vortex_syntax.specs.Postfix.{listed, called, test_of}
 use Rattle.vortex_syntax.specs.Reading as specs
 use Rattle.vortex_syntax.specs.Reading.{state, settled, shifted, joining, and_behind, predicate}
-use Rattle.vortex_syntax.specs.Reading.{word_after, next, run}
-use Rattle.vortex_syntax.proofs.Tables.{at_most}
+use Rattle.vortex_syntax.specs.Reading.{word_after, next, finish, run, call_of, mode_behind}
+use Rattle.vortex_syntax.proofs.Tables.{reach, at_most, atom_ceiling}
+use Rattle.vortex_syntax.proofs.LastName.{name_last}
 use Rattle.vortex_syntax.proofs.Closes.{settled_none, shifts, ran, want, have}
 
 and_joins : (l : ℕ) (fs : List Frame) (out : List Step) → and_level ≤ l → top_hole fs ≤ and_level
@@ -33,6 +37,8 @@ and_joins l (frame.Open ∷ fs) out h k = rw (at_most and_level l h) refl
 and_joins l (frame.Cast ∷ fs) out h k = rw (at_most and_level l h) refl
 and_joins l (frame.Not ∷ fs) out h k = absurd (let j : ⊥ = omega (arith, k) in j)
 and_joins l (frame.Minus ∷ fs) out h k = absurd (let j : ⊥ = omega (arith, k) in j)
+and_joins l (frame.Plus ∷ fs) out h k = absurd (let j : ⊥ = omega (arith, k) in j)
+and_joins l (frame.BitNot ∷ fs) out h k = absurd (let j : ⊥ = omega (arith, k) in j)
 and_joins l (frame.Join o ∷ fs) out h k =
     rw (at_most and_level l h, at_most (hole (frame.Join o)) and_level k) refl
 and_joins l (frame.Distinct n ∷ fs) out h k = absurd (let j : ⊥ = omega (arith, k) in j)
@@ -125,22 +131,37 @@ is_read false l fs out ts h k =
     ap (λ a. ran ts (specs.is_behind a.level a.frames a.steps)) (settled_none is_level l fs out k)
     ∙ rw (at_most is_level l h, at_most (top_hole fs) is_level k) refl
 
-test_read : (k : Test) (n : Bool) (fs : List Frame) (out : List Step) (ts : List Token)
-    → run (state (mode.Is n) fs out) (sign (test_sign k) ∷ ts)
-    ≡ have is_level fs (out ++ (called (call.Is k n) ∷ [])) ts
+test_read : (k : Tested) (n : Bool) (fs : List Frame) (out : List Step) (ts : List Token)
+    → IsTested k
+    → run (state (mode.Is n) fs out) (test_token k ∷ ts)
+    ≡ have is_level fs (out ++ (called (call.Is (test_of k) n) ∷ [])) ts
 unfolding run next
-test_read test.Null n fs out ts = refl
-test_read test.True n fs out ts = refl
-test_read test.False n fs out ts = refl
-test_read test.Unknown n fs out ts = refl
+test_read tree.Null n fs out ts h = refl
+test_read tree.True n fs out ts h = refl
+test_read tree.False n fs out ts h = refl
+test_read (tree.Unknown w) n fs out ts h = rw h refl
 
-pub step_test : (k : Test) (n : Bool) (l : ℕ) (fs : List Frame) (out : List Step)
-    (ts : List Token) → is_level ≤ l → top_hole fs ≤ is_level
+pub step_test : (k : Tested) (n : Bool) (l : ℕ) (fs : List Frame) (out : List Step)
+    (ts : List Token) → IsTested k → is_level ≤ l → top_hole fs ≤ is_level
     → have l fs out (test_tokens k n ++ ts)
-    ≡ have is_level fs (out ++ (called (call.Is k n) ∷ [])) ts
-step_test k n l fs out ts h j =
-    ap (have l fs out) (append_assoc (is_tokens n) (sign (test_sign k) ∷ []) ts)
-    ∙ is_read n l fs out (sign (test_sign k) ∷ ts) h j ∙ test_read k n fs out ts
+    ≡ have is_level fs (out ++ (called (call.Is (test_of k) n) ∷ [])) ts
+step_test k n l fs out ts i h j =
+    ap (have l fs out) (append_assoc (is_tokens n) (test_token k ∷ []) ts)
+    ∙ is_read n l fs out (test_token k ∷ ts) h j ∙ test_read k n fs out ts i
+
+pub step_null_test : (n : Bool) (l : ℕ) (fs : List Frame) (out : List Step) (ts : List Token)
+    → is_level ≤ l → top_hole fs ≤ is_level
+    → have l fs out (sign (null_test_sign n) ∷ ts)
+    ≡ have is_level fs (out ++ (called (call.Is test.Null n) ∷ [])) ts
+unfolding run next word_after
+step_null_test true l fs out ts h k =
+    ap (λ a. ran ts (specs.null_test_behind true a.level a.frames a.steps))
+    (settled_none is_level l fs out k)
+    ∙ rw (at_most is_level l h, at_most (top_hole fs) is_level k) refl
+step_null_test false l fs out ts h k =
+    ap (λ a. ran ts (specs.null_test_behind false a.level a.frames a.steps))
+    (settled_none is_level l fs out k)
+    ∙ rw (at_most is_level l h, at_most (top_hole fs) is_level k) refl
 
 distinct_read : (n : Bool) (fs : List Frame) (out : List Step) (ts : List Token)
     → top_hole fs ≤ distinct_level
@@ -186,11 +207,40 @@ pub step_escape : (k : LikeKind) (e : List ℕ) (l : ℕ) (fs : List Frame) (out
 unfolding run next word_after settled
 step_escape k e l fs out ts = refl
 
-pub step_operand : (t : Token) (fs : List Frame) (out : List Step) (ts : List Token)
-    → is_operand t ≡ true → operand_level t ≤ top_ceiling fs
+-- after a bare name all but a bracket does what it does after another operand
+named_read : (fs : List Frame) (out : List Step) (ts : List Token) → reach ts ≤ atom_level
+    → run (state mode.Named fs out) ts ≡ have atom_level fs out ts
+unfolding run next finish
+named_read fs out [] h = refl
+named_read fs out (sign sign.Open ∷ ts) h = absurd (let j : ⊥ = omega (arith, h) in j)
+named_read fs out (t ∷ ts) h = refl
+
+step_name : (w : List ℕ) (fs : List Frame) (out : List Step) (ts : List Token)
+    → atom_level ≤ top_ceiling fs
+    → want fs out (name w ∷ ts) ≡ run (state mode.Named fs (out ++ (operand (name w) ∷ []))) ts
+unfolding run next
+step_name w fs out ts k = rw (at_most atom_level (top_ceiling fs) k) refl
+
+step_other : (t : Token) (fs : List Frame) (out : List Step) (ts : List Token)
+    → mode_behind t ≡ mode.Have (operand_level t) → is_operand t ≡ true
+    → operand_level t ≤ top_ceiling fs
     → want fs out (t ∷ ts) ≡ have (operand_level t) fs (out ++ (operand t ∷ [])) ts
 unfolding run next
-step_operand t fs out ts h k = rw h (rw (at_most (operand_level t) (top_ceiling fs) k) refl)
+step_other t fs out ts e h k =
+    rw (h, at_most (operand_level t) (top_ceiling fs) k, e) refl
+
+pub step_operand : (t : Token) (fs : List Frame) (out : List Step) (ts : List Token)
+    → is_operand t ≡ true → operand_level t ≤ top_ceiling fs → reach ts ≤ operand_level t
+    → want fs out (t ∷ ts) ≡ have (operand_level t) fs (out ++ (operand t ∷ [])) ts
+step_operand (name w) fs out ts h k r =
+    step_name w fs out ts k ∙ named_read fs (out ++ (operand (name w) ∷ [])) ts r
+step_operand t fs out ts h k r = step_other t fs out ts refl h k
+
+apart_read : (w : List ℕ) (fs : List Frame) (out : List Step) (ts : List Token)
+    → run (state mode.Named fs (out ++ (operand (name w) ∷ []))) (sign sign.Open ∷ ts)
+    ≡ want (frame.Arguments w 0 ∷ fs) out ts
+unfolding run next
+apart_read w fs out ts = ap (λ o. ran ts (call_of fs o)) (name_last out w)
 
 pub step_negative : (ds : List ℕ) (fs : List Frame) (out : List Step) (ts : List Token)
     → literal_level ≤ top_ceiling fs
@@ -204,6 +254,17 @@ pub step_not : (fs : List Frame) (out : List Step) (ts : List Token) → top_hol
 unfolding run next
 step_not fs out ts h = rw (at_most (top_hole fs) not_level h) refl
 
+pub step_plus : (fs : List Frame) (out : List Step) (ts : List Token)
+    → want fs out (sign sign.Plus ∷ ts) ≡ want (frame.Plus ∷ fs) out ts
+unfolding run next
+step_plus fs out ts = refl
+
+pub step_bit_not : (fs : List Frame) (out : List Step) (ts : List Token)
+    → top_hole fs ≤ bit_not_level
+    → want fs out (sign sign.BitNot ∷ ts) ≡ want (frame.BitNot ∷ fs) out ts
+unfolding run next
+step_bit_not fs out ts h = rw (at_most (top_hole fs) bit_not_level h) refl
+
 pub step_open : (fs : List Frame) (out : List Step) (ts : List Token)
     → want fs out (sign sign.Open ∷ ts) ≡ want (frame.Open ∷ fs) out ts
 unfolding run next
@@ -214,10 +275,16 @@ pub step_cast_open : (fs : List Frame) (out : List Step) (ts : List Token)
 unfolding run next
 step_cast_open fs out ts = refl
 
-pub step_function : (w : List ℕ) (fs : List Frame) (out : List Step) (ts : List Token)
+together_read : (w : List ℕ) (fs : List Frame) (out : List Step) (ts : List Token)
     → want fs out (function w ∷ ts) ≡ want (frame.Arguments w 0 ∷ fs) out ts
 unfolding run next
-step_function w fs out ts = refl
+together_read w fs out ts = refl
+
+pub step_function : (p : Bool) (w : List ℕ) (fs : List Frame) (out : List Step) (ts : List Token)
+    → want fs out (function_tokens p w ++ ts) ≡ want (frame.Arguments w 0 ∷ fs) out ts
+step_function true w fs out ts =
+    step_name w fs out (sign sign.Open ∷ ts) (atom_ceiling fs) ∙ apart_read w fs out ts
+step_function false w fs out ts = together_read w fs out ts
 
 pub step_nullary : (w : List ℕ) (fs : List Frame) (out : List Step) (ts : List Token)
     → want (frame.Arguments w 0 ∷ fs) out (sign sign.Close ∷ ts)

@@ -14,7 +14,7 @@ use Rattle.vortex_syntax.specs.Syntax.{Syntax}
 use Rattle.vortex_syntax.specs.Levels.{level, operand_level, sign_level, typed_level, own, left}
 use Rattle.vortex_syntax.specs.Levels.{right, or_level, and_level, not_level, is_level}
 use Rattle.vortex_syntax.specs.Levels.{comparison_level, predicate_level, concat_level, sum_level}
-use Rattle.vortex_syntax.specs.Levels.{product_level, atom_level, literal_level}
+use Rattle.vortex_syntax.specs.Levels.{bit_not_level, product_level, atom_level, literal_level}
 
 pub own_left : (o : WrittenOperator) → own o ≤ left o
 own_left operator.Or = lit≤ tt
@@ -32,23 +32,27 @@ pub own_product : (o : WrittenOperator) → own o ≤ product_level
 own_product operator.Or = lit≤ tt
 own_product o = lit≤ tt
 
--- no sign after an operand has the level of Not or of a minus sign before one, so a sign below or
--- at a frame's level closes it
-pub tight : (f : Frame) (n : ℕ) → 0 < guard f → n ≤ whole f → n ≢ not_level → n ≢ sign_level
-    → n < guard f
-tight frame.Not n h le ne nm = omega (arith, le, ne)
-tight frame.Minus n h le ne nm = omega (arith, le, nm)
-tight (frame.Join o) n h le ne nm = omega (arith, le, own_right o)
-tight (frame.Distinct m) n h le ne nm = omega (arith, le)
-tight (frame.Bounded m) n h le ne nm = omega (arith, le)
-tight (frame.Like k) n h le ne nm = omega (arith, le)
-tight f n h le ne nm = absurd (let k : ⊥ = omega (arith, h) in k)
+-- no sign after an operand has the level of one before an operand, so a sign below or at a frame's
+-- level closes it
+pub tight : (f : Frame) (n : ℕ) → 0 < guard f → n ≤ whole f → n ≢ not_level → n ≢ bit_not_level
+    → n ≢ sign_level → n < guard f
+tight frame.Not n h le ne nb nm = omega (arith, le, ne)
+tight frame.BitNot n h le ne nb nm = omega (arith, le, nb)
+tight frame.Minus n h le ne nb nm = omega (arith, le, nm)
+tight frame.Plus n h le ne nb nm = omega (arith, le, nm)
+tight (frame.Join o) n h le ne nb nm = omega (arith, le, own_right o)
+tight (frame.Distinct m) n h le ne nb nm = omega (arith, le)
+tight (frame.Bounded m) n h le ne nb nm = omega (arith, le)
+tight (frame.Like k) n h le ne nb nm = omega (arith, le)
+tight f n h le ne nb nm = absurd (let k : ⊥ = omega (arith, h) in k)
 
 pub guard_hole : (f : Frame) → guard f ≤ hole f
 guard_hole frame.Open = lit≤ tt
 guard_hole frame.Cast = lit≤ tt
 guard_hole frame.Not = lit≤ tt
 guard_hole frame.Minus = lit≤ tt
+guard_hole frame.Plus = lit≤ tt
+guard_hole frame.BitNot = lit≤ tt
 guard_hole (frame.Join o) = omega arith
 guard_hole (frame.Distinct m) = lit≤ tt
 guard_hole (frame.Between m) = lit≤ tt
@@ -100,10 +104,13 @@ level_literal (tree.operand t) = operand_literal t
 level_literal (tree.joined o a b) = omega (arith, own_product o)
 level_literal t = lit≤ tt
 
--- the level of the sign that comes after an operand: only frames above it are closed
+-- the level of the sign that comes after an operand: only frames above it are closed. A bracket
+-- comes after none but a bare name, which is no operand then
 abbrev pub reach_of : Sign → ℕ
 reach_of sign.And = and_level
 reach_of sign.Is = is_level
+reach_of sign.IsNull = is_level
+reach_of sign.NotNull = is_level
 reach_of sign.Equal = comparison_level
 reach_of sign.NotEqual = comparison_level
 reach_of sign.Less = comparison_level
@@ -117,12 +124,18 @@ reach_of sign.Like = predicate_level
 reach_of sign.Ilike = predicate_level
 reach_of sign.Escape = concat_level
 reach_of sign.Concat = concat_level
+reach_of sign.BitAnd = concat_level
+reach_of sign.BitOr = concat_level
+reach_of sign.BitXor = concat_level
+reach_of sign.ShiftLeft = concat_level
+reach_of sign.ShiftRight = concat_level
 reach_of sign.Plus = sum_level
 reach_of sign.Minus = sum_level
 reach_of sign.Times = product_level
 reach_of sign.Divide = product_level
 reach_of sign.Modulo = product_level
 reach_of sign.Typed = literal_level
+reach_of sign.Open = 15
 reach_of _ = or_level
 
 abbrev pub token_reach : Token → ℕ
@@ -133,9 +146,13 @@ abbrev pub reach : List Token → ℕ
 reach [] = 0
 reach (t ∷ ts) = token_reach t
 
-sign_not_ten : (s : Sign) → reach_of s ≢ sign_level
-sign_not_ten sign.And h = absurd (let k : ⊥ = omega (arith, h) in k)
-sign_not_ten s h = absurd (let k : ⊥ = omega (arith, h) in k)
+sign_not_eleven : (s : Sign) → reach_of s ≢ sign_level
+sign_not_eleven sign.And h = absurd (let k : ⊥ = omega (arith, h) in k)
+sign_not_eleven s h = absurd (let k : ⊥ = omega (arith, h) in k)
+
+sign_not_eight : (s : Sign) → reach_of s ≢ bit_not_level
+sign_not_eight sign.And h = absurd (let k : ⊥ = omega (arith, h) in k)
+sign_not_eight s h = absurd (let k : ⊥ = omega (arith, h) in k)
 
 sign_not_two : (s : Sign) → reach_of s ≢ not_level
 sign_not_two sign.And h = absurd (let k : ⊥ = omega (arith, h) in k)
@@ -146,10 +163,15 @@ not_two [] h = absurd (let k : ⊥ = omega (arith, h) in k)
 not_two (sign s ∷ ts) h = sign_not_two s h
 not_two (t ∷ ts) h = absurd (let k : ⊥ = omega (arith, h) in k)
 
-pub not_ten : (ts : List Token) → reach ts ≢ sign_level
-not_ten [] h = absurd (let k : ⊥ = omega (arith, h) in k)
-not_ten (sign s ∷ ts) h = sign_not_ten s h
-not_ten (t ∷ ts) h = absurd (let k : ⊥ = omega (arith, h) in k)
+pub not_eight : (ts : List Token) → reach ts ≢ bit_not_level
+not_eight [] h = absurd (let k : ⊥ = omega (arith, h) in k)
+not_eight (sign s ∷ ts) h = sign_not_eight s h
+not_eight (t ∷ ts) h = absurd (let k : ⊥ = omega (arith, h) in k)
+
+pub not_eleven : (ts : List Token) → reach ts ≢ sign_level
+not_eleven [] h = absurd (let k : ⊥ = omega (arith, h) in k)
+not_eleven (sign s ∷ ts) h = sign_not_eleven s h
+not_eleven (t ∷ ts) h = absurd (let k : ⊥ = omega (arith, h) in k)
 
 pub lower : (m n : ℕ) → m < n → nat_lt m n ≡ true
 lower m n h = grind (arith, nat_tests)

@@ -63,13 +63,27 @@ less_piece : (rest : List ℕ) → Stops rest
 unfolding first_piece
 less_piece [] s = refl
 less_piece (c ∷ cs) s = let equal : (c == 61) ≡ false = s.4 in
-    let greater : (c == 62) ≡ false = s.5 in rw (equal, greater) refl
+    let greater : (c == 62) ≡ false = s.5 in
+    let less : (c == 60) ≡ false = s.9 in rw (equal, greater, less) refl
 
 greater_piece : (rest : List ℕ) → Stops rest
     → first_piece (62 ∷ rest) ≡ Some (token (sign sign.Greater), rest)
 unfolding first_piece
 greater_piece [] s = refl
-greater_piece (c ∷ cs) s = let equal : (c == 61) ≡ false = s.4 in rw equal refl
+greater_piece (c ∷ cs) s = let equal : (c == 61) ≡ false = s.4 in
+    let greater : (c == 62) ≡ false = s.5 in rw (equal, greater) refl
+
+equal_piece : (rest : List ℕ) → Stops rest
+    → first_piece (61 ∷ rest) ≡ Some (token (sign sign.Equal), rest)
+unfolding first_piece
+equal_piece [] s = refl
+equal_piece (c ∷ cs) s = let equal : (c == 61) ≡ false = s.4 in rw equal refl
+
+bit_or_piece : (rest : List ℕ) → Stops rest
+    → first_piece (124 ∷ rest) ≡ Some (token (sign sign.BitOr), rest)
+unfolding first_piece
+bit_or_piece [] s = refl
+bit_or_piece (c ∷ cs) s = let bar : (c == 124) ≡ false = s.10 in rw bar refl
 
 divide_piece : (rest : List ℕ) → Stops rest
     → first_piece (47 ∷ rest) ≡ Some (token (sign sign.Divide), rest)
@@ -94,7 +108,6 @@ plain_piece sign.True rest s = known_piece (codes "true") rest (Some sign.True) 
 plain_piece sign.False rest s = known_piece (codes "false") rest (Some sign.False) refl refl s
 plain_piece sign.Cast rest s = known_piece (codes "cast") rest (Some sign.Cast) refl refl s
 plain_piece sign.As rest s = known_piece (codes "as") rest (Some sign.As) refl refl s
-plain_piece sign.Unknown rest s = known_piece (codes "unknown") rest (Some sign.Unknown) refl refl s
 plain_piece sign.Distinct rest s =
     known_piece (codes "distinct") rest (Some sign.Distinct) refl refl s
 plain_piece sign.In rest s = known_piece (codes "in") rest (Some sign.In) refl refl s
@@ -103,9 +116,10 @@ plain_piece sign.When rest s = known_piece (codes "when") rest (Some sign.When) 
 plain_piece sign.Then rest s = known_piece (codes "then") rest (Some sign.Then) refl refl s
 plain_piece sign.Else rest s = known_piece (codes "else") rest (Some sign.Else) refl refl s
 plain_piece sign.End rest s = known_piece (codes "end") rest (Some sign.End) refl refl s
+plain_piece sign.IsNull rest s = known_piece (codes "isnull") rest (Some sign.IsNull) refl refl s
+plain_piece sign.NotNull rest s = known_piece (codes "notnull") rest (Some sign.NotNull) refl refl s
 plain_piece sign.From rest s = known_piece (codes "from") rest (Some sign.From) refl refl s
-plain_piece sign.Equal [] s = refl
-plain_piece sign.Equal (c ∷ cs) s = refl
+plain_piece sign.Equal rest s = equal_piece rest s
 plain_piece sign.NotEqual rest s = refl
 plain_piece sign.Less rest s = less_piece rest s
 plain_piece sign.LessOrEqual rest s = refl
@@ -120,6 +134,15 @@ plain_piece sign.Divide rest s = divide_piece rest s
 plain_piece sign.Modulo [] s = refl
 plain_piece sign.Modulo (c ∷ cs) s = refl
 plain_piece sign.Concat rest s = refl
+plain_piece sign.BitAnd [] s = refl
+plain_piece sign.BitAnd (c ∷ cs) s = refl
+plain_piece sign.BitOr rest s = bit_or_piece rest s
+plain_piece sign.BitXor [] s = refl
+plain_piece sign.BitXor (c ∷ cs) s = refl
+plain_piece sign.BitNot [] s = refl
+plain_piece sign.BitNot (c ∷ cs) s = refl
+plain_piece sign.ShiftLeft rest s = refl
+plain_piece sign.ShiftRight rest s = refl
 plain_piece sign.Open rest s = open_piece rest
 plain_piece sign.Close [] s = refl
 plain_piece sign.Close (c ∷ cs) s = refl
@@ -147,17 +170,17 @@ token_piece e (sign s) rest h f = sign_piece e s rest f
 
 -- what is written next may follow
 blank_stops : (xs : List ℕ) → Stops (32 ∷ xs)
-blank_stops xs = (refl, refl, refl, refl, refl, refl, refl, refl, refl)
+blank_stops xs = (refl, refl, refl, refl, refl, refl, refl, refl, refl, refl, refl)
 
 bracket_stops : (b : Bool) (xs : List ℕ) → Stops (blank_unless b ++ (40 ∷ xs))
-bracket_stops true xs = (refl, refl, refl, refl, refl, refl, refl, refl, refl)
+bracket_stops true xs = (refl, refl, refl, refl, refl, refl, refl, refl, refl, refl, refl)
 bracket_stops false xs = blank_stops (40 ∷ xs)
 
 sign_stops : (e : Ending) (s : Sign) (xs : List ℕ) → is_tight e ≡ false
     → Stops (blank_unless (joins_sign e s) ++ (sign_text s ++ xs))
-sign_stops e sign.Close xs h = (refl, refl, refl, refl, refl, refl, refl, refl, refl)
-sign_stops e sign.Comma xs h = (refl, refl, refl, refl, refl, refl, refl, refl, refl)
-sign_stops e sign.Typed xs h = (refl, refl, refl, refl, refl, refl, refl, refl, refl)
+sign_stops e sign.Close xs h = (refl, refl, refl, refl, refl, refl, refl, refl, refl, refl, refl)
+sign_stops e sign.Comma xs h = (refl, refl, refl, refl, refl, refl, refl, refl, refl, refl, refl)
+sign_stops e sign.Typed xs h = (refl, refl, refl, refl, refl, refl, refl, refl, refl, refl, refl)
 sign_stops e sign.Open xs h = bracket_stops (joins_bracket e) xs
 sign_stops e s xs h = rw h (blank_stops (sign_text s ++ xs))
 

@@ -26,7 +26,7 @@ Stops [] = Unit {0}
 Stops (c ∷ cs) =
     (is_in Word c ≡ false) × ((c == 63) ≡ false) × ((c == 34) ≡ false) × ((c == 39) ≡ false)
     × ((c == 61) ≡ false) × ((c == 62) ≡ false) × ((c == 45) ≡ false) × ((c == 46) ≡ false)
-    × ((c == 42) ≡ false)
+    × ((c == 42) ≡ false) × ((c == 60) ≡ false) × ((c == 124) ≡ false)
 
 abbrev pub NoMinus : List ℕ → Type 0
 NoMinus [] = Unit {0}

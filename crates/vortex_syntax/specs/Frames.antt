@@ -8,7 +8,7 @@ use Rattle.vortex_syntax.specs.declared.frame.Frame.TheVariants as variant
 use Rattle.vortex_syntax.specs.declared.step.Call.TheVariants as call
 use Rattle.vortex_syntax.specs.Levels.{own, right, not_level, distinct_level, comparison_level}
 use Rattle.vortex_syntax.specs.Levels.{predicate_level, concat_level, sign_level, atom_level}
-use Rattle.vortex_syntax.specs.Levels.{literal_level}
+use Rattle.vortex_syntax.specs.Levels.{bit_not_level, literal_level}
 use Rattle.vortex_syntax.specs.Postfix.{Step, called}
 
 -- Between is before its `and`, Bounded after it; Arguments is a call of that name, after as many
@@ -19,6 +19,8 @@ pub data Frame : Type 0 where
   Cast : Frame
   Not : Frame
   Minus : Frame
+  Plus : Frame
+  BitNot : Frame
   Join : WrittenOperator → Frame
   Distinct : Bool → Frame
   Between : Bool → Frame
@@ -33,6 +35,8 @@ frame_in variant.Open = Open
 frame_in variant.Cast = Cast
 frame_in variant.Not = Not
 frame_in variant.Minus = Minus
+frame_in variant.Plus = Plus
+frame_in variant.BitNot = BitNot
 frame_in (variant.Join o) = Join o
 frame_in (variant.Distinct n) = Distinct n
 frame_in (variant.Between n) = Between n
@@ -48,6 +52,8 @@ hole Open = 0
 hole Cast = 0
 hole Not = not_level
 hole Minus = sign_level
+hole Plus = sign_level
+hole BitNot = bit_not_level
 hole (Join o) = right o
 hole (Distinct n) = comparison_level
 hole (Between n) = concat_level
@@ -77,6 +83,8 @@ guard Open = 0
 guard Cast = 0
 guard Not = not_level
 guard Minus = sign_level
+guard Plus = sign_level
+guard BitNot = bit_not_level
 guard (Join o) = right o
 guard (Distinct n) = comparison_level
 guard (Between n) = 0
@@ -92,6 +100,8 @@ whole Open = atom_level
 whole Cast = atom_level
 whole Not = not_level
 whole Minus = sign_level
+whole Plus = sign_level
+whole BitNot = bit_not_level
 whole (Join o) = own o
 whole (Distinct n) = distinct_level
 whole (Between n) = predicate_level
@@ -106,6 +116,8 @@ closing Open = called call.Not
 closing Cast = called call.Not
 closing Not = called call.Not
 closing Minus = called call.Minus
+closing Plus = called call.Plus
+closing BitNot = called call.BitNot
 closing (Join o) = called (call.Join o)
 closing (Distinct n) = called (call.Distinct n)
 closing (Between n) = called (call.Between n)

@@ -24,7 +24,6 @@ keyword_of w =
     else (if same_word w (codes "false") then Some sign.False
     else (if same_word w (codes "cast") then Some sign.Cast
     else (if same_word w (codes "as") then Some sign.As
-    else (if same_word w (codes "unknown") then Some sign.Unknown
     else (if same_word w (codes "distinct") then Some sign.Distinct
     else (if same_word w (codes "from") then Some sign.From
     else (if same_word w (codes "in") then Some sign.In
@@ -33,4 +32,6 @@ keyword_of w =
     else (if same_word w (codes "then") then Some sign.Then
     else (if same_word w (codes "else") then Some sign.Else
     else (if same_word w (codes "end") then Some sign.End
-    else None)))))))))))))))))))))
+    else (if same_word w (codes "isnull") then Some sign.IsNull
+    else (if same_word w (codes "notnull") then Some sign.NotNull
+    else None))))))))))))))))))))))

@@ -1,12 +1,15 @@
 -- The precedence levels of SQL, as in PostgreSQL: what binds tighter has a higher level.
-use Rattle.std.specs.Prelude.{◌≡◌, ℕ, ◌≤◌, Bool, true, false}
+use Rattle.std.specs.Prelude.{◌≡◌, ℕ, ◌≤◌, Bool, true, false, codes}
 use Rattle.vortex_syntax.specs.declared.step.WrittenOperator.{WrittenOperator}
 use Rattle.vortex_syntax.specs.declared.step.WrittenOperator.TheVariants as operator
 use Rattle.vortex_syntax.specs.declared.token.Sign.{Sign}
 use Rattle.vortex_syntax.specs.declared.token.Sign.TheVariants as sign
 use Rattle.vortex_syntax.specs.Tokens.{Token, name, nullable, function, quoted, number, text, sign}
+use Rattle.vortex_syntax.specs.Keywords.{same_word}
 use Rattle.vortex_syntax.specs.Syntax.{Syntax, operand, negative, minus, typed, grouped, negated}
 use Rattle.vortex_syntax.specs.Syntax.{joined, tested, distinct, between, matched, listed, cast}
+use Rattle.vortex_syntax.specs.Syntax.{plus, bit_not, null_tested, Tested, Null, True, False}
+use Rattle.vortex_syntax.specs.Syntax.{Unknown}
 use Rattle.vortex_syntax.specs.Syntax.{nullary, chosen, chosen_else, applied, Arguments}
 use Rattle.vortex_syntax.specs.Syntax.{no_arguments, argument, Branches, without_operand}
 use Rattle.vortex_syntax.specs.Syntax.{of_operand, branch}
@@ -34,30 +37,36 @@ comparison_level = 5
 abbrev pub predicate_level : ℕ
 predicate_level = 6
 
+-- `||`, bits and shifts, which PostgreSQL calls other operators
 abbrev pub concat_level : ℕ
 concat_level = 7
 
+-- a tilde before an operand: the last operand of signs of the level above, but no first operand of
+-- a sum
+abbrev pub bit_not_level : ℕ
+bit_not_level = 8
+
 abbrev pub sum_level : ℕ
-sum_level = 8
+sum_level = 9
 
 abbrev pub product_level : ℕ
-product_level = 9
+product_level = 10
 
--- a minus sign before what is no literal
+-- a minus sign before what is no literal, and a plus sign before an operand
 abbrev pub sign_level : ℕ
-sign_level = 10
+sign_level = 11
 
 -- columns, brackets, casts, calls and CASE
 abbrev pub atom_level : ℕ
-atom_level = 11
+atom_level = 12
 
 -- literals with a type
 abbrev pub typed_level : ℕ
-typed_level = 12
+typed_level = 13
 
 -- literals without a type; only these may be followed by one
 abbrev pub literal_level : ℕ
-literal_level = 13
+literal_level = 14
 
 -- the level of an operator's tree, and the least levels of its operands: operators group from left
 -- to right, but comparisons do not chain
@@ -65,6 +74,11 @@ abbrev pub own : WrittenOperator → ℕ
 own operator.Or = or_level
 own operator.And = and_level
 own operator.Concat = concat_level
+own operator.BitAnd = concat_level
+own operator.BitOr = concat_level
+own operator.BitXor = concat_level
+own operator.ShiftLeft = concat_level
+own operator.ShiftRight = concat_level
 own operator.Add = sum_level
 own operator.Sub = sum_level
 own operator.Mul = product_level
@@ -76,6 +90,11 @@ abbrev pub left : WrittenOperator → ℕ
 left operator.Or = or_level
 left operator.And = and_level
 left operator.Concat = concat_level
+left operator.BitAnd = concat_level
+left operator.BitOr = concat_level
+left operator.BitXor = concat_level
+left operator.ShiftLeft = concat_level
+left operator.ShiftRight = concat_level
 left operator.Add = sum_level
 left operator.Sub = sum_level
 left operator.Mul = product_level
@@ -86,7 +105,12 @@ left _ = predicate_level
 abbrev pub right : WrittenOperator → ℕ
 right operator.Or = and_level
 right operator.And = not_level
-right operator.Concat = sum_level
+right operator.Concat = bit_not_level
+right operator.BitAnd = bit_not_level
+right operator.BitOr = bit_not_level
+right operator.BitXor = bit_not_level
+right operator.ShiftLeft = bit_not_level
+right operator.ShiftRight = bit_not_level
 right operator.Add = product_level
 right operator.Sub = product_level
 right operator.Mul = sign_level
@@ -119,11 +143,14 @@ abbrev pub level : Syntax → ℕ
 level (operand t) = operand_level t
 level (negative ds) = literal_level
 level (minus a) = sign_level
+level (plus a) = sign_level
+level (bit_not a) = bit_not_level
 level (typed a w n) = typed_level
 level (grouped a) = atom_level
 level (negated a) = not_level
 level (joined o a b) = own o
 level (tested k n a) = is_level
+level (null_tested n a) = is_level
 level (distinct n a b) = distinct_level
 level (between n a low high) = predicate_level
 level (matched k a p e) = predicate_level
@@ -131,8 +158,15 @@ level (listed n a args b) = predicate_level
 level (cast a w n) = atom_level
 level (chosen bs c v) = atom_level
 level (chosen_else bs c v e) = atom_level
-level (nullary w) = atom_level
-level (applied w args a) = atom_level
+level (nullary p w) = atom_level
+level (applied p w args a) = atom_level
+
+-- the word of a test is the right one
+abbrev pub IsTested : Tested → Type 0
+IsTested Null = Unit {0}
+IsTested True = Unit {0}
+IsTested False = Unit {0}
+IsTested (Unknown w) = same_word w (codes "unknown") ≡ true
 
 -- each operand binds at least as tightly as required there
 abbrev mutual
@@ -140,11 +174,14 @@ abbrev mutual
   Fits (operand t) = is_operand t ≡ true
   Fits (negative ds) = Unit {0}
   Fits (minus a) = (sign_level ≤ level a) × (level a ≤ atom_level) × Fits a
+  Fits (plus a) = (sign_level ≤ level a) × Fits a
+  Fits (bit_not a) = (bit_not_level ≤ level a) × Fits a
   Fits (typed a w n) = (literal_level ≤ level a) × Fits a
   Fits (grouped a) = Fits a
   Fits (negated a) = (not_level ≤ level a) × Fits a
   Fits (joined o a b) = (left o ≤ level a) × (right o ≤ level b) × Fits a × Fits b
-  Fits (tested k n a) = (is_level ≤ level a) × Fits a
+  Fits (tested k n a) = (is_level ≤ level a) × Fits a × IsTested k
+  Fits (null_tested n a) = (is_level ≤ level a) × Fits a
   Fits (distinct n a b) = (is_level ≤ level a) × (comparison_level ≤ level b) × Fits a × Fits b
   Fits (between n a low high) =
       (concat_level ≤ level a) × (concat_level ≤ level low) × (concat_level ≤ level high) × Fits a
@@ -154,8 +191,8 @@ abbrev mutual
   Fits (cast a w n) = Fits a
   Fits (chosen bs c v) = BranchesFit bs × Fits c × Fits v
   Fits (chosen_else bs c v e) = BranchesFit bs × Fits c × Fits v × Fits e
-  Fits (nullary w) = Unit {0}
-  Fits (applied w args a) = AllFit args × Fits a
+  Fits (nullary p w) = Unit {0}
+  Fits (applied p w args a) = AllFit args × Fits a
 
   pub AllFit : Arguments → Type 0
   AllFit no_arguments = Unit {0}

@@ -122,11 +122,14 @@ quoted_by make (Some x) = Some (token (make x.0), x.1)
 abbrev pub sign_of_two : ℕ → ℕ → Option Sign
 sign_of_two b c =
     if b == 60 then (if c == 61 then Some sign.LessOrEqual
-    else (if c == 62 then Some sign.NotEqual else None))
-    else (if b == 62 then (if c == 61 then Some sign.GreaterOrEqual else None)
+    else (if c == 62 then Some sign.NotEqual
+    else (if c == 60 then Some sign.ShiftLeft else None)))
+    else (if b == 62 then (if c == 61 then Some sign.GreaterOrEqual
+    else (if c == 62 then Some sign.ShiftRight else None))
     else (if b == 33 then (if c == 61 then Some sign.NotEqual else None)
+    else (if b == 61 then (if c == 61 then Some sign.Equal else None)
     else (if b == 58 then (if c == 58 then Some sign.Typed else None)
-    else (if b == 124 then (if c == 124 then Some sign.Concat else None) else None))))
+    else (if b == 124 then (if c == 124 then Some sign.Concat else None) else None)))))
 
 abbrev pub sign_of_one : ℕ → Option Sign
 sign_of_one b =
@@ -136,9 +139,13 @@ sign_of_one b =
     else (if b == 43 then Some sign.Plus
     else (if b == 42 then Some sign.Times
     else (if b == 37 then Some sign.Modulo
+    else (if b == 38 then Some sign.BitAnd
+    else (if b == 124 then Some sign.BitOr
+    else (if b == 35 then Some sign.BitXor
+    else (if b == 126 then Some sign.BitNot
     else (if b == 40 then Some sign.Open
     else (if b == 41 then Some sign.Close
-    else (if b == 44 then Some sign.Comma else None))))))))
+    else (if b == 44 then Some sign.Comma else None))))))))))))
 
 abbrev pub sign_before : List ℕ → Option Sign → Cut
 sign_before rest None = None

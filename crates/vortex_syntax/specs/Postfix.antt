@@ -1,13 +1,16 @@
 -- A tree's steps in postfix order: its operands' steps first, and no brackets.
 use Rattle.std.specs.Prelude.{ℕ, suc, List, [], ◌∷◌, ◌++◌, Bool, true, false, Option, Some, None}
+use Rattle.std.specs.Prelude.{reverse}
 use Rattle.vortex_syntax.specs.declared.step.LikeKind.{LikeKind}
+use Rattle.vortex_syntax.specs.declared.step.Test.{Test}
+use Rattle.vortex_syntax.specs.declared.step.Test.TheVariants as test
 use Rattle.vortex_syntax.specs.declared.step.Call.{Call}
 use Rattle.vortex_syntax.specs.declared.step.Call.TheVariants as call
 use Rattle.vortex_syntax.specs.declared.step.Step as read
 use Rattle.vortex_syntax.specs.declared.step.Step.TheVariants as variant
-use Rattle.vortex_syntax.specs.Tokens.{Token, token_in}
+use Rattle.vortex_syntax.specs.Tokens.{Token, name, token_in}
 use Rattle.vortex_syntax.specs.Syntax as tree
-use Rattle.vortex_syntax.specs.Syntax.{Syntax, Arguments, Branches}
+use Rattle.vortex_syntax.specs.Syntax.{Syntax, Tested, Arguments, Branches}
 
 pub data Step : Type 0 where
   operand : Token → Step
@@ -35,6 +38,12 @@ abbrev pub like_step : LikeKind → Option (List ℕ) → Step
 like_step k None = called (call.Like k)
 like_step k (Some e) = escaped k e
 
+abbrev pub test_of : Tested → Test
+test_of tree.Null = test.Null
+test_of tree.True = test.True
+test_of tree.False = test.False
+test_of (tree.Unknown w) = test.Unknown
+
 abbrev pub argument_count : Arguments → ℕ
 argument_count tree.no_arguments = 0
 argument_count (tree.argument args a) = suc (argument_count args)
@@ -54,11 +63,14 @@ abbrev mutual
   postfix (tree.operand t) = operand t ∷ []
   postfix (tree.negative ds) = negative ds ∷ []
   postfix (tree.minus a) = postfix a ++ (called call.Minus ∷ [])
+  postfix (tree.plus a) = postfix a ++ (called call.Plus ∷ [])
+  postfix (tree.bit_not a) = postfix a ++ (called call.BitNot ∷ [])
   postfix (tree.typed a w n) = postfix a ++ (typed w n ∷ [])
   postfix (tree.grouped a) = postfix a
   postfix (tree.negated a) = postfix a ++ (called call.Not ∷ [])
   postfix (tree.joined o a b) = postfix a ++ (postfix b ++ (called (call.Join o) ∷ []))
-  postfix (tree.tested k n a) = postfix a ++ (called (call.Is k n) ∷ [])
+  postfix (tree.tested k n a) = postfix a ++ (called (call.Is (test_of k) n) ∷ [])
+  postfix (tree.null_tested n a) = postfix a ++ (called (call.Is test.Null n) ∷ [])
   postfix (tree.distinct n a b) = postfix a ++ (postfix b ++ (called (call.Distinct n) ∷ []))
   postfix (tree.between n a low high) =
       postfix a ++ (postfix low ++ (postfix high ++ (called (call.Between n) ∷ [])))
@@ -72,8 +84,8 @@ abbrev mutual
   postfix (tree.chosen_else bs c v e) =
       branches_postfix bs ++ (postfix c ++ (postfix v ++ (postfix e
       ++ (chosen (has_operand bs) (suc (branch_count bs)) true ∷ []))))
-  postfix (tree.nullary w) = applied w 0 ∷ []
-  postfix (tree.applied w args a) =
+  postfix (tree.nullary p w) = applied w 0 ∷ []
+  postfix (tree.applied p w args a) =
       all_postfix args ++ (postfix a ++ (applied w (suc (argument_count args)) ∷ []))
 
   pub all_postfix : Arguments → List Step
@@ -84,3 +96,11 @@ abbrev mutual
   branches_postfix tree.without_operand = []
   branches_postfix (tree.of_operand a) = postfix a
   branches_postfix (tree.branch bs c v) = branches_postfix bs ++ (postfix c ++ postfix v)
+
+-- the name that is the last step, and the steps before it
+abbrev pub name_back : List Step → Option (List Step × List ℕ)
+name_back (operand (name w) ∷ xs) = Some (reverse xs, w)
+name_back xs = None
+
+unfoldable pub last_name : List Step → Option (List Step × List ℕ)
+last_name xs = name_back (reverse xs)

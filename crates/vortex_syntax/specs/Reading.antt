@@ -1,7 +1,7 @@
 -- Reading from left to right, one token at a time, with the frames that wait for an operand.
 use Rattle.std.specs.Prelude.{map, reverse, ℕ, zero, suc, ◌&&◌, nat_lt, nat_le, List, [], ◌∷◌, ◌++◌}
 use Rattle.std.specs.Prelude.{Bool, true, false, Option, Some, None, Result, IfOk, ◌≡◌}
-use Rattle.std.specs.Prelude.{if◌then◌else◌}
+use Rattle.std.specs.Prelude.{codes, if◌then◌else◌}
 use Rattle.std.specs.declared.alloc.AllocError.{AllocError}
 use Rattle.std.specs.Option.{option_and_then, option_map}
 use Rattle.vortex_syntax.specs.declared.step.WrittenOperator.{WrittenOperator}
@@ -16,18 +16,19 @@ use Rattle.vortex_syntax.specs.declared.frame.CasePart.{CasePart}
 use Rattle.vortex_syntax.specs.declared.frame.CasePart.TheVariants as part
 use Rattle.vortex_syntax.specs.declared.frame.Mode.{Mode}
 use Rattle.vortex_syntax.specs.declared.frame.Mode.TheVariants as mode
+use Rattle.vortex_syntax.specs.Keywords.{same_word}
 use Rattle.vortex_syntax.specs.Tokens.{Token, name, nullable, function, number, text, sign}
 use Rattle.vortex_syntax.specs.Levels.{own, left, or_level, and_level, not_level}
 use Rattle.vortex_syntax.specs.Levels.{typed_level, distinct_level, is_level}
 use Rattle.vortex_syntax.specs.Levels.{predicate_level, concat_level, atom_level, literal_level}
-use Rattle.vortex_syntax.specs.Levels.{is_operand, operand_level}
+use Rattle.vortex_syntax.specs.Levels.{bit_not_level, is_operand, operand_level}
 use Rattle.vortex_syntax.specs.Spelling.{operator_of}
 use Rattle.vortex_syntax.specs.declared.reading.Reading.{Reading}
 use Rattle.vortex_syntax.specs.Frames as frame
 use Rattle.vortex_syntax.specs.Frames.{Frame, frame_in, top_hole, top_ceiling, guard, whole}
 use Rattle.vortex_syntax.specs.Frames.{closing}
 use Rattle.vortex_syntax.specs.Postfix.{Step, step_in, operand, negative, typed, cast, escaped}
-use Rattle.vortex_syntax.specs.Postfix.{applied, listed, chosen, called}
+use Rattle.vortex_syntax.specs.Postfix.{applied, listed, chosen, called, last_name}
 
 -- the last frame is first
 pub record State : Type 0 where
@@ -96,6 +97,13 @@ abbrev pub is_behind : ℕ → List Frame → List Step → Option State
 is_behind l fs out =
     if nat_le is_level l && nat_le (top_hole fs) is_level then Some (state
     (mode.Is false) fs out) else None
+
+-- `isnull`, or `notnull` where the flag is true
+abbrev pub null_test_behind : Bool → ℕ → List Frame → List Step → Option State
+null_test_behind n l fs out =
+    if nat_le is_level l && nat_le (top_hole fs) is_level
+    then Some (state (mode.Have is_level) fs (out ++ (called (call.Is test.Null n) ∷ [])))
+    else None
 
 -- a `not` after an operand, which BETWEEN, IN or LIKE may follow
 abbrev pub not_behind : ℕ → List Frame → List Step → Option State
@@ -181,6 +189,10 @@ word_after level fs out sign.And =
     let a = settled and_level level fs out in and_behind a.level a.frames a.steps
 word_after level fs out sign.Is =
     let a = settled is_level level fs out in is_behind a.level a.frames a.steps
+word_after level fs out sign.IsNull =
+    let a = settled is_level level fs out in null_test_behind false a.level a.frames a.steps
+word_after level fs out sign.NotNull =
+    let a = settled is_level level fs out in null_test_behind true a.level a.frames a.steps
 word_after level fs out sign.Not =
     let a = settled predicate_level level fs out in not_behind a.level a.frames a.steps
 word_after level fs out sign.Close =
@@ -212,6 +224,18 @@ abbrev pub behind : ℕ → List Frame → List Step → Token → Option State
 behind level fs out (sign s) = operator_or_word level fs out s (operator_of s)
 behind level fs out t = None
 
+-- a bracket after a bare name makes a call of it
+abbrev pub call_of : List Frame → Option (List Step × List ℕ) → Option State
+call_of fs None = None
+call_of fs (Some x) = Some (state mode.Want (frame.Arguments x.1 0 ∷ fs) x.0)
+
+abbrev pub open_call : List Frame → List Step → Option State
+open_call fs out = call_of fs (last_name out)
+
+abbrev pub after_name : List Frame → List Step → Token → Option State
+after_name fs out (sign sign.Open) = open_call fs out
+after_name fs out t = behind atom_level fs out t
+
 abbrev pub negating : ℕ → List Frame → List Step → Token → Option State
 negating level fs out (sign s) = predicate true level fs out s
 negating level fs out t = None
@@ -232,6 +256,10 @@ when_expected (f ∷ fs) out = None
 -- an operand's first token
 abbrev pub sign_expected : List Frame → List Step → Sign → Option State
 sign_expected fs out sign.Minus = Some (state mode.Signed fs out)
+sign_expected fs out sign.Plus = Some (state mode.Want (frame.Plus ∷ fs) out)
+sign_expected fs out sign.BitNot =
+    if nat_le (top_hole fs) bit_not_level
+    then Some (state mode.Want (frame.BitNot ∷ fs) out) else None
 sign_expected fs out sign.Not =
     if nat_le (top_hole fs) not_level then Some (state mode.Want (frame.Not ∷ fs) out) else None
 sign_expected fs out sign.Open = Some (state mode.Want (frame.Open ∷ fs) out)
@@ -246,10 +274,14 @@ other_wanted fs out (sign s) = sign_expected fs out s
 other_wanted fs out (function w) = Some (state mode.Want (frame.Arguments w 0 ∷ fs) out)
 other_wanted fs out t = None
 
+abbrev pub mode_behind : Token → Mode
+mode_behind (name w) = mode.Named
+mode_behind t = mode.Have (operand_level t)
+
 abbrev pub operand_read : List Frame → List Step → Token → Option State
 operand_read fs out t =
     if nat_le (operand_level t) (top_ceiling fs)
-    then Some (state (mode.Have (operand_level t)) fs (out ++ (operand t ∷ []))) else None
+    then Some (state (mode_behind t) fs (out ++ (operand t ∷ []))) else None
 
 abbrev pub before_operand : List Frame → List Step → Token → Option State
 before_operand fs out t = if is_operand t then operand_read fs out t else other_wanted fs out t
@@ -280,6 +312,11 @@ cast_expected fs out t = None
 abbrev pub tested : Test → Bool → List Frame → List Step → Option State
 tested k n fs out = Some (state (mode.Have is_level) fs (out ++ (called (call.Is k n) ∷ [])))
 
+-- a word that is no keyword tests for unknown alone
+abbrev pub word_tested : Bool → List ℕ → List Frame → List Step → Option State
+word_tested n w fs out =
+    if same_word w (codes "unknown") then tested test.Unknown n fs out else None
+
 abbrev pub is_not : Bool → List Frame → List Step → Option State
 is_not n fs out = if n then None else Some (state (mode.Is true) fs out)
 
@@ -291,7 +328,7 @@ abbrev pub after_is : Bool → List Frame → List Step → Token → Option Sta
 after_is n fs out (sign sign.Null) = tested test.Null n fs out
 after_is n fs out (sign sign.True) = tested test.True n fs out
 after_is n fs out (sign sign.False) = tested test.False n fs out
-after_is n fs out (sign sign.Unknown) = tested test.Unknown n fs out
+after_is n fs out (name w) = word_tested n w fs out
 after_is n fs out (sign sign.Not) = is_not n fs out
 after_is n fs out (sign sign.Distinct) = distinct n fs out
 after_is n fs out t = None
@@ -321,6 +358,7 @@ unfoldable pub next : Mode → List Frame → List Step → Token → Option Sta
 next mode.Want fs out t = before_operand fs out t
 next mode.Signed fs out t = signed fs out t
 next (mode.Have level) fs out t = behind level fs out t
+next mode.Named fs out t = after_name fs out t
 next mode.Typing fs out t = type_expected fs out t
 next (mode.Is n) fs out t = after_is n fs out t
 next (mode.Distinct n) fs out t = after_distinct n fs out t
@@ -335,6 +373,8 @@ next (mode.Escaping k) fs out t = after_escape k fs out t
 unfoldable pub finish : Mode → List Frame → List Step → Option (List Step)
 finish (mode.Have level) fs out =
     let a = settled or_level level fs out in end_behind a.frames a.steps
+finish mode.Named fs out =
+    let a = settled or_level atom_level fs out in end_behind a.frames a.steps
 finish m fs out = None
 
 -- the steps that the tokens lead to

@@ -1,15 +1,16 @@
 -- The tokens that spell a tree.
-use Rattle.std.specs.Prelude.{ℕ, List, [], ◌∷◌, ◌++◌, Bool, Option, Some, None, if◌then◌else◌}
+use Rattle.std.specs.Prelude.{ℕ, List, [], ◌∷◌, ◌++◌, Bool, true, false, Option, Some, None}
+use Rattle.std.specs.Prelude.{if◌then◌else◌}
 use Rattle.vortex_syntax.specs.declared.step.WrittenOperator.{WrittenOperator}
 use Rattle.vortex_syntax.specs.declared.step.WrittenOperator.TheVariants as operator
-use Rattle.vortex_syntax.specs.declared.step.Test.{Test}
-use Rattle.vortex_syntax.specs.declared.step.Test.TheVariants as test
 use Rattle.vortex_syntax.specs.declared.step.LikeKind.{LikeKind}
 use Rattle.vortex_syntax.specs.declared.token.Sign.{Sign}
 use Rattle.vortex_syntax.specs.declared.token.Sign.TheVariants as sign
 use Rattle.vortex_syntax.specs.Tokens.{Token, name, nullable, function, number, text, sign}
 use Rattle.vortex_syntax.specs.Syntax.{Syntax, operand, negative, minus, typed, grouped, negated}
 use Rattle.vortex_syntax.specs.Syntax.{joined, tested, distinct, between, matched, listed, cast}
+use Rattle.vortex_syntax.specs.Syntax.{plus, bit_not, null_tested, Tested, Null, True, False}
+use Rattle.vortex_syntax.specs.Syntax.{Unknown}
 use Rattle.vortex_syntax.specs.Syntax.{nullary, chosen, chosen_else, applied, Arguments}
 use Rattle.vortex_syntax.specs.Syntax.{no_arguments, argument, Branches, without_operand}
 use Rattle.vortex_syntax.specs.Syntax.{of_operand, branch}
@@ -29,6 +30,11 @@ operator_sign operator.Mul = sign.Times
 operator_sign operator.Div = sign.Divide
 operator_sign operator.Mod = sign.Modulo
 operator_sign operator.Concat = sign.Concat
+operator_sign operator.BitAnd = sign.BitAnd
+operator_sign operator.BitOr = sign.BitOr
+operator_sign operator.BitXor = sign.BitXor
+operator_sign operator.ShiftLeft = sign.ShiftLeft
+operator_sign operator.ShiftRight = sign.ShiftRight
 
 -- the operators except And, by their signs
 abbrev pub operator_of : Sign → Option WrittenOperator
@@ -45,6 +51,11 @@ operator_of sign.Times = Some operator.Mul
 operator_of sign.Divide = Some operator.Div
 operator_of sign.Modulo = Some operator.Mod
 operator_of sign.Concat = Some operator.Concat
+operator_of sign.BitAnd = Some operator.BitAnd
+operator_of sign.BitOr = Some operator.BitOr
+operator_of sign.BitXor = Some operator.BitXor
+operator_of sign.ShiftLeft = Some operator.ShiftLeft
+operator_of sign.ShiftRight = Some operator.ShiftRight
 operator_of _ = None
 
 abbrev pub type_token : List ℕ → Bool → Token
@@ -58,14 +69,17 @@ with_not n s = if n then sign sign.Not ∷ sign s ∷ [] else sign s ∷ []
 abbrev pub is_tokens : Bool → List Token
 is_tokens n = if n then sign sign.Is ∷ sign sign.Not ∷ [] else sign sign.Is ∷ []
 
-abbrev pub test_sign : Test → Sign
-test_sign test.Null = sign.Null
-test_sign test.True = sign.True
-test_sign test.False = sign.False
-test_sign test.Unknown = sign.Unknown
+abbrev pub test_token : Tested → Token
+test_token Null = sign sign.Null
+test_token True = sign sign.True
+test_token False = sign sign.False
+test_token (Unknown w) = name w
 
-abbrev pub test_tokens : Test → Bool → List Token
-test_tokens k n = is_tokens n ++ (sign (test_sign k) ∷ [])
+abbrev pub test_tokens : Tested → Bool → List Token
+test_tokens k n = is_tokens n ++ (test_token k ∷ [])
+
+abbrev pub null_test_sign : Bool → Sign
+null_test_sign n = if n then sign.NotNull else sign.IsNull
 
 abbrev pub distinct_tokens : Bool → List Token
 distinct_tokens n = is_tokens n ++ (sign sign.Distinct ∷ sign sign.From ∷ [])
@@ -77,6 +91,11 @@ in_tokens n = with_not n sign.In ++ (sign sign.Open ∷ [])
 abbrev pub like_sign : LikeKind → List Token
 like_sign k = with_not k.negated (if k.case_insensitive then sign.Ilike else sign.Like)
 
+-- a function's name and its bracket, apart where that is true
+abbrev pub function_tokens : Bool → List ℕ → List Token
+function_tokens false w = function w ∷ []
+function_tokens true w = name w ∷ sign sign.Open ∷ []
+
 abbrev pub escape_tokens : Option (List ℕ) → List Token
 escape_tokens None = []
 escape_tokens (Some e) = sign sign.Escape ∷ text e ∷ []
@@ -86,11 +105,14 @@ abbrev mutual
   spelling (operand t) = t ∷ []
   spelling (negative ds) = sign sign.Minus ∷ number ds ∷ []
   spelling (minus a) = sign sign.Minus ∷ spelling a
+  spelling (plus a) = sign sign.Plus ∷ spelling a
+  spelling (bit_not a) = sign sign.BitNot ∷ spelling a
   spelling (typed a w n) = spelling a ++ (sign sign.Typed ∷ type_token w n ∷ [])
   spelling (grouped a) = sign sign.Open ∷ (spelling a ++ (sign sign.Close ∷ []))
   spelling (negated a) = sign sign.Not ∷ spelling a
   spelling (joined o a b) = spelling a ++ (sign (operator_sign o) ∷ spelling b)
   spelling (tested k n a) = spelling a ++ test_tokens k n
+  spelling (null_tested n a) = spelling a ++ (sign (null_test_sign n) ∷ [])
   spelling (distinct n a b) = spelling a ++ (distinct_tokens n ++ spelling b)
   spelling (between n a low high) =
       spelling a ++ (with_not n sign.Between ++ (spelling low ++ (sign sign.And ∷ spelling high)))
@@ -107,9 +129,9 @@ abbrev mutual
       branches_spelled bs
       ++ (sign sign.When ∷ (spelling c ++ (sign sign.Then ∷ (spelling v
       ++ (sign sign.Else ∷ (spelling e ++ (sign sign.End ∷ [])))))))
-  spelling (nullary w) = function w ∷ sign sign.Close ∷ []
-  spelling (applied w args a) =
-      function w ∷ (all_spelled args ++ (spelling a ++ (sign sign.Close ∷ [])))
+  spelling (nullary p w) = function_tokens p w ++ (sign sign.Close ∷ [])
+  spelling (applied p w args a) =
+      function_tokens p w ++ (all_spelled args ++ (spelling a ++ (sign sign.Close ∷ [])))
 
   -- a comma follows each
   pub all_spelled : Arguments → List Token

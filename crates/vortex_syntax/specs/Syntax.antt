@@ -1,16 +1,25 @@
 -- Syntax trees, with the brackets as written.
 use Rattle.std.specs.Prelude.{ℕ, List, Bool, Option}
 use Rattle.vortex_syntax.specs.declared.step.WrittenOperator.{WrittenOperator}
-use Rattle.vortex_syntax.specs.declared.step.Test.{Test}
 use Rattle.vortex_syntax.specs.declared.step.LikeKind.{LikeKind}
 use Rattle.vortex_syntax.specs.Tokens.{Token}
+
+-- what IS tests for: Unknown by a word that is `unknown`, ignoring case
+pub data Tested : Type 0 where
+  Null : Tested
+  True : Tested
+  False : Tested
+  Unknown : List ℕ → Tested
 
 -- operand: a column or a literal, by its token
 -- negative: the literal of that number with a minus sign before it
 -- minus: a tree that is no literal with a minus sign before it
+-- plus: a tree with a plus sign before it
+-- bit_not: a tree with a tilde before it
 -- typed: a literal of the type of that name, nullable if the flag is true
 -- grouped: a tree in brackets
 -- tested: IS NOT with that test, or IS where the flag is false
+-- null_tested: NOTNULL, or ISNULL where the flag is false
 -- distinct: IS NOT DISTINCT FROM, or IS DISTINCT FROM where the flag is false
 -- between: NOT BETWEEN, or BETWEEN where the flag is false, of an operand and its two bounds
 -- matched: LIKE of an operand and a pattern, and the escape as written, if there is one
@@ -18,18 +27,22 @@ use Rattle.vortex_syntax.specs.Tokens.{Token}
 -- cast: a tree, cast to the type of that name, nullable if the flag is true
 -- chosen: CASE of some branches and a last one, a condition and a value
 -- chosen_else: the same with a value after ELSE
--- nullary: the function of that name, without arguments
--- applied: the function of that name, of some arguments and a last one
+-- nullary: the function of that name, without arguments; its bracket stands apart where the flag is
+-- true
+-- applied: the function of that name, of some arguments and a last one; its bracket is as above
 mutual
   pub data Syntax : Type 0 where
     operand : Token → Syntax
     negative : List ℕ → Syntax
     minus : Syntax → Syntax
+    plus : Syntax → Syntax
+    bit_not : Syntax → Syntax
     typed : Syntax → List ℕ → Bool → Syntax
     grouped : Syntax → Syntax
     negated : Syntax → Syntax
     joined : WrittenOperator → Syntax → Syntax → Syntax
-    tested : Test → Bool → Syntax → Syntax
+    tested : Tested → Bool → Syntax → Syntax
+    null_tested : Bool → Syntax → Syntax
     distinct : Bool → Syntax → Syntax → Syntax
     between : Bool → Syntax → Syntax → Syntax → Syntax
     matched : LikeKind → Syntax → Syntax → Option (List ℕ) → Syntax
@@ -37,8 +50,8 @@ mutual
     cast : Syntax → List ℕ → Bool → Syntax
     chosen : Branches → Syntax → Syntax → Syntax
     chosen_else : Branches → Syntax → Syntax → Syntax → Syntax
-    nullary : List ℕ → Syntax
-    applied : List ℕ → Arguments → Syntax → Syntax
+    nullary : Bool → List ℕ → Syntax
+    applied : Bool → List ℕ → Arguments → Syntax → Syntax
 
   -- the arguments or items before the last one
   pub data Arguments : Type 0 where

@@ -10,7 +10,7 @@ ghost use Rattle.vortex_syntax.specs.Reading.{frames_in, steps_in, seen, Gives, 
 use crate::frame::{Frame, Mode};
 use crate::levels::{AND, ATOM, CONCAT, IS, LITERAL, OR, PREDICATE, left, own};
 use crate::reading::Reading;
-use crate::step::{LikeKind, Step, WrittenOperator};
+use crate::step::{Call, LikeKind, Step, Test, WrittenOperator};
 use crate::token::{Sign, Token};
 use std::alloc::AllocError;
 
@@ -32,6 +32,11 @@ fn operator_of(sign: Sign) -> Option<WrittenOperator>
         Sign::Divide => Some(WrittenOperator::Div),
         Sign::Modulo => Some(WrittenOperator::Mod),
         Sign::Concat => Some(WrittenOperator::Concat),
+        Sign::BitAnd => Some(WrittenOperator::BitAnd),
+        Sign::BitOr => Some(WrittenOperator::BitOr),
+        Sign::BitXor => Some(WrittenOperator::BitXor),
+        Sign::ShiftLeft => Some(WrittenOperator::ShiftLeft),
+        Sign::ShiftRight => Some(WrittenOperator::ShiftRight),
         _ => None,
     }
 }
@@ -70,6 +75,18 @@ impl<'a> Reading<'a> {
         } else {
             Some(Mode::Is(false))
         }
+    }
+
+    /// `isnull`, or `notnull` if the flag is true.
+    fn null_test_of(&mut self, negated: bool, level: u8) -> Result<Option<Mode>, AllocError>
+        ensures { Gives result self.new
+            (specs.null_test_behind negated level (frames_in self.old) (steps_in self.old)) }
+    {
+        if level < IS || IS < self.top_hole() {
+            return Ok(None);
+        }
+        self.emit(Step::Call(Call::Is(Test::Null, negated)))?;
+        Ok(Some(Mode::Have(IS)))
     }
 
     /// Whether BETWEEN, IN or LIKE may follow an operand of that level.
@@ -223,6 +240,14 @@ impl<'a> Reading<'a> {
                 let level = self.settle(IS, level)?;
                 Ok(self.is_of(level))
             }
+            Sign::IsNull => {
+                let level = self.settle(IS, level)?;
+                self.null_test_of(false, level)
+            }
+            Sign::NotNull => {
+                let level = self.settle(IS, level)?;
+                self.null_test_of(true, level)
+            }
             Sign::Not => {
                 let level = self.settle(PREDICATE, level)?;
                 Ok(self.not_of(level))
@@ -277,6 +302,32 @@ impl<'a> Reading<'a> {
         match token {
             Token::Sign(sign) => self.sign_after(level, sign),
             _ => Ok(None),
+        }
+    }
+
+    /// A bracket after a bare name, with a gap between them.
+    fn open_call(&mut self) -> Result<Option<Mode>, AllocError>
+        ensures { Gives result self.new
+            (specs.open_call (frames_in self.old) (steps_in self.old)) }
+    {
+        match self.tree.pop_name() {
+            Some((name, place)) => {
+                self.at = place;
+                self.wait(Frame::Arguments(name, 0))?;
+                Ok(Some(Mode::Want))
+            }
+            None => Ok(None),
+        }
+    }
+
+    /// A token after a bare name.
+    pub fn after_name(&mut self, token: Token<'a>) -> Result<Option<Mode>, AllocError>
+        ensures { Gives result self.new
+            (specs.after_name (frames_in self.old) (steps_in self.old) (token_in token.entry)) }
+    {
+        match token {
+            Token::Sign(Sign::Open) => self.open_call(),
+            _ => self.behind(ATOM, token),
         }
     }
 

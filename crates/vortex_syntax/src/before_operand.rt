@@ -6,12 +6,23 @@ ghost use Rattle.vortex_syntax.specs.Reading.{frames_in, steps_in, seen, Gives};
 
 use crate::frame::{CasePart, Frame, Mode};
 use crate::levels::{
-    ATOM, DISTINCT, IS, LITERAL, NOT, PREDICATE, TYPED, is_operand, operand_level,
+    ATOM, BIT_NOT, DISTINCT, IS, LITERAL, NOT, PREDICATE, TYPED, is_operand, operand_level,
 };
+use crate::pieces::is_same_word;
 use crate::reading::Reading;
 use crate::step::{Call, LikeKind, Step, Test};
 use crate::token::{Sign, Token};
 use std::alloc::AllocError;
+
+/// What follows a column or a literal.
+fn mode_behind(token: Token<'_>) -> Mode
+    ensures { result ≡ specs.mode_behind (token_in token.entry) }
+{
+    match token {
+        Token::Name(_) => Mode::Named,
+        _ => Mode::Have(operand_level(token)),
+    }
+}
 
 impl<'a> Reading<'a> {
     /// The bracket of a call without arguments.
@@ -36,6 +47,17 @@ impl<'a> Reading<'a> {
     {
         match sign {
             Sign::Minus => Ok(Some(Mode::Signed)),
+            Sign::Plus => {
+                self.wait(Frame::Plus)?;
+                Ok(Some(Mode::Want))
+            }
+            Sign::BitNot => {
+                if BIT_NOT < self.top_hole() {
+                    return Ok(None);
+                }
+                self.wait(Frame::BitNot)?;
+                Ok(Some(Mode::Want))
+            }
             Sign::Not => {
                 if NOT < self.top_hole() {
                     return Ok(None);
@@ -67,7 +89,7 @@ impl<'a> Reading<'a> {
             return Ok(None);
         }
         self.emit(Step::Operand(token))?;
-        Ok(Some(Mode::Have(operand_level(token))))
+        Ok(Some(mode_behind(token)))
     }
 
     /// The first token of an operand.
@@ -185,6 +207,18 @@ impl<'a> Reading<'a> {
         }
     }
 
+    /// A word after `is`, or after `is not`: `unknown`, which is a name elsewhere.
+    fn word_tested(&mut self, negated: bool, word: &[u8]) -> Result<Option<Mode>, AllocError>
+        ensures { Gives result self.new
+            (specs.word_tested negated word.now (frames_in self.old) (steps_in self.old)) }
+    {
+        if is_same_word(word, b"unknown") {
+            self.tested(Test::Unknown, negated)
+        } else {
+            Ok(None)
+        }
+    }
+
     /// What follows `is`, or `is not`.
     pub fn after_is(&mut self, negated: bool, token: Token<'a>) -> Result<Option<Mode>, AllocError>
         ensures { Gives result self.new (specs.after_is negated (frames_in self.old)
@@ -194,7 +228,7 @@ impl<'a> Reading<'a> {
             Token::Sign(Sign::Null) => self.tested(Test::Null, negated),
             Token::Sign(Sign::True) => self.tested(Test::True, negated),
             Token::Sign(Sign::False) => self.tested(Test::False, negated),
-            Token::Sign(Sign::Unknown) => self.tested(Test::Unknown, negated),
+            Token::Name(word) => self.word_tested(negated, word),
             Token::Sign(Sign::Not) => Ok(self.is_not(negated)),
             Token::Sign(Sign::Distinct) => Ok(self.distinct(negated)),
             _ => Ok(None),

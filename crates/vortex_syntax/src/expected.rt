@@ -13,6 +13,8 @@ pub enum Expected {
     ArgumentOrClose,
     /// An operand that binds tighter than `not`.
     TightOperand,
+    /// At `~` where an operand has to bind tighter.
+    BitNotBrackets,
     /// After a minus sign.
     SignedOperand,
     /// After two minus signs.
@@ -74,6 +76,8 @@ impl Expected {
             Expected::ArgumentOrClose => "an expression or )",
             Expected::TightOperand =>
                 "a column, a literal, case, cast or ( (a not needs brackets here)",
+            Expected::BitNotBrackets =>
+                "a column, a literal, case, cast or ( (a ~ needs brackets here)",
             Expected::SignedOperand => "digits, a column, case, cast or (",
             Expected::UnsignedOperand => "a column, case, cast or (",
             Expected::OperatorOrEnd => "an operator or the end",
@@ -86,7 +90,7 @@ impl Expected {
             Expected::OperatorOrThen => "an operator or then",
             Expected::OperatorOrBranch => "an operator, when, else or end",
             Expected::OperatorOrCaseEnd => "an operator or end",
-            Expected::OperatorOrAnd => "||, +, -, *, /, % or the and of between",
+            Expected::OperatorOrAnd => "an operator that binds tighter, or the and of between",
             Expected::Brackets =>
                 "brackets round the comparison, is, between, in or like before it",
             Expected::LiteralBeforeType => "a literal before ::, or else cast(.. as ..)",

@@ -5,7 +5,7 @@ ghost use Rattle.vortex_syntax.specs.Frames.{frame_in};
 ghost use Rattle.vortex_syntax.specs.Frames as specs;
 
 use crate::levels::{
-    ATOM, COMPARISON, CONCAT, DISTINCT, LITERAL, NOT, OR, PREDICATE, SIGN, own, right,
+    ATOM, BIT_NOT, COMPARISON, CONCAT, DISTINCT, LITERAL, NOT, OR, PREDICATE, SIGN, own, right,
 };
 use crate::step::{Call, LikeKind, WrittenOperator};
 
@@ -32,6 +32,9 @@ pub enum Frame<'a> {
     Not,
     /// A minus sign before what is no literal.
     Minus,
+    /// A plus sign before an operand.
+    Plus,
+    BitNot,
     Join(WrittenOperator),
     /// IS DISTINCT FROM, or IS NOT DISTINCT FROM.
     Distinct(bool),
@@ -57,6 +60,8 @@ pub enum Mode {
     Signed,
     /// What follows an operand of that level.
     Have(u8),
+    /// What follows a bare name, of which a bracket makes a call.
+    Named,
     /// The type after two colons.
     Typing,
     /// What follows `is`, or `is not`.
@@ -85,7 +90,8 @@ pub fn hole(frame: Frame<'_>) -> u8
         Frame::Open | Frame::Cast | Frame::Arguments(..) | Frame::Items(..) | Frame::Case(..) => OR,
         Frame::Not => NOT,
         Frame::Join(operator) => right(operator),
-        Frame::Minus => SIGN,
+        Frame::Minus | Frame::Plus => SIGN,
+        Frame::BitNot => BIT_NOT,
         Frame::Distinct(_) => COMPARISON,
         Frame::Between(_) | Frame::Bounded(_) | Frame::Like(_) => CONCAT,
     }
@@ -119,7 +125,8 @@ pub fn whole(frame: Frame<'_>) -> u8
         Frame::Open | Frame::Cast | Frame::Arguments(..) | Frame::Case(..) => ATOM,
         Frame::Not => NOT,
         Frame::Join(operator) => own(operator),
-        Frame::Minus => SIGN,
+        Frame::Minus | Frame::Plus => SIGN,
+        Frame::BitNot => BIT_NOT,
         Frame::Distinct(_) => DISTINCT,
         Frame::Between(_) | Frame::Bounded(_) | Frame::Like(_) | Frame::Items(..) => PREDICATE,
     }
@@ -137,6 +144,8 @@ pub fn closing(frame: Frame<'_>) -> Call
         | Frame::Case(..) => Call::Not,
         Frame::Join(operator) => Call::Join(operator),
         Frame::Minus => Call::Minus,
+        Frame::Plus => Call::Plus,
+        Frame::BitNot => Call::BitNot,
         Frame::Distinct(negated) => Call::Distinct(negated),
         Frame::Between(negated) | Frame::Bounded(negated) => Call::Between(negated),
         Frame::Like(kind) => Call::Like(kind),

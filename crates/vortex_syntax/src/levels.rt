@@ -22,17 +22,19 @@ pub const PREDICATE: u8 = 6;
 
 pub const CONCAT: u8 = 7;
 
-pub const SUM: u8 = 8;
+pub const BIT_NOT: u8 = 8;
 
-pub const PRODUCT: u8 = 9;
+pub const SUM: u8 = 9;
 
-pub const SIGN: u8 = 10;
+pub const PRODUCT: u8 = 10;
 
-pub const ATOM: u8 = 11;
+pub const SIGN: u8 = 11;
 
-pub const TYPED: u8 = 12;
+pub const ATOM: u8 = 12;
 
-pub const LITERAL: u8 = 13;
+pub const TYPED: u8 = 13;
+
+pub const LITERAL: u8 = 14;
 
 pub fn own(operator: WrittenOperator) -> u8
     ensures { result ≡ levels.own operator }
@@ -40,7 +42,12 @@ pub fn own(operator: WrittenOperator) -> u8
     match operator {
         WrittenOperator::Or => OR,
         WrittenOperator::And => AND,
-        WrittenOperator::Concat => CONCAT,
+        WrittenOperator::Concat
+        | WrittenOperator::BitAnd
+        | WrittenOperator::BitOr
+        | WrittenOperator::BitXor
+        | WrittenOperator::ShiftLeft
+        | WrittenOperator::ShiftRight => CONCAT,
         WrittenOperator::Add | WrittenOperator::Sub => SUM,
         WrittenOperator::Mul | WrittenOperator::Div | WrittenOperator::Mod => PRODUCT,
         _ => COMPARISON,
@@ -53,7 +60,12 @@ pub fn left(operator: WrittenOperator) -> u8
     match operator {
         WrittenOperator::Or => OR,
         WrittenOperator::And => AND,
-        WrittenOperator::Concat => CONCAT,
+        WrittenOperator::Concat
+        | WrittenOperator::BitAnd
+        | WrittenOperator::BitOr
+        | WrittenOperator::BitXor
+        | WrittenOperator::ShiftLeft
+        | WrittenOperator::ShiftRight => CONCAT,
         WrittenOperator::Add | WrittenOperator::Sub => SUM,
         WrittenOperator::Mul | WrittenOperator::Div | WrittenOperator::Mod => PRODUCT,
         _ => PREDICATE,
@@ -66,7 +78,12 @@ pub fn right(operator: WrittenOperator) -> u8
     match operator {
         WrittenOperator::Or => AND,
         WrittenOperator::And => NOT,
-        WrittenOperator::Concat => SUM,
+        WrittenOperator::Concat
+        | WrittenOperator::BitAnd
+        | WrittenOperator::BitOr
+        | WrittenOperator::BitXor
+        | WrittenOperator::ShiftLeft
+        | WrittenOperator::ShiftRight => BIT_NOT,
         WrittenOperator::Add | WrittenOperator::Sub => PRODUCT,
         WrittenOperator::Mul | WrittenOperator::Div | WrittenOperator::Mod => SIGN,
         _ => PREDICATE,

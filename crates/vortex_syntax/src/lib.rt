@@ -11,6 +11,7 @@ mod frame;
 pub mod laws;
 pub mod levels;
 mod lexing;
+mod named;
 pub mod nesting;
 mod pieces;
 mod places;

@@ -76,7 +76,7 @@ fn split_run(run: Run, text: &[u8]) -> (&[u8], &[u8])
 }
 
 /// Whether it is that word, ignoring case.
-fn is_same_word(word: &[u8], other: &[u8]) -> bool
+pub(crate) fn is_same_word(word: &[u8], other: &[u8]) -> bool
     ensures { result ≡ same_word word.now other.now }
 {
     word.eq_ignore_ascii_case(other)
@@ -112,8 +112,6 @@ pub(crate) fn keyword_of(word: &[u8]) -> Option<Sign>
         Some(Sign::Cast)
     } else if is_same_word(word, b"as") {
         Some(Sign::As)
-    } else if is_same_word(word, b"unknown") {
-        Some(Sign::Unknown)
     } else if is_same_word(word, b"distinct") {
         Some(Sign::Distinct)
     } else if is_same_word(word, b"from") {
@@ -130,6 +128,10 @@ pub(crate) fn keyword_of(word: &[u8]) -> Option<Sign>
         Some(Sign::Else)
     } else if is_same_word(word, b"end") {
         Some(Sign::End)
+    } else if is_same_word(word, b"isnull") {
+        Some(Sign::IsNull)
+    } else if is_same_word(word, b"notnull") {
+        Some(Sign::NotNull)
     } else {
         None
     }
@@ -283,8 +285,11 @@ fn sign_of_two(first: u8, second: u8) -> Option<Sign>
     match (first, second) {
         (b'<', b'=') => Some(Sign::LessOrEqual),
         (b'<', b'>') => Some(Sign::NotEqual),
+        (b'<', b'<') => Some(Sign::ShiftLeft),
         (b'>', b'=') => Some(Sign::GreaterOrEqual),
+        (b'>', b'>') => Some(Sign::ShiftRight),
         (b'!', b'=') => Some(Sign::NotEqual),
+        (b'=', b'=') => Some(Sign::Equal),
         (b':', b':') => Some(Sign::Typed),
         (b'|', b'|') => Some(Sign::Concat),
         _ => None,
@@ -301,6 +306,10 @@ fn sign_of_one(byte: u8) -> Option<Sign>
         b'+' => Some(Sign::Plus),
         b'*' => Some(Sign::Times),
         b'%' => Some(Sign::Modulo),
+        b'&' => Some(Sign::BitAnd),
+        b'|' => Some(Sign::BitOr),
+        b'#' => Some(Sign::BitXor),
+        b'~' => Some(Sign::BitNot),
         b'(' => Some(Sign::Open),
         b')' => Some(Sign::Close),
         b',' => Some(Sign::Comma),

@@ -10,7 +10,7 @@ ghost use Rattle.vortex_syntax.specs.Refusals.{TreeStopsAt, NamesPlace};
 
 use crate::error::SyntaxError;
 use crate::frame::Mode;
-use crate::levels::OR;
+use crate::levels::{ATOM, OR};
 use crate::places::TokenPlaces;
 use crate::reading::Reading;
 use crate::token::Token;
@@ -47,6 +47,7 @@ impl<'a> Reading<'a> {
             Mode::Want => self.before_operand(token),
             Mode::Signed => self.signed(token, place),
             Mode::Have(level) => self.behind(level, token),
+            Mode::Named => self.after_name(token),
             Mode::Typing => self.type_expected(token),
             Mode::Is(negated) => self.after_is(negated, token),
             Mode::Distinct(negated) => self.after_distinct(negated, token),
@@ -65,8 +66,10 @@ impl<'a> Reading<'a> {
         ensures { IfOk result (λ r. option_map (λ v. map step_in v.steps.items) r
             ≡ specs.finish mode (frames_in self.entry) (steps_in self.entry)) }
     {
-        let Mode::Have(level) = mode else {
-            return Ok(None);
+        let level = match mode {
+            Mode::Have(level) => level,
+            Mode::Named => ATOM,
+            _ => return Ok(None),
         };
         let _level = self.settle(OR, level)?;
         if self.frames.is_empty() {

@@ -16,6 +16,8 @@ fn is_unchained(sign: Sign) -> bool {
             | Sign::Greater
             | Sign::GreaterOrEqual
             | Sign::Is
+            | Sign::IsNull
+            | Sign::NotNull
             | Sign::Between
             | Sign::In
             | Sign::Like
@@ -91,12 +93,13 @@ impl<'a> Reading<'a> {
         whole: Expected,
     ) -> Expected {
         match (mode, found) {
+            (Mode::Want, Some(Token::Sign(Sign::BitNot))) => Expected::BitNotBrackets,
             (Mode::Want, _) => self.operand_expected(),
             (Mode::Signed, _) => self.signed_expected(),
-            (Mode::Have(_), Some(Token::Sign(sign))) => {
+            (Mode::Have(_) | Mode::Named, Some(Token::Sign(sign))) => {
                 in_place_of(sign, self.expected_after(whole))
             }
-            (Mode::Have(_), _) => self.expected_after(whole),
+            (Mode::Have(_) | Mode::Named, _) => self.expected_after(whole),
             (Mode::Typing | Mode::CastType, _) => Expected::TypeName,
             (Mode::Is(false), _) => Expected::TestOrNot,
             (Mode::Is(true), _) => Expected::Test,

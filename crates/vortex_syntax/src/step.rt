@@ -18,6 +18,11 @@ pub enum WrittenOperator {
     Div,
     Mod,
     Concat,
+    BitAnd,
+    BitOr,
+    BitXor,
+    ShiftLeft,
+    ShiftRight,
 }
 
 /// What IS tests for.
@@ -43,6 +48,9 @@ pub enum Call {
     Not,
     /// Minus before a tree that is no literal.
     Minus,
+    /// Plus before a tree.
+    Plus,
+    BitNot,
     Join(WrittenOperator),
     /// IS of a test, or IS NOT.
     Is(Test, bool),

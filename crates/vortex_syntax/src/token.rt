@@ -16,7 +16,6 @@ pub enum Sign {
     False,
     Cast,
     As,
-    Unknown,
     Distinct,
     From,
     In,
@@ -25,6 +24,8 @@ pub enum Sign {
     Then,
     Else,
     End,
+    IsNull,
+    NotNull,
     Equal,
     NotEqual,
     Less,
@@ -39,6 +40,14 @@ pub enum Sign {
     Modulo,
     /// Two bars.
     Concat,
+    BitAnd,
+    BitOr,
+    /// The number sign.
+    BitXor,
+    /// The tilde.
+    BitNot,
+    ShiftLeft,
+    ShiftRight,
     Open,
     Close,
     Comma,

@@ -1,6 +1,9 @@
 //! A tree in postfix order, and the positions of its steps in the text.
-ghost use Rattle.std.specs.Prelude.{◌≡◌, ◌++◌, ◌∷◌, [], length, OnOk};
+ghost use Rattle.std.specs.Prelude.{◌≡◌, ◌++◌, ◌∷◌, [], length, map, OnOk, MatchOption, None};
+ghost use Rattle.vortex_syntax.specs.Tokens.{name};
+ghost use Rattle.vortex_syntax.specs.Postfix.{step_in, operand, last_name};
 
+use crate::named::name_of;
 use crate::step::Step;
 use std::alloc::{AllocError, Global};
 
@@ -34,5 +37,21 @@ impl<'a> SyntaxTree<'a> {
         self.places.push(place)?;
         self.steps.push(step).unwrap();
         Ok(())
+    }
+
+    /// Takes the last step, and returns it with its byte if it is a bare name.
+    pub(crate) fn pop_name(&mut self) -> Option<(&'a [u8], usize)>
+        ensures { MatchOption result (last_name (map step_in self.old.steps.items) ≡ None)
+            (λ x. map step_in self.old.steps.items
+            ≡ map step_in self.new.steps.items ++ (operand (name x.0.now) ∷ [])) }
+    {
+        let Some(step) = self.steps.pop() else {
+            return None;
+        };
+        let place = self.places.pop().unwrap_or(0);
+        match name_of(step) {
+            Some(name) => Some((name, place)),
+            None => None,
+        }
     }
 }

@@ -52,7 +52,6 @@ fn sign_text(sign: Sign) -> &'static str
         Sign::False => "false",
         Sign::Cast => "cast",
         Sign::As => "as",
-        Sign::Unknown => "unknown",
         Sign::Distinct => "distinct",
         Sign::From => "from",
         Sign::In => "in",
@@ -61,6 +60,8 @@ fn sign_text(sign: Sign) -> &'static str
         Sign::Then => "then",
         Sign::Else => "else",
         Sign::End => "end",
+        Sign::IsNull => "isnull",
+        Sign::NotNull => "notnull",
         Sign::Equal => "=",
         Sign::NotEqual => "<>",
         Sign::Less => "<",
@@ -73,6 +74,12 @@ fn sign_text(sign: Sign) -> &'static str
         Sign::Divide => "/",
         Sign::Modulo => "%",
         Sign::Concat => "||",
+        Sign::BitAnd => "&",
+        Sign::BitOr => "|",
+        Sign::BitXor => "#",
+        Sign::BitNot => "~",
+        Sign::ShiftLeft => "<<",
+        Sign::ShiftRight => ">>",
         Sign::Open => "(",
         Sign::Close => ")",
         Sign::Comma => ",",
@@ -148,9 +155,13 @@ fn sign_ending(ending: Ending, sign: Sign) -> Ending
         Sign::Open | Sign::Typed => Ending::Tight,
         Sign::Cast => Ending::Called,
         Sign::Minus => minus_ending(ending),
-        Sign::Close | Sign::Null | Sign::True | Sign::False | Sign::Unknown | Sign::End => {
-            Ending::Operand
-        }
+        Sign::Close
+        | Sign::Null
+        | Sign::True
+        | Sign::False
+        | Sign::End
+        | Sign::IsNull
+        | Sign::NotNull => Ending::Operand,
         _ => Ending::Loose,
     }
 }
