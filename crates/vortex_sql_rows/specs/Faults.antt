@@ -15,6 +15,8 @@ fault_number fault.IntegerOutOfRange = 5
 fault_number fault.ShiftCount = 6
 fault_number fault.NoTruth = 7
 fault_number fault.OtherValues = 8
+fault_number fault.FieldZero = 9
+fault_number fault.NoPattern = 10
 fault_number (fault.OutOfRange I8) = 11
 fault_number (fault.OutOfRange I16) = 12
 fault_number (fault.OutOfRange I32) = 13
@@ -43,6 +45,8 @@ fault_of n =
     else if nat_eq n 6 then Some fault.ShiftCount
     else if nat_eq n 7 then Some fault.NoTruth
     else if nat_eq n 8 then Some fault.OtherValues
+    else if nat_eq n 9 then Some fault.FieldZero
+    else if nat_eq n 10 then Some fault.NoPattern
     else if nat_eq n 11 then Some (fault.OutOfRange I8)
     else if nat_eq n 12 then Some (fault.OutOfRange I16)
     else if nat_eq n 13 then Some (fault.OutOfRange I32)
@@ -70,6 +74,8 @@ fault_text fault.IntegerOutOfRange = codes "integer out of range"
 fault_text fault.ShiftCount = codes "shift by a count that is not from 0 to the bits of the type less 1"
 fault_text fault.NoTruth = codes "text that is no truth value in cast to bool"
 fault_text fault.OtherValues = codes "values of other types than the function takes"
+fault_text fault.FieldZero = codes "field 0 in split_part, where the first field is 1"
+fault_text fault.NoPattern = codes "text that is no regular expression"
 fault_text (fault.OutOfRange I8) = codes "integer out of range in cast to i8"
 fault_text (fault.OutOfRange I16) = codes "integer out of range in cast to i16"
 fault_text (fault.OutOfRange I32) = codes "integer out of range in cast to i32"

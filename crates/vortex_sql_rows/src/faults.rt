@@ -24,6 +24,10 @@ pub enum RowFault {
     NoTruth,
     /// The values are not of the types that the function takes. No call passes such values.
     OtherValues,
+    /// The number of the field that `split_part` is passed is zero.
+    FieldZero,
+    /// A text is no regular expression.
+    NoPattern,
     /// The type of a cast does not have the integer.
     OutOfRange(PType),
     /// A text in a cast is no number of the type.
@@ -106,6 +110,8 @@ impl RowFault {
             RowFault::ShiftCount => 6,
             RowFault::NoTruth => 7,
             RowFault::OtherValues => 8,
+            RowFault::FieldZero => 9,
+            RowFault::NoPattern => 10,
             RowFault::OutOfRange(ptype) => range_number(ptype),
             RowFault::NoInteger(ptype) => cast_number(ptype),
         }
@@ -124,6 +130,8 @@ impl RowFault {
             6 => Some(RowFault::ShiftCount),
             7 => Some(RowFault::NoTruth),
             8 => Some(RowFault::OtherValues),
+            9 => Some(RowFault::FieldZero),
+            10 => Some(RowFault::NoPattern),
             11 => Some(RowFault::OutOfRange(PType::I8)),
             12 => Some(RowFault::OutOfRange(PType::I16)),
             13 => Some(RowFault::OutOfRange(PType::I32)),
@@ -159,6 +167,8 @@ impl RowFault {
             }
             RowFault::NoTruth => "text that is no truth value in cast to bool",
             RowFault::OtherValues => "values of other types than the function takes",
+            RowFault::FieldZero => "field 0 in split_part, where the first field is 1",
+            RowFault::NoPattern => "text that is no regular expression",
             RowFault::OutOfRange(ptype) => range_text(ptype),
             RowFault::NoInteger(ptype) => cast_text(ptype),
         }
@@ -178,6 +188,8 @@ pub fn numbers_tell_faults(fault: RowFault)
         RowFault::ShiftCount => {}
         RowFault::NoTruth => {}
         RowFault::OtherValues => {}
+        RowFault::FieldZero => {}
+        RowFault::NoPattern => {}
         RowFault::OutOfRange(PType::I8) => {}
         RowFault::OutOfRange(PType::I16) => {}
         RowFault::OutOfRange(PType::I32) => {}

@@ -1,33 +1,33 @@
--- Texts without blanks at their start, and places in texts.
+-- Texts without some characters at their start, and places in texts.
 use Rattle.std.proofs.Common.{◌≡◌, ◌+◌, ◌-◌, ◌≤◌, ◌==◌, ℕ, zero, suc, List, [], ◌∷◌, arith, refl}
 use Rattle.std.proofs.Common.{ap, sym, ◌∙◌, true, false, cond, length}
 use Rattle.std.specs.Prelude.{IsUtf8, chars, encode_utf8_all, nat_eq}
 use Rattle.std.specs.List.{starts_with}
 use Rattle.std.proofs.lemmas.Str.{encodes-chars}
 use Rattle.vortex_sql_texts.specs.Places.{further, place_of}
-use Rattle.vortex_sql_texts.specs.Trims.{skip_blanks, without_start}
+use Rattle.vortex_sql_texts.specs.Trims.{has, skip, without_start}
 
 -- how many characters are kept where k of the first s are, and the last of n after those
 abbrev pub kept_of : ℕ → ℕ → ℕ → ℕ
 kept_of s k zero = k
 kept_of s k (suc n) = s + suc n
 
-skipped : (c : ℕ) (cs : List ℕ) → (c == 32) ≡ false → skip_blanks (c ∷ cs) ≡ c ∷ cs
-skipped c cs e = rw e refl
+stays : (ks : List ℕ) (c : ℕ) (cs : List ℕ) → has ks c ≡ false → skip ks (c ∷ cs) ≡ c ∷ cs
+stays ks c cs e = rw e refl
 
--- the rest of a text where its first character is no blank
-pub stopped : (bs rest cs : List ℕ) (c : ℕ) → IsUtf8 rest
-    → skip_blanks (chars bs) ≡ skip_blanks (chars rest) → chars rest ≡ c ∷ cs → (c == 32) ≡ false
-    → rest ≡ without_start bs
-stopped bs rest cs c u e k other =
+-- the rest of a text where its first character stays
+pub stopped : (ks bs rest cs : List ℕ) (c : ℕ) → IsUtf8 rest
+    → skip ks (chars bs) ≡ skip ks (chars rest) → chars rest ≡ c ∷ cs → has ks c ≡ false
+    → rest ≡ without_start ks bs
+stopped ks bs rest cs c u e k other =
     sym (encodes-chars rest u)
-    ∙ ap encode_utf8_all (k ∙ sym (skipped c cs other) ∙ ap skip_blanks (sym k) ∙ sym e)
+    ∙ ap encode_utf8_all (k ∙ sym (stays ks c cs other) ∙ ap (skip ks) (sym k) ∙ sym e)
 
 -- and where there is none
-pub emptied : (bs rest : List ℕ) → IsUtf8 rest → skip_blanks (chars bs) ≡ skip_blanks (chars rest)
-    → chars rest ≡ [] → rest ≡ without_start bs
-emptied bs rest u e k =
-    sym (encodes-chars rest u) ∙ ap encode_utf8_all (k ∙ ap skip_blanks (sym k) ∙ sym e)
+pub emptied : (ks bs rest : List ℕ) → IsUtf8 rest → skip ks (chars bs) ≡ skip ks (chars rest)
+    → chars rest ≡ [] → rest ≡ without_start ks bs
+emptied ks bs rest u e k =
+    sym (encodes-chars rest u) ∙ ap encode_utf8_all (k ∙ ap (skip ks) (sym k) ∙ sym e)
 
 further_more : (k n : ℕ) → further k (further 2 n) ≡ further (k + 1) n
 further_more k zero = refl

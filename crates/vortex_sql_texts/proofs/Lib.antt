@@ -1,3 +1,5 @@
 mod CharacterParts
 mod Ends
+mod FieldParts
+mod RepeatedTexts
 mod TextRoom

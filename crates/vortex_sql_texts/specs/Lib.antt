@@ -1,7 +1,11 @@
 pub mod Characters
+pub mod Concats
+pub mod Fields
 pub mod MadeTexts
 pub mod Parts
 pub mod Places
+pub mod Repeats
+pub mod Replaced
 pub mod TextCasts
 pub mod Texts
 pub mod Trims

@@ -1,5 +1,5 @@
 -- Texts in lower and upper case, two texts in one, and the text of an integer.
-use Rattle.std.specs.Prelude.{◌≡◌, ◌&&◌, ◌++◌, codes, ℕ, ℤ, List, true, false, refl, length, nat_le}
+use Rattle.std.specs.Prelude.{◌≡◌, ◌<◌, ◌&&◌, ◌++◌, codes, ℕ, ℤ, List, true, false, refl, length, nat_le}
 use Rattle.std.specs.Prelude.{get_or, if◌then◌else◌, Bool}
 use Rattle.std.specs.Fmt.{signed_decimal}
 use Rattle.std.specs.Str.{is_utf8}
@@ -7,6 +7,8 @@ use Rattle.std.specs.StrCase.Lower.{str_to_lowercase}
 use Rattle.std.specs.StrCase.Upper.{str_to_uppercase}
 use Rattle.std.proofs.Common.{cond}
 use Rattle.std.proofs.lemmas.Str.{IsUtf8-from_is_utf8}
+use Rattle.vortex_errors.specs.declared.error.VortexError.{VortexError}
+use Rattle.vortex_errors.specs.declared.error.VortexError.TheVariants.{Custom}
 use Rattle.vortex_types.specs.declared.dtype.PType.{PType}
 use Rattle.vortex_types.specs.LogicalTypes.{text_type}
 use Rattle.vortex_types.specs.Values.{text}
@@ -17,7 +19,7 @@ use Rattle.vortex_sql_texts.specs.declared.letters.Letters.TheVariants.{Lower, U
 use Rattle.vortex_sql_rows.specs.declared.types.Gives.TheVariants as answer
 use Rattle.vortex_sql_rows.specs.declared.types.Kind.TheVariants.{Text, Integer}
 use Rattle.vortex_sql_rows.specs.declared.types.Takes.TheVariants.{Alike}
-use Rattle.vortex_sql_rows.specs.Faults.{faults_by}
+use Rattle.vortex_sql_rows.specs.Faults.{fault_number, faults_by}
 use Rattle.vortex_sql_rows.specs.Laws.{and_left}
 use Rattle.vortex_sql_rows.specs.Row.{Row, LawfulRow}
 use Rattle.vortex_sql_rows.specs.Shapes.{strict_row, one_text, one_text_lawful, two_texts}
@@ -30,6 +32,10 @@ may_be_text bs = is_utf8 bs && nat_le (length bs) 4294967295
 -- the text of these bytes, or a fault where they are too many
 abbrev pub text_or_fault : List ℕ → Outcome
 text_or_fault bs = if may_be_text bs then gives (text bs) else faults_by TextTooLong
+
+-- the error of bytes that are more than those of a text
+abbrev pub IsTooLong : List ℕ → VortexError → Type 0
+IsTooLong bs e = (4294967295 < length bs) × (e ≡ Custom (fault_number TextTooLong))
 
 pub made_fits : (bs : List ℕ) → GivesType (text_type false) (text_or_fault bs)
 made_fits bs = by (may_be_text bs) refl

@@ -19,8 +19,13 @@ use Rattle.vortex_sql_rows.specs.Faults.{faults_by}
 use Rattle.vortex_sql_rows.specs.Integers.{checked, checked_fits, int_or_fault}
 use Rattle.vortex_sql_rows.specs.Row.{Row, LawfulRow}
 use Rattle.vortex_sql_rows.specs.Shapes.{strict_row, one_text, one_text_lawful}
-use Rattle.vortex_sql_texts.specs.Trims.{trimmed}
+use Rattle.vortex_sql_texts.specs.Trims.{members, trimmed}
 use Rattle.vortex_sql_texts.specs.declared.trims.Trim.TheVariants.{Both}
+use Rattle.vortex_sql_texts.specs.declared.trims.LeftOut.TheVariants.{Spaces}
+
+-- the text without spaces at its ends
+abbrev pub within_spaces : List ℕ → List ℕ
+within_spaces bs = trimmed Both (members Spaces) bs
 
 -- the number that digits write after the digits of n; none where there are others than digits, or
 -- where more digits follow a number that no type has
@@ -56,7 +61,7 @@ in_type p None = None
 in_type p (Some z) = checked p z
 
 abbrev pub text_number : PType → List ℕ → Outcome
-text_number q bs = int_or_fault (NoInteger q) (in_type q (signed_number (trimmed Both bs)))
+text_number q bs = int_or_fault (NoInteger q) (in_type q (signed_number (within_spaces bs)))
 
 abbrev pub int_cast_id : PType → List ℕ
 int_cast_id I8 = codes "sql.utf8_to_i8"
@@ -90,7 +95,7 @@ number_fits q (Some z) = checked_fits (NoInteger q) q z
 pub int_cast_lawful : (q : PType) → LawfulRow (int_cast_row q)
 int_cast_lawful q =
     one_text_lawful (int_cast_id q) (answer.Integer q) false (int_cast_named q) (text_number q)
-    (λ n bs u. number_fits q (signed_number (trimmed Both bs))) (λ bs e u. cc)
+    (λ n bs u. number_fits q (signed_number (within_spaces bs))) (λ bs e u. cc)
 
 -- ignoring case: a word, and the start of one, of a byte at least
 abbrev pub same_word : List ℕ → List ℕ → Bool
@@ -119,7 +124,7 @@ word_truth w =
     else if is_false_word w then gives (truth false) else faults_by NoTruth
 
 abbrev pub text_truth : List ℕ → Outcome
-text_truth bs = word_truth (trimmed Both bs)
+text_truth bs = word_truth (within_spaces bs)
 
 abbrev pub truth_cast_row : Row
 truth_cast_row =
@@ -135,5 +140,5 @@ truth_fits false false = tt
 pub truth_cast_lawful : LawfulRow truth_cast_row
 truth_cast_lawful =
     one_text_lawful (codes "sql.utf8_to_bool") answer.Truth false refl text_truth
-    (λ n bs u. truth_fits (is_true_word (trimmed Both bs)) (is_false_word (trimmed Both bs)))
+    (λ n bs u. truth_fits (is_true_word (within_spaces bs)) (is_false_word (within_spaces bs)))
     (λ bs e u. cc)

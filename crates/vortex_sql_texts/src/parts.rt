@@ -28,7 +28,7 @@ pub enum Side {
 }
 
 /// How many characters are before a place, where the first character has place 1.
-fn before_place(from: i128) -> u128
+pub(crate) fn before_place(from: i128) -> u128
     ensures { result ≡ before_place from }
 {
     if from < 1 { 0 } else { at_least_zero(from - 1) }

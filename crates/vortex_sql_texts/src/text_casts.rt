@@ -1,4 +1,4 @@
-//! Casts of texts to integers and to truth values. Blanks at their ends are passed over.
+//! Casts of texts to integers and to truth values. Spaces at their ends are passed over.
 ghost use Rattle.std.specs.Prelude.{◌≡◌, ◌<◌, IfSome};
 ghost use Rattle.vortex_sql_rows.specs.AnsweredRows.{AnswersRow};
 ghost use Rattle.vortex_sql_texts.specs.TextCasts.{digits_number, in_type, int_cast_id};
@@ -7,7 +7,7 @@ ghost use Rattle.vortex_sql_texts.specs.TextCasts.{is_start, is_true_word, negat
 ghost use Rattle.vortex_sql_texts.specs.TextCasts.{same_word, signed_number, truth_cast_lawful};
 ghost use Rattle.vortex_sql_texts.specs.TextCasts.{truth_cast_row, word_truth};
 
-use crate::trims::{Trim, trimmed};
+use crate::trims::{LeftOut, Trim, trimmed};
 use vortex_columns::{Cell, PType, VortexResult};
 use vortex_interface::ScalarFnId;
 use vortex_sql_rows::cells::{int_or_fault, only_text};
@@ -129,7 +129,8 @@ impl RowFn for TextToInt {
         let Some(text) = only_text(cells) else {
             return Ok(Cell::Null);
         };
-        let number = signed_number(trimmed(Trim::Both, text).as_bytes());
+        let digits = trimmed(Trim::Both, text, LeftOut::Spaces);
+        let number = signed_number(digits.as_bytes());
         int_or_fault(in_type(self.ptype, number), RowFault::NoInteger(self.ptype))
     }
 
@@ -200,7 +201,7 @@ impl RowFn for TextToTruth {
         let Some(text) = only_text(cells) else {
             return Ok(Cell::Null);
         };
-        word_truth(trimmed(Trim::Both, text).as_bytes())
+        word_truth(trimmed(Trim::Both, text, LeftOut::Spaces).as_bytes())
     }
 
     ghost lawful = { λ f. truth_cast_lawful };

@@ -1,6 +1,4 @@
-use Rattle.std.proofs.Common.{◌≡◌, ◌≤◌, ◌-◌, length, arith, ◌∙◌}
-use Rattle.std.specs.Str.{IsCharBoundary}
-use Rattle.vortex_sql_texts.specs.Characters.{first_chars}
+use Rattle.std.proofs.Common.{◌-◌, length, arith, ◌∙◌}
 use Rattle.vortex_sql_texts.proofs.CharacterParts.{seam, boundary, front}
 use Rattle.vortex_sql_texts.proofs.characters.first_chars.Goals as goal
 

@@ -1,8 +1,7 @@
-use Rattle.std.proofs.Common.{◌≡◌, ◌+◌, ◌-◌, ◌≤◌, ℕ, suc, arith, ap, sym, ◌∙◌, true, false, not, length}
+use Rattle.std.proofs.Common.{◌≡◌, suc, arith, ap, true, false, length}
 use Rattle.std.specs.Prelude.{chars, nat_eq}
 use Rattle.std.specs.List.{starts_with}
 use Rattle.std.proofs.lemmas.Int.{ints}
-use Rattle.vortex_sql_texts.specs.Places.{place_of}
 use Rattle.vortex_sql_texts.proofs.Ends.{step_place, found_place}
 use Rattle.vortex_sql_texts.proofs.places.place_of.Goals as goal
 

@@ -1,4 +1,4 @@
-use Rattle.std.proofs.Common.{◌≡◌, ℕ, ◌+◌, ◌-◌, ◌≤◌, length}
+use Rattle.std.proofs.Common.{◌≡◌, ◌+◌, ◌-◌, ◌≤◌, length}
 use Rattle.std.specs.Prelude.{IsUtf8, chars}
 use Rattle.vortex_sql_texts.specs.Places.{further, place_of}
 use Rattle.vortex_sql_texts.proofs.places.place_of.Given as goal
