@@ -32,6 +32,10 @@ pub fn text(alloc: Global, chars: &str) -> Bound<Standard> {
     literal(alloc, Scalar::try_from_str(alloc, chars))
 }
 
+pub fn no_text(alloc: Global) -> Bound<Standard> {
+    literal(alloc, Ok(Scalar::null(DType::Utf8(Nullability::Nullable))))
+}
+
 /// Whether a call over constants has that column of one row.
 pub fn gives(rt: HostRuntime, f: Standard, children: Children, wanted: &str) -> VortexResult<bool> {
     let alloc = rt.alloc();

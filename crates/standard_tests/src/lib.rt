@@ -10,6 +10,8 @@ mod casts;
 #[cfg(test)]
 mod ends;
 #[cfg(test)]
+mod fields;
+#[cfg(test)]
 mod functions;
 #[cfg(test)]
 mod lists;

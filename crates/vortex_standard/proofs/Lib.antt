@@ -1,1 +1,1 @@
-mod Finds
+pub mod Finds

@@ -27,6 +27,7 @@ has_name w f = same_word w (name_of f)
 abbrev pub alias_of : List ℕ → Option Standard
 alias_of w =
     if same_word w (codes "ifnull") then Some standard.Coalesce
+    else if same_word w (codes "if") then Some standard.Case
     else if same_word w (codes "substring") then Some standard.Substr
     else if same_word w (codes "trim") then Some (standard.Trim Both)
     else if same_word w (codes "char_length") then Some (standard.Measure Characters)

@@ -23,6 +23,10 @@ use Rattle.vortex_sql_choices.specs.NullIf.{nullif_row, nullif_lawful}
 use Rattle.vortex_sql_numbers.specs.Remainder.{remainder_row, remainder_lawful}
 use Rattle.vortex_sql_rows.specs.Row.{Row, LawfulRow, row_type, row_means}
 use Rattle.vortex_sql_numbers.specs.Sign.{sign_row, sign_lawful}
+use Rattle.vortex_sql_texts.specs.Concats.{concat_all_row, concat_all_lawful}
+use Rattle.vortex_sql_texts.specs.Fields.{split_part_row, split_part_lawful}
+use Rattle.vortex_sql_texts.specs.Repeats.{repeat_row, repeat_lawful, reverse_row, reverse_lawful}
+use Rattle.vortex_sql_texts.specs.Replaced.{replace_row, replace_lawful}
 use Rattle.vortex_sql_texts.specs.Places.{strpos_row, strpos_lawful}
 use Rattle.vortex_sql_texts.specs.TextCasts.{int_cast_row, int_cast_lawful, truth_cast_row}
 use Rattle.vortex_sql_texts.specs.TextCasts.{truth_cast_lawful}
@@ -47,6 +51,11 @@ row_of standard.StrPos = strpos_row
 row_of standard.TextToTruth = truth_cast_row
 row_of standard.Concat = concat_row
 row_of standard.IntToText = int_text_row
+row_of standard.SplitPart = split_part_row
+row_of standard.Replace = replace_row
+row_of standard.Repeat = repeat_row
+row_of standard.Reverse = reverse_row
+row_of standard.ConcatAll = concat_all_row
 row_of (standard.Extreme x) = extreme_row x
 row_of (standard.TruthTest t) = test_row t
 row_of (standard.BitOperator o) = operator_row o
@@ -78,6 +87,11 @@ lawful_of standard.StrPos = strpos_lawful
 lawful_of standard.TextToTruth = truth_cast_lawful
 lawful_of standard.Concat = concat_lawful
 lawful_of standard.IntToText = int_text_lawful
+lawful_of standard.SplitPart = split_part_lawful
+lawful_of standard.Replace = replace_lawful
+lawful_of standard.Repeat = repeat_lawful
+lawful_of standard.Reverse = reverse_lawful
+lawful_of standard.ConcatAll = concat_all_lawful
 lawful_of (standard.Extreme x) = extreme_lawful x
 lawful_of (standard.TruthTest t) = test_lawful t
 lawful_of (standard.BitOperator o) = operator_lawful o

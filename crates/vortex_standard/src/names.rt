@@ -19,7 +19,7 @@ use vortex_sql_texts::texts::Measure;
 use vortex_sql_texts::trims::Trim;
 
 /// The functions, each once.
-pub const FUNCTIONS: [Standard; 68] = [
+pub const FUNCTIONS: [Standard; 73] = [
     Standard::Coalesce,
     Standard::NullIf,
     Standard::Case,
@@ -37,6 +37,11 @@ pub const FUNCTIONS: [Standard; 68] = [
     Standard::TextToTruth,
     Standard::Concat,
     Standard::IntToText,
+    Standard::SplitPart,
+    Standard::Replace,
+    Standard::Repeat,
+    Standard::Reverse,
+    Standard::ConcatAll,
     Standard::Extreme(Extreme::Greatest),
     Standard::Extreme(Extreme::Least),
     Standard::TruthTest(TruthTest::IsTrue),
@@ -102,6 +107,8 @@ fn alias_of(word: &[u8]) -> Option<Standard>
 {
     if is_same_word(word, b"ifnull") {
         Some(Standard::Coalesce)
+    } else if is_same_word(word, b"if") {
+        Some(Standard::Case)
     } else if is_same_word(word, b"substring") {
         Some(Standard::Substr)
     } else if is_same_word(word, b"trim") {

@@ -100,6 +100,26 @@ macro_rules! with_row {
                 let $f = &vortex_sql_texts::letters::IntToText;
                 $texts
             }
+            Standard::SplitPart => {
+                let $f = &vortex_sql_texts::fields::SplitPart;
+                $rows
+            }
+            Standard::Replace => {
+                let $f = &vortex_sql_texts::replaced::Replace;
+                $texts
+            }
+            Standard::Repeat => {
+                let $f = &vortex_sql_texts::repeats::Repeat;
+                $texts
+            }
+            Standard::Reverse => {
+                let $f = &vortex_sql_texts::repeats::Reverse;
+                $texts
+            }
+            Standard::ConcatAll => {
+                let $f = &vortex_sql_texts::concats::ConcatAll;
+                $texts
+            }
             Standard::Extreme($f) => $rows,
             Standard::TruthTest($f) => $rows,
             Standard::BitOperator($f) => $rows,
@@ -136,6 +156,11 @@ pub enum Standard {
     TextToTruth,
     Concat,
     IntToText,
+    SplitPart,
+    Replace,
+    Repeat,
+    Reverse,
+    ConcatAll,
     Extreme(Extreme),
     TruthTest(TruthTest),
     BitOperator(BitOperator),
