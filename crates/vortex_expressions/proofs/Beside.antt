@@ -1,6 +1,6 @@
 -- An item next to a literal leaves it its default type.
-use Rattle.std.proofs.Common.{◌≡◌, Bool, true, false, ◌&&◌, ◌⊎◌, inl, inr, [], ◌∷◌, Option, Some}
-use Rattle.std.proofs.Common.{None, refl, ap, sym, subst, ◌∙◌, option_map}
+use Rattle.std.proofs.Common.{◌≡◌, Bool, true, false, ◌&&◌, ◌⊎◌, inl, inr, List, [], ◌∷◌, Option}
+use Rattle.std.proofs.Common.{Some, None, refl, ap, sym, subst, ◌∙◌, option_map}
 use Rattle.std.specs.Prelude.{map, ◌||◌, if◌then◌else◌, is_some}
 use Rattle.std.specs.Option.{option_or}
 use Rattle.std.proofs.lemmas.Bool.{false≢true}
@@ -27,15 +27,13 @@ use Rattle.vortex_expressions.specs.Outcomes.{answers, and_then, or_refuses}
 use Rattle.vortex_expressions.specs.declared.refusal.Refusal.TheVariants.{UntypedNull}
 use Rattle.vortex_expressions.specs.Items.{Item, literal, bound, Tree, meaning, bound_type}
 use Rattle.vortex_expressions.specs.Items.{literal_type, first_some, common_type, constant_at}
-use Rattle.vortex_expressions.specs.Items.{settled}
+use Rattle.vortex_expressions.specs.Items.{settled, widened, meeting}
+use Rattle.vortex_expressions.specs.Meeting.{meeting_type}
 use Rattle.vortex_expressions.specs.Calls.{truth_type, written_function, joined_type}
 use Rattle.vortex_expressions.specs.Writing.{written_operator}
 use Rattle.vortex_expressions.proofs.Options.{some_is}
 use Rattle.vortex_expressions.proofs.LiteralsBack.{Stands}
-
--- types of operands
-abbrev pub alike : LogicalType → LogicalType → Type 0
-alike t u = without_nullability t ≡ without_nullability u
+use Rattle.vortex_expressions.proofs.MetTypes.{alike, AllAlike, meeting_alike, stays}
 
 -- an item next to a literal leaves it its default type: only a number takes another
 abbrev pub Beside : Option LogicalType → LogicalType → Type 0
@@ -67,9 +65,16 @@ takes_own (Some u) (literal.text bs) t e h = e
 takes_own (Some u) (literal.truth b) t e h = e
 takes_own (Some u) literal.null t e h = absurd cc
 
+stays_there : (o : Option LogicalType) (t : Tree) (ty : LogicalType) → Beside o ty
+    → meeting o (Some ty) t ≡ answers t
+stays_there None t ty h = refl
+stays_there (Some u) t ty h = ap (λ p. widened p t) (stays u ty (h u refl))
+
 pub settles : (o : Option LogicalType) (i : Item) (t : Tree) (ty : LogicalType) → Stands i t
     → tree_type meaning t ≡ Some ty → Beside o ty → settled o i ≡ answers t
-settles o (bound u) t ty st e h = ap (λ v. answers v) st
+settles o (bound u) t ty st e h =
+    ap (λ v. meeting o (tree_type meaning v) v) st ∙ ap (λ p. meeting o p t) e
+    ∙ stays_there o t ty h
 settles o (literal l) t ty st e h =
     let s = st.0 in
     let is : s.dtype ≡ ty = some_is s.dtype ty (ap (tree_type meaning) st.1 ∙ e) in
@@ -102,38 +107,47 @@ pub pick : {A B C : Type 0} → A ⊎ B → (A → C) → (B → C) → C
 pick (inl a) f g = f a
 pick (inr b) f g = g b
 
-module _ (P : Type 0) (u : LogicalType) where
-  abbrev Tells : Option LogicalType → Type 0
-  Tells o = o ≡ Some u → P
+-- items, each of a tree of that type
+abbrev pub IsOfType : Item → LogicalType → Type 0
+IsOfType i u = (t : Tree) × Stands i t × (tree_type meaning t ≡ Some u)
 
-  no_one : Tells (first_some [])
-  no_one h = absurd cc
+abbrev pub AreOfTypes : List Item → List LogicalType → Type 0
+AreOfTypes [] [] = Unit {0}
+AreOfTypes (i ∷ is) (u ∷ us) = IsOfType i u × AreOfTypes is us
+AreOfTypes is us = ⊥
 
-  or_one : (x y : Option LogicalType) → Tells x → Tells y → Tells (option_or x y)
-  or_one x y f g h = pick (or_is x y u h) f g
+-- types, each that one apart from nullability
+abbrev pub EachAlike : LogicalType → List LogicalType → Type 0
+EachAlike v [] = Unit {0}
+EachAlike v (u ∷ us) = alike u v × EachAlike v us
 
-  common_two : (i j : Item) → Tells (bound_type i) → Tells (literal_type i) → Tells (bound_type j)
-      → Tells (literal_type j) → Tells (common_type (i ∷ j ∷ []))
-  common_two i j bi li bj lj =
-      or_one (first_some (map bound_type (i ∷ j ∷ []))) (first_some (map literal_type (i ∷ j ∷ [])))
-      (or_one (bound_type i) (first_some (bound_type j ∷ [])) bi
-      (or_one (bound_type j) (first_some []) bj no_one))
-      (or_one (literal_type i) (first_some (literal_type j ∷ [])) li
-      (or_one (literal_type j) (first_some []) lj no_one))
+pub along : (u t v : LogicalType) → u ≡ t → alike t v → alike u v
+along u t v e h = ap without_nullability e ∙ h
 
-  common_three : (i j k : Item) → Tells (bound_type i) → Tells (literal_type i)
-      → Tells (bound_type j) → Tells (literal_type j) → Tells (bound_type k)
-      → Tells (literal_type k)
-      → Tells (common_type (i ∷ j ∷ k ∷ []))
-  common_three i j k bi li bj lj bk lk =
-      or_one (first_some (map bound_type (i ∷ j ∷ k ∷ [])))
-      (first_some (map literal_type (i ∷ j ∷ k ∷ [])))
-      (or_one (bound_type i) (first_some (bound_type j ∷ bound_type k ∷ [])) bi
-      (or_one (bound_type j) (first_some (bound_type k ∷ [])) bj
-      (or_one (bound_type k) (first_some []) bk no_one)))
-      (or_one (literal_type i) (first_some (literal_type j ∷ literal_type k ∷ [])) li
-      (or_one (literal_type j) (first_some (literal_type k ∷ [])) lj
-      (or_one (literal_type k) (first_some []) lk no_one)))
+-- the common type of items is alike, where all of their types are
+module _ (v : LogicalType) where
+  bound_alike : (is : List Item) (us : List LogicalType) → AreOfTypes is us → EachAlike v us
+      → AllAlike v (map bound_type is)
+  bound_alike [] us h k = tt
+  bound_alike (i ∷ is) [] h k = absurd h
+  bound_alike (i ∷ is) (u ∷ us) h k =
+      ((λ w b. along w u v (bound_is i h.0.0 u w h.0.1 h.0.2 b) k.0), bound_alike is us h.1 k.1)
+
+  literal_alike : (w : LogicalType) (is : List Item) (us : List LogicalType) → AreOfTypes is us
+      → EachAlike v us → first_some (map literal_type is) ≡ Some w → alike w v
+  literal_alike w [] us h k e = absurd cc
+  literal_alike w (i ∷ is) [] h k e = absurd h
+  literal_alike w (i ∷ is) (u ∷ us) h k e =
+      pick (or_is (literal_type i) (first_some (map literal_type is)) w e)
+      (λ b. along w u v (literal_type_is i h.0.0 u w h.0.1 h.0.2 b) k.0)
+      (λ b. literal_alike w is us h.1 k.1 b)
+
+  pub common_alike : (w : LogicalType) (is : List Item) (us : List LogicalType) → AreOfTypes is us
+      → EachAlike v us → common_type is ≡ Some w → alike w v
+  common_alike w is us h k e =
+      pick (or_is (meeting_type None (map bound_type is)) (first_some (map literal_type is)) w e)
+      (meeting_alike v (map bound_type is) (bound_alike is us h k) w)
+      (literal_alike w is us h k)
 
 -- an item with its tree, and that tree's type
 pub record Operand (t : Tree) : Type 0 where
@@ -142,31 +156,21 @@ pub record Operand (t : Tree) : Type 0 where
   pub dtype : LogicalType
   pub typed : tree_type meaning t ≡ Some dtype
 
-pub along : (u t v : LogicalType) → u ≡ t → alike t v → alike u v
-along u t v e h = ap without_nullability e ∙ h
-
-bound_along : {t : Tree} (x : Operand t) (u v : LogicalType) → alike x.dtype v
-    → bound_type x.item ≡ Some u → alike u v
-bound_along {t} x u v h e = along u x.dtype v (bound_is x.item t x.dtype u x.stands x.typed e) h
-
-literal_along : {t : Tree} (x : Operand t) (u v : LogicalType) → alike x.dtype v
-    → literal_type x.item ≡ Some u → alike u v
-literal_along {t} x u v h e =
-    along u x.dtype v (literal_type_is x.item t x.dtype u x.stands x.typed e) h
+of_type : {t : Tree} (x : Operand t) → IsOfType x.item x.dtype
+of_type {t} x = (t, x.stands, x.typed)
 
 two_beside : {s t : Tree} (x : Operand s) (y : Operand t) (v : LogicalType) → alike x.dtype v
     → alike y.dtype v → Beside (common_type (x.item ∷ y.item ∷ [])) v
 two_beside x y v h k = λ u e i n.
-    common_two (alike u v) u x.item y.item (bound_along x u v h) (literal_along x u v h)
-    (bound_along y u v k) (literal_along y u v k) e
+    common_alike v u (x.item ∷ y.item ∷ []) (x.dtype ∷ y.dtype ∷ [])
+    (of_type x, (of_type y, tt)) (h, (k, tt)) e
 
 pub three_beside : {s t r : Tree} (x : Operand s) (y : Operand t) (z : Operand r) (v : LogicalType)
     → alike x.dtype v → alike y.dtype v → alike z.dtype v
     → Beside (common_type (x.item ∷ y.item ∷ z.item ∷ [])) v
 three_beside x y z v h k j = λ u e i n.
-    common_three (alike u v) u x.item y.item z.item (bound_along x u v h) (literal_along x u v h)
-    (bound_along y u v k) (literal_along y u v k) (bound_along z u v j)
-    (literal_along z u v j) e
+    common_alike v u (x.item ∷ y.item ∷ z.item ∷ []) (x.dtype ∷ y.dtype ∷ z.dtype ∷ [])
+    (of_type x, (of_type y, (of_type z, tt))) (h, (k, (j, tt))) e
 
 pub none_beside : (v : LogicalType) → Beside None v
 none_beside v = λ u e i n. absurd cc
@@ -174,10 +178,6 @@ none_beside v = λ u e i n. absurd cc
 pub other_beside : (w v : LogicalType) → is_integer_type w ≡ false → Beside (Some w) v
 other_beside w v h = λ u e i n.
     absurd (false≢true (sym h ∙ ap is_integer_type (some_is w u e) ∙ i))
-
-pub no_integer_beside : (o : Option LogicalType) (v : LogicalType) → is_integer_type v ≡ false
-    → Beside o v
-no_integer_beside o v h = λ u e i n. absurd (false≢true (sym h ∙ n))
 
 pub settled_operand : {t : Tree} (o : Option LogicalType) (x : Operand t) → Beside o x.dtype
     → settled o x.item ≡ answers t

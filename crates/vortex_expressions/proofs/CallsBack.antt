@@ -22,7 +22,8 @@ use Rattle.vortex_interface.specs.Trees as trees
 use Rattle.vortex_interface.specs.Trees.{place, held, leaf, constant, call, no_trees, list_of}
 use Rattle.vortex_interface.specs.declared.options.EmptyOptions.{EmptyOptions}
 use Rattle.vortex_standard.specs.declared.standard.Standard.{Standard}
-use Rattle.vortex_syntax.specs.declared.step.Test.TheVariants.{Null}
+use Rattle.vortex_syntax.specs.Syntax.{Null}
+use Rattle.vortex_syntax.specs.declared.step.Test.TheVariants as test
 use Rattle.vortex_syntax.specs.declared.step.LikeKind.{LikeKind}
 use Rattle.vortex_syntax.specs.Syntax.{Syntax, operand, negated, tested, cast}
 use Rattle.vortex_syntax.specs.Levels.{left, right, not_level, is_level, concat_level}
@@ -133,7 +134,7 @@ module _ (scope : Fields) where
       let p = operand_of m.a x s t.first t.first_typed in
       tree_standing scope a (call (ours (NullTest n)) (trees.tree x no_trees))
       (ap (item_of scope) (sym m.made)
-      ∙ ap (λ i. and_then i (tested_item Null n)) (placed is_level m.a x s)
+      ∙ ap (λ i. and_then i (tested_item test.Null n)) (placed is_level m.a x s)
       ∙ ap as_item
       (one_called (ours (NullTest n)) None p.item x
       (settled_operand None p (none_beside p.dtype)) h))

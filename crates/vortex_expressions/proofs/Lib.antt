@@ -7,6 +7,7 @@ pub mod Settling
 pub mod Quoting
 pub mod Walking
 pub mod Options
+pub mod MetTypes
 pub mod FunctionNames
 pub mod NamedSyntax
 pub mod SyntaxLevels

@@ -5,12 +5,9 @@ use Rattle.std.proofs.Common.{Option, Some, None, refl, ap, sym, subst, ◌∙�
 use Rattle.std.proofs.Common.{length, option_map}
 use Rattle.std.specs.Prelude.{is_some}
 use Rattle.std.specs.List.{list_all}
-use Rattle.std.specs.Option.{option_or}
 use Rattle.std.proofs.lemmas.Bool.{and_parts}
 use Rattle.std.proofs.lemmas.List.{reverse-append}
-use Rattle.vortex_types.specs.LogicalTypes.{LogicalType, Fields, null_type, bool_type, integer_type}
-use Rattle.vortex_types.specs.LogicalTypes.{text_type, bytes_type, struct_type, list_type}
-use Rattle.vortex_types.specs.LogicalTypes.{fixed_size_list_type, map_type, is_integer_type}
+use Rattle.vortex_types.specs.LogicalTypes.{LogicalType, Fields, bool_type}
 use Rattle.vortex_types.specs.TypeEquality.{alike_types}
 use Rattle.vortex_interface.specs.Meaning.{fits}
 use Rattle.vortex_interface.specs.Functions.{custom}
@@ -33,62 +30,22 @@ use Rattle.vortex_standard.specs.NameLaws.{named_back}
 use Rattle.vortex_syntax.specs.Syntax.{Syntax, nullary, applied, Arguments, no_arguments, argument}
 use Rattle.vortex_expressions.specs.declared.refusal.Refusal.TheVariants.{NoFunction}
 use Rattle.vortex_expressions.specs.Outcomes.{answers, and_then, or_refuses}
-use Rattle.vortex_expressions.specs.Items.{Item, Tree, meaning, bound_type, literal_type}
-use Rattle.vortex_expressions.specs.Items.{first_some, common_type, settled, all_settled, call_of}
-use Rattle.vortex_expressions.specs.Items.{as_item}
-use Rattle.vortex_expressions.specs.Applied.{callable, values_of, argument_type, function_call}
-use Rattle.vortex_expressions.specs.Applied.{applied_item}
+use Rattle.vortex_expressions.specs.Items.{Item, Tree, meaning, callable, common_type, truth_type}
+use Rattle.vortex_expressions.specs.Items.{settled, all_settled, call_of, as_item}
+use Rattle.vortex_expressions.specs.Applied.{values_of, cases_settled, arguments_settled}
+use Rattle.vortex_expressions.specs.Applied.{function_call, applied_item}
 use Rattle.vortex_expressions.specs.Binding.{with_item, of_items, item_of, items_of}
 use Rattle.vortex_expressions.specs.Writing.{syntax_of, syntaxes_of, all_present, applied_from}
 use Rattle.vortex_expressions.specs.Writing.{named_syntax}
 use Rattle.vortex_expressions.proofs.Options.{some_is, mapped_is}
 use Rattle.vortex_expressions.proofs.LiteralsBack.{Stands, Standing, tree_standing}
-use Rattle.vortex_expressions.proofs.Beside.{alike, Beside, settles, bound_is, literal_type_is, or_is}
-use Rattle.vortex_expressions.proofs.Beside.{pick, along, none_beside, no_integer_beside, same_alike}
+use Rattle.vortex_expressions.proofs.MetTypes.{alike}
+use Rattle.vortex_expressions.proofs.Beside.{Beside, AreOfTypes, EachAlike, common_alike, settles}
+use Rattle.vortex_expressions.proofs.Beside.{none_beside, other_beside, same_alike}
 use Rattle.vortex_expressions.proofs.TypedCalls.{typed_call, head_is, arity_is}
 
 abbrev Trees : Type 0
 Trees = trees.Trees Standard EmptyOptions
-
--- items, each of a tree of that type
-abbrev IsOfType : Item → LogicalType → Type 0
-IsOfType i u = (t : Tree) × Stands i t × (tree_type meaning t ≡ Some u)
-
-abbrev AreOfTypes : List Item → List LogicalType → Type 0
-AreOfTypes [] [] = Unit {0}
-AreOfTypes (i ∷ is) (u ∷ us) = IsOfType i u × AreOfTypes is us
-AreOfTypes is us = ⊥
-
--- types, each that one apart from nullability
-abbrev EachAlike : LogicalType → List LogicalType → Type 0
-EachAlike v [] = Unit {0}
-EachAlike v (u ∷ us) = alike u v × EachAlike v us
-
--- the common type of items is alike, where all of their types are
-module _ (v w : LogicalType) where
-  first_bound : (is : List Item) (us : List LogicalType) → AreOfTypes is us → EachAlike v us
-      → first_some (map bound_type is) ≡ Some w → alike w v
-  first_bound [] us h k e = absurd cc
-  first_bound (i ∷ is) [] h k e = absurd h
-  first_bound (i ∷ is) (u ∷ us) h k e =
-      pick (or_is (bound_type i) (first_some (map bound_type is)) w e)
-      (λ b. along w u v (bound_is i h.0.0 u w h.0.1 h.0.2 b) k.0)
-      (λ b. first_bound is us h.1 k.1 b)
-
-  first_literal : (is : List Item) (us : List LogicalType) → AreOfTypes is us → EachAlike v us
-      → first_some (map literal_type is) ≡ Some w → alike w v
-  first_literal [] us h k e = absurd cc
-  first_literal (i ∷ is) [] h k e = absurd h
-  first_literal (i ∷ is) (u ∷ us) h k e =
-      pick (or_is (literal_type i) (first_some (map literal_type is)) w e)
-      (λ b. along w u v (literal_type_is i h.0.0 u w h.0.1 h.0.2 b) k.0)
-      (λ b. first_literal is us h.1 k.1 b)
-
-  common_alike : (is : List Item) (us : List LogicalType) → AreOfTypes is us → EachAlike v us
-      → common_type is ≡ Some w → alike w v
-  common_alike is us h k e =
-      pick (or_is (first_some (map bound_type is)) (first_some (map literal_type is)) w e)
-      (first_bound is us h k) (first_literal is us h k)
 
 -- each literal has its default type next to the others
 abbrev EachBeside : Option LogicalType → List LogicalType → Type 0
@@ -110,29 +67,7 @@ all_alike_each v (u ∷ us) e =
     let p = and_parts (alike_types v u) (all_alike v us) e in
     (sym (same_alike v u p.0), all_alike_each v us p.1)
 
--- cases: conditions are no integers, and values are alike
-no_integer : (u : LogicalType) → is_kind kind.Truth u ≡ true → is_integer_type u ≡ false
-no_integer (bool_type n) e = refl
-no_integer (integer_type p n) e = absurd cc
-no_integer (text_type n) e = absurd cc
-no_integer null_type e = absurd cc
-no_integer (bytes_type n) e = absurd cc
-no_integer (struct_type fs n) e = absurd cc
-no_integer (list_type t n) e = absurd cc
-no_integer (fixed_size_list_type t k n) e = absurd cc
-no_integer (map_type k t n) e = absurd cc
-
-case_each : (v : LogicalType) (o : Option LogicalType) (us : List LogicalType)
-    → ((w : LogicalType) → o ≡ Some w → alike w v) → are_cases v us ≡ true → EachBeside o us
-case_each v o [] f e = tt
-case_each v o (u ∷ []) f e = ((λ w g i n. f w g ∙ same_alike v u e), tt)
-case_each v o (c ∷ u ∷ us) f e =
-    let p = and_parts (is_kind kind.Truth c) (alike_types v u && are_cases v us) e in
-    let q = and_parts (alike_types v u) (are_cases v us) p.1 in (
-      no_integer_beside o c (no_integer c p.0),
-      ((λ w g i n. f w g ∙ same_alike v u q.0), case_each v o us f q.1),
-    )
-
+-- cases: values are alike
 case_values : (v : LogicalType) (us : List LogicalType) → are_cases v us ≡ true
     → EachAlike v (values_of us)
 case_values v [] e = tt
@@ -151,27 +86,6 @@ values_typed [] (u ∷ us) h = absurd h
 values_typed (i ∷ is) [] h = absurd h
 values_typed (i ∷ []) (u ∷ t ∷ us) h = absurd h.1
 values_typed (i ∷ j ∷ is) (u ∷ []) h = absurd h.1
-
-beside_all : (s : Takes) (is : List Item) (us : List LogicalType) → AreOfTypes is us
-    → are_taken s us ≡ true → EachBeside (argument_type s is) us
-beside_all (Each a b c) is us h e = none_each us
-beside_all (Alike k) is (v ∷ us) h e =
-    let p = and_parts (is_kind k v) (all_alike v us) e in
-    let each : EachAlike v (v ∷ us) = (refl, all_alike_each v us p.1) in
-    alike_each v (common_type is) (v ∷ us) (λ w. common_alike v w is (v ∷ us) h each) each
-beside_all (Alike k) is [] h e = absurd cc
-beside_all Cases is (c ∷ v ∷ us) h e =
-    let p = and_parts (is_kind kind.Truth c) (is_kind kind.Any v && are_cases v us) e in
-    let q = and_parts (is_kind kind.Any v) (are_cases v us) p.1 in
-    let o = common_type (values_of is) in
-    let each : EachAlike v (v ∷ values_of us) = (refl, case_values v us q.1) in
-    let f : (w : LogicalType) → o ≡ Some w → alike w v =
-    λ w. common_alike v w (values_of is) (v ∷ values_of us) (values_typed is (c ∷ v ∷ us) h) each in (
-      no_integer_beside o c (no_integer c p.0),
-      ((λ w g i n. f w g), case_each v o us f q.1),
-    )
-beside_all Cases is (c ∷ []) h e = absurd cc
-beside_all Cases is [] h e = absurd cc
 
 -- arguments that bind to items of trees
 abbrev EachStands : List Item → Trees → Type 0
@@ -214,6 +128,56 @@ settled_each o (i ∷ is) (trees.tree t ts) us h e k =
 settled_each o [] (trees.tree t ts) us h e k = absurd h
 settled_each o (i ∷ is) no_trees us h e k = absurd h
 
+-- conditions have their types next to a truth value
+cases_each : (o : Option LogicalType) (is : List Item) (ts : Trees) (us : List LogicalType)
+    → EachStands is ts → tree_types meaning ts ≡ Some us → EachBeside o (values_of us)
+    → cases_settled o is ≡ answers (list_of ts)
+cases_each o [] no_trees us h e k = refl
+cases_each o (i ∷ []) (trees.tree t no_trees) us h e k =
+    let a = head_is (tree_type meaning t) (Some []) us e in
+    let one : us ≡ a.first ∷ [] = a.all ∙ ap (λ vs. a.first ∷ vs) (sym (some_is [] a.rest a.others)) in
+    let b : EachBeside o (a.first ∷ []) = subst (λ (vs : List LogicalType). EachBeside o (values_of vs)) one k in
+    settled_each o (i ∷ []) (trees.tree t no_trees) (a.first ∷ []) h (e ∙ ap (λ v. Some v) one) b
+cases_each o (i ∷ j ∷ is) (trees.tree s (trees.tree t ts)) us h e k =
+    let a = head_is (tree_type meaning s) (tree_types meaning (trees.tree t ts)) us e in
+    let b = head_is (tree_type meaning t) (tree_types meaning ts) a.rest a.others in
+    let c : Beside o b.first × EachBeside o (values_of b.rest) =
+    subst (λ (vs : List LogicalType). EachBeside o (values_of vs)) (a.all ∙ ap (λ vs. a.first ∷ vs) b.all) k in
+    ap (λ v. and_then v (λ x. and_then (settled o j)
+    (λ y. and_then (cases_settled o is) (λ xs. answers (x ∷ y ∷ xs)))))
+    (settles truth_type i s a.first h.0 a.here (other_beside (bool_type false) a.first refl))
+    ∙ ap (λ v. and_then v (λ y. and_then (cases_settled o is) (λ xs. answers (s ∷ y ∷ xs))))
+    (settles o j t b.first h.1.0 b.here c.0)
+    ∙ ap (λ v. and_then v (λ xs. answers (s ∷ t ∷ xs)))
+    (cases_each o is ts b.rest h.1.1 b.others c.1)
+cases_each o [] (trees.tree t ts) us h e k = absurd h
+cases_each o (i ∷ is) no_trees us h e k = absurd h
+cases_each o (i ∷ []) (trees.tree t (trees.tree s ts)) us h e k = absurd h.1
+cases_each o (i ∷ j ∷ is) (trees.tree t no_trees) us h e k = absurd h.1
+
+arguments_back : (s : Takes) (is : List Item) (ts : Trees) (us : List LogicalType)
+    → EachStands is ts → tree_types meaning ts ≡ Some us → are_taken s us ≡ true
+    → arguments_settled s is ≡ answers (list_of ts)
+arguments_back (Each a b c) is ts us h e g = settled_each None is ts us h e (none_each us)
+arguments_back (Alike k) is ts (v ∷ us) h e g =
+    let p = and_parts (is_kind k v) (all_alike v us) g in
+    let each : EachAlike v (v ∷ us) = (refl, all_alike_each v us p.1) in
+    let typed = types_there is ts (v ∷ us) h e in
+    settled_each (common_type is) is ts (v ∷ us) h e
+    (alike_each v (common_type is) (v ∷ us) (λ w. common_alike v w is (v ∷ us) typed each) each)
+arguments_back (Alike k) is ts [] h e g = absurd cc
+arguments_back Cases is ts (c ∷ v ∷ us) h e g =
+    let p = and_parts (is_kind kind.Truth c) (is_kind kind.Any v && are_cases v us) g in
+    let q = and_parts (is_kind kind.Any v) (are_cases v us) p.1 in
+    let each : EachAlike v (v ∷ values_of us) = (refl, case_values v us q.1) in
+    let typed = values_typed is (c ∷ v ∷ us) (types_there is ts (c ∷ v ∷ us) h e) in
+    let o = common_type (values_of is) in
+    cases_each o is ts (c ∷ v ∷ us) h e
+    (alike_each v o (v ∷ values_of us)
+    (λ w. common_alike v w (values_of is) (v ∷ values_of us) typed each) each)
+arguments_back Cases is ts (c ∷ []) h e g = absurd cc
+arguments_back Cases is ts [] h e g = absurd cc
+
 -- the call of such items
 applied_made : (f : Standard) (ts : Trees)
     → is_some (tree_type meaning (call (callable f) ts)) ≡ true
@@ -235,10 +199,8 @@ called_back f is ts s h =
     let t = typed_call (callable f) ts h in
     let r = there_is (row_type (row_of f) t.types) t.taken.taken in
     let taken = (accepted (row_of f) t.types r.0 r.1).taken in
-    let takes = (row_of f).types.takes in
-    let beside = beside_all takes is t.types (types_there is ts t.types s t.typed) taken in
     ap (λ v. and_then v (call_of (callable f)))
-    (settled_each (argument_type takes is) is ts t.types s t.typed beside)
+    (arguments_back (row_of f).types.takes is ts t.types s t.typed taken)
     ∙ applied_made f ts h
 
 module _ (scope : Fields) where

@@ -16,11 +16,11 @@ AllOf P [] = Unit {0}
 AllOf P (a ∷ bs) = P a × AllOf P bs
 
 level_from : (w : List ℕ) (args : Arguments) (a : Syntax) (bs : List Syntax)
-    → level (applied_from w args a bs) ≡ 11
+    → level (applied_from w args a bs) ≡ 12
 level_from w args a [] = refl
 level_from w args a (b ∷ bs) = level_from w (argument args a) b bs
 
-pub level_named : (w : List ℕ) (bs : List Syntax) → level (named_syntax w bs) ≡ 11
+pub level_named : (w : List ℕ) (bs : List Syntax) → level (named_syntax w bs) ≡ 12
 level_named w [] = refl
 level_named w (a ∷ bs) = level_from w no_arguments a bs
 

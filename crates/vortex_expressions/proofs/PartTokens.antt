@@ -14,7 +14,7 @@ use Rattle.vortex_interface.specs.declared.options.EmptyOptions.{EmptyOptions}
 use Rattle.vortex_standard.specs.declared.standard.Standard.{Standard}
 use Rattle.vortex_syntax.specs.Nesting.{nesting_limit}
 use Rattle.vortex_syntax.specs.declared.step.WrittenOperator as syntax
-use Rattle.vortex_syntax.specs.declared.step.Test.TheVariants.{Null}
+use Rattle.vortex_syntax.specs.Syntax.{Null}
 use Rattle.vortex_syntax.specs.declared.token.Sign.TheVariants as sign
 use Rattle.vortex_syntax.specs.Tokens.{Token, nullable, sign}
 use Rattle.vortex_syntax.specs.Syntax.{Syntax, negated, tested, cast}

@@ -9,6 +9,7 @@ use Rattle.std.specs.Str.{chars}
 use Rattle.std.proofs.lemmas.Bool.{and_parts}
 use Rattle.std.proofs.lemmas.Str.{scalars-chars}
 use lib.Utf8.{scalar, scalars}
+use Rattle.vortex_types.specs.declared.dtype.PType.{PType}
 use Rattle.vortex_types.specs.LogicalTypes.{Fields, LogicalType}
 use Rattle.vortex_types.specs.LogicalTypes.{text_type}
 use Rattle.vortex_types.specs.LogicalTypes.{find_field}
@@ -32,6 +33,7 @@ use Rattle.vortex_syntax.specs.Tokens as token
 use Rattle.vortex_syntax.specs.Syntax.{Syntax, operand, negative, typed, grouped, negated, joined}
 use Rattle.vortex_syntax.specs.Syntax.{minus, tested, distinct, between, matched, listed, cast}
 use Rattle.vortex_syntax.specs.Syntax.{chosen, chosen_else, nullary, applied, Arguments}
+use Rattle.vortex_syntax.specs.Syntax.{plus, bit_not, null_tested}
 use Rattle.vortex_syntax.specs.Syntax.{no_arguments, argument, Branches, without_operand}
 use Rattle.vortex_syntax.specs.Syntax.{of_operand, branch}
 use Rattle.vortex_expressions.specs.Literals as literal
@@ -45,11 +47,14 @@ use Rattle.vortex_standard.specs.declared.standard.Standard.{Standard}
 use Rattle.vortex_standard.specs.declared.standard.Standard.TheVariants as standard
 use Rattle.vortex_sql_choices.specs.declared.truth_tests.TruthTest.TheVariants.{IsTrue, IsFalse}
 use Rattle.vortex_sql_choices.specs.declared.truth_tests.TruthTest.TheVariants.{IsUnknown}
+use Rattle.vortex_sql_rows.specs.declared.types.Takes.{Takes}
+use Rattle.vortex_sql_rows.specs.declared.types.Takes.TheVariants.{Alike, Each, Cases}
 use Rattle.vortex_standard.specs.Standard.{row_of}
 use Rattle.vortex_standard.specs.Names.{standard_named}
 use Rattle.vortex_expressions.specs.Items.{Item, literal, bound, Tree, Callable, meaning}
 use Rattle.vortex_expressions.specs.Items.{common_type, constant_at, settled, all_settled, call_of}
-use Rattle.vortex_expressions.specs.Items.{called, refused_at, place_of, unfit}
+use Rattle.vortex_expressions.specs.Items.{called, callable, refused_at, place_of, unfit, widened}
+use Rattle.vortex_expressions.specs.Items.{meeting}
 use Rattle.vortex_expressions.specs.Calls.{unquoted, text_of, between_quotes, as_item, field_found}
 use Rattle.vortex_expressions.specs.Calls.{column_of, sign_item, text_item, operand_item}
 use Rattle.vortex_expressions.specs.Calls.{type_of_name, typed_item, cast_to, cast_item, truth_type}
@@ -57,14 +62,16 @@ use Rattle.vortex_expressions.specs.Calls.{written_function, joined_type, negate
 use Rattle.vortex_expressions.specs.Calls.{joined_item, tested_item, distinct_item, within_bounds, between_all}
 use Rattle.vortex_expressions.specs.Calls.{between_item, like_options, escape_said, escape_in}
 use Rattle.vortex_expressions.specs.Calls.{liked_item, matched_item, minus_item, listed_item}
-use Rattle.vortex_expressions.specs.Calls.{chosen_item}
-use Rattle.vortex_expressions.specs.Applied.{callable, argument_type, function_call}
-use Rattle.vortex_expressions.specs.Applied.{applied_item}
+use Rattle.vortex_expressions.specs.Calls.{plus_item, bit_not_item, is_number}
+use Rattle.vortex_expressions.specs.Calls.{equal_cases, conditions_of, chosen_item, truth_test}
+use Rattle.vortex_expressions.specs.Applied.{values_of, cases_settled, arguments_settled}
+use Rattle.vortex_expressions.specs.Applied.{function_call, applied_item}
+use Rattle.vortex_expressions.specs.Meeting.{widened_to}
 use Rattle.vortex_expressions.specs.Casts.{cast_function, cast_by, cast_from, cast_tree}
 use Rattle.vortex_types.specs.TypeEquality.{alike_types}
 use Rattle.vortex_expressions.specs.Binding.{with_item, item_of, items_after, branch_items}
 use Rattle.vortex_expressions.specs.Binding.{tree_of}
-use Rattle.vortex_syntax.specs.Postfix.{has_operand}
+use Rattle.vortex_syntax.specs.Postfix.{has_operand, test_of}
 use Rattle.vortex_expressions.specs.Writing.{IsCallable, IsOver, AllOver}
 use Rattle.vortex_expressions.proofs.LiteralsOver.{answers_is, then_is, there_is, some_is}
 use Rattle.vortex_expressions.proofs.LiteralsOver.{text_read, IsText, value_typed}
@@ -81,27 +88,9 @@ module _ (scope : Fields) where
       let h = value_typed ty l m.a u (there_is NotHeld (value_at ty l) m.a m.first) in
       subst (IsOver scope) (answers_is (constant m.a) t m.second) h
 
-  settled_over : (o : Option LogicalType) (i : Item) (t : Tree) → ItemOver i
-      → settled o i ≡ answers t → IsOver scope t
-  settled_over o (bound u) t h e = subst (IsOver scope) (answers_is u t e) h
-  settled_over o (literal l) t h e =
-      let m = then_is (or_refuses UntypedNull (type_beside o l)) (constant_at l) t e in
-      constant_over l m.a t h m.second
-
   abbrev AllItems : List Item → Type 0
   AllItems [] = Unit {0}
   AllItems (i ∷ is) = ItemOver i × AllItems is
-
-  all_over : (o : Option LogicalType) (is : List Item) (ts : List Tree) → AllItems is
-      → all_settled o is ≡ answers ts → AllOver scope (trees_of ts)
-  all_over o [] ts h e =
-      subst (λ (xs : List Tree). AllOver scope (trees_of xs)) (answers_is [] ts e) tt
-  all_over o (i ∷ is) ts h e =
-      let m = then_is (settled o i)
-      (λ t. and_then (all_settled o is) (λ us. answers (t ∷ us))) ts e in
-      let k = then_is (all_settled o is) (λ us. answers (m.a ∷ us)) ts m.second in
-      subst (λ (xs : List Tree). AllOver scope (trees_of xs)) (answers_is (m.a ∷ k.a) ts k.second)
-      (settled_over o i m.a h.0 m.first, all_over o is k.a h.1 k.first)
 
   made_over : (f : Callable) (ts : List Tree) (t : Tree) → IsCallable f
       → AllOver scope (trees_of ts) → call_of f ts ≡ answers t → IsOver scope t
@@ -126,6 +115,36 @@ module _ (scope : Fields) where
       by true true k g = subst (IsOver scope) (answers_is (call f (trees_of ts)) t g) (c, k, h)
       by true false k g = refused (place_of f (types_or_none (tree_types meaning (trees_of ts)))) g
       by false b k g = not_unfit f g
+
+  widened_over : (o : Option PType) (u t : Tree) → IsOver scope u → widened o u ≡ answers t
+      → IsOver scope t
+  widened_over None u t h e = subst (IsOver scope) (answers_is u t e) h
+  widened_over (Some p) u t h e =
+      made_over (callable (standard.Widen (record { ptype = p }))) (u ∷ []) t tt (h, tt) e
+
+  meeting_over : (o p : Option LogicalType) (u t : Tree) → IsOver scope u
+      → meeting o p u ≡ answers t → IsOver scope t
+  meeting_over None p u t h e = subst (IsOver scope) (answers_is u t e) h
+  meeting_over (Some k) None u t h e = subst (IsOver scope) (answers_is u t e) h
+  meeting_over (Some k) (Some l) u t h e = widened_over (widened_to k l) u t h e
+
+  settled_over : (o : Option LogicalType) (i : Item) (t : Tree) → ItemOver i
+      → settled o i ≡ answers t → IsOver scope t
+  settled_over o (bound u) t h e = meeting_over o (tree_type meaning u) u t h e
+  settled_over o (literal l) t h e =
+      let m = then_is (or_refuses UntypedNull (type_beside o l)) (constant_at l) t e in
+      constant_over l m.a t h m.second
+
+  all_over : (o : Option LogicalType) (is : List Item) (ts : List Tree) → AllItems is
+      → all_settled o is ≡ answers ts → AllOver scope (trees_of ts)
+  all_over o [] ts h e =
+      subst (λ (xs : List Tree). AllOver scope (trees_of xs)) (answers_is [] ts e) tt
+  all_over o (i ∷ is) ts h e =
+      let m = then_is (settled o i)
+      (λ t. and_then (all_settled o is) (λ us. answers (t ∷ us))) ts e in
+      let k = then_is (all_settled o is) (λ us. answers (m.a ∷ us)) ts m.second in
+      subst (λ (xs : List Tree). AllOver scope (trees_of xs)) (answers_is (m.a ∷ k.a) ts k.second)
+      (settled_over o i m.a h.0 m.first, all_over o is k.a h.1 k.first)
 
   called_over : (f : Callable) (o : Option LogicalType) (is : List Item) (t : Tree) → IsCallable f
       → AllItems is → called f o is ≡ answers t → IsOver scope t
@@ -244,6 +263,11 @@ module _ (scope : Fields) where
   written_callable written.Div = tt
   written_callable written.Mod = tt
   written_callable written.Concat = tt
+  written_callable written.BitAnd = tt
+  written_callable written.BitOr = tt
+  written_callable written.BitXor = tt
+  written_callable written.ShiftLeft = tt
+  written_callable written.ShiftRight = tt
 
   joined_over : (o : syntax.WrittenOperator) (j k i : Item) → ItemOver j → ItemOver k
       → joined_item o j k ≡ answers i → ItemOver i
@@ -258,25 +282,59 @@ module _ (scope : Fields) where
   negated_over true u t h e = called_over (ours Not) None (bound u ∷ []) t tt (h, tt) e
   negated_over false u t h e = subst (IsOver scope) (answers_is u t e) h
 
-  -- a call of SQL's functions, negated where the flag is true
-  negated_call_over : (f : Standard) (o : Option LogicalType) (is : List Item) (n : Bool) (i : Item)
-      → AllItems is → as_item (and_then (called (callable f) o is) (negated_if n)) ≡ answers i
+  -- calls of SQL's functions
+  cases_over : (o : Option LogicalType) (is : List Item) (ts : List Tree) → AllItems is
+      → cases_settled o is ≡ answers ts → AllOver scope (trees_of ts)
+  cases_over o [] ts h e =
+      subst (λ (xs : List Tree). AllOver scope (trees_of xs)) (answers_is [] ts e) tt
+  cases_over o (v ∷ []) ts h e = all_over o (v ∷ []) ts h e
+  cases_over o (c ∷ v ∷ is) ts h e =
+      let m = then_is (settled truth_type c)
+      (λ a. and_then (settled o v)
+      (λ b. and_then (cases_settled o is) (λ us. answers (a ∷ b ∷ us)))) ts e in
+      let n = then_is (settled o v)
+      (λ b. and_then (cases_settled o is) (λ us. answers (m.a ∷ b ∷ us))) ts m.second in
+      let k = then_is (cases_settled o is) (λ us. answers (m.a ∷ n.a ∷ us)) ts n.second in
+      subst (λ (xs : List Tree). AllOver scope (trees_of xs))
+      (answers_is (m.a ∷ n.a ∷ k.a) ts k.second) (
+        settled_over truth_type c m.a h.0 m.first,
+        (settled_over o v n.a h.1.0 n.first, cases_over o is k.a h.1.1 k.first),
+      )
+
+  arguments_over : (s : Takes) (is : List Item) (ts : List Tree) → AllItems is
+      → arguments_settled s is ≡ answers ts → AllOver scope (trees_of ts)
+  arguments_over (Alike k) is ts h e = all_over (common_type is) is ts h e
+  arguments_over (Each a b c) is ts h e = all_over None is ts h e
+  arguments_over Cases is ts h e = cases_over (common_type (values_of is)) is ts h e
+
+  call_over : (f : Standard) (is : List Item) (t : Tree) → AllItems is
+      → function_call f is ≡ answers t → IsOver scope t
+  call_over f is t h e =
+      let s = (row_of f).types.takes in
+      let m = then_is (arguments_settled s is) (call_of (callable f)) t e in
+      made_over (callable f) m.a t tt (arguments_over s is m.a h m.first) m.second
+
+  -- negated where the flag is true
+  negated_item_over : (o : Outcome Tree) (n : Bool) (i : Item)
+      → ((t : Tree) → o ≡ answers t → IsOver scope t)
+      → as_item (and_then o (negated_if n)) ≡ answers i → ItemOver i
+  negated_item_over o n i f e =
+      as_item_over (and_then o (negated_if n)) i
+      (λ t x. let y = then_is o (negated_if n) t x in
+      negated_over n y.a t (f y.a y.first) y.second) e
+
+  truth_over : (f : Standard) (n : Bool) (j i : Item) → ItemOver j → truth_test f n j ≡ answers i
       → ItemOver i
-  negated_call_over f o is n i h e =
-      as_item_over (and_then (called (callable f) o is) (negated_if n)) i
-      (λ t x.
-      let y = then_is (called (callable f) o is) (negated_if n) t x in
-      negated_over n y.a t (called_over (callable f) o is y.a tt h y.first) y.second) e
+  truth_over f n j i h e =
+      negated_item_over (called (callable f) truth_type (j ∷ [])) n i
+      (λ t g. called_over (callable f) truth_type (j ∷ []) t tt (h, tt) g) e
 
   tested_over : (k : Test) (n : Bool) (j i : Item) → ItemOver j → tested_item k n j ≡ answers i
       → ItemOver i
   tested_over test.Null n j i h e = null_over n j i h e
-  tested_over test.True n j i h e =
-      negated_call_over (standard.TruthTest IsTrue) truth_type (j ∷ []) n i (h, tt) e
-  tested_over test.False n j i h e =
-      negated_call_over (standard.TruthTest IsFalse) truth_type (j ∷ []) n i (h, tt) e
-  tested_over test.Unknown n j i h e =
-      negated_call_over (standard.TruthTest IsUnknown) truth_type (j ∷ []) n i (h, tt) e
+  tested_over test.True n j i h e = truth_over (standard.TruthTest IsTrue) n j i h e
+  tested_over test.False n j i h e = truth_over (standard.TruthTest IsFalse) n j i h e
+  tested_over test.Unknown n j i h e = truth_over (standard.TruthTest IsUnknown) n j i h e
 
   between_over : (n : Bool) (j k l i : Item) → ItemOver j → ItemOver k → ItemOver l
       → between_item n j k l ≡ answers i → ItemOver i
@@ -347,20 +405,51 @@ module _ (scope : Fields) where
       → IsItemOver r → AreOver (with_item (with_item o p) r)
   pair_over o p r h k j = more_over (with_item o p) r (more_over o p h k) j
 
+  equal_over : (a : Item) (is : List Item) → ItemOver a → AllItems is → AreOver (equal_cases a is)
+  equal_over a [] h k js e = subst AllItems (answers_is [] js e) tt
+  equal_over a (v ∷ []) h k js e = subst AllItems (answers_is (v ∷ []) js e) k
+  equal_over a (x ∷ v ∷ is) h k js e =
+      let m = then_is (joined_item written.Equal a x)
+      (λ c. and_then (equal_cases a is) (λ us. answers (c ∷ v ∷ us))) js e in
+      let n = then_is (equal_cases a is) (λ us. answers (m.a ∷ v ∷ us)) js m.second in
+      subst AllItems (answers_is (m.a ∷ v ∷ n.a) js n.second)
+      (joined_over written.Equal a x m.a h k.0 m.first, (k.1.0, equal_over a is h k.1.1 n.a n.first))
+
+  conditions_over : (b : Bool) (is : List Item) → AllItems is → AreOver (conditions_of b is)
+  conditions_over true [] h js e = subst AllItems (answers_is [] js e) tt
+  conditions_over true (a ∷ is) h js e = equal_over a is h.0 h.1 js e
+  conditions_over false is h js e = subst AllItems (answers_is is js e) h
+
   chosen_over : (b : Bool) (is : List Item) (i : Item) → AllItems is
       → chosen_item b is ≡ answers i → ItemOver i
-  chosen_over true is i h e = absurd cc
-  chosen_over false is i h e =
-      let o = argument_type (row_of standard.Case).types.takes is in
-      as_item_over (function_call standard.Case is) i
-      (λ t g. called_over (callable standard.Case) o is t tt h g) e
+  chosen_over b is i h e =
+      let m = then_is (conditions_of b is) (λ js. as_item (function_call standard.Case js)) i e in
+      as_item_over (function_call standard.Case m.a) i
+      (λ t g. call_over standard.Case m.a t (conditions_over b is h m.a m.first) g) m.second
 
   applied_over : (w : List ℕ) (is : List Item) (i : Item) → AllItems is
       → applied_item w is ≡ answers i → ItemOver i
   applied_over w is i h e =
       let m = then_is (or_refuses NoFunction (standard_named w)) (λ f. as_item (function_call f is)) i e in
-      let o = argument_type (row_of m.a).types.takes is in
-      as_item_over (function_call m.a is) i (λ t g. called_over (callable m.a) o is t tt h g) m.second
+      as_item_over (function_call m.a is) i (λ t g. call_over m.a is t h g) m.second
+
+  item_is : (j i : Item) → answers j ≡ answers i → j ≡ i
+  item_is j i e = cc
+
+  plus_over : (j i : Item) → ItemOver j → plus_item j ≡ answers i → ItemOver i
+  plus_over j i h e = by (is_number j) e
+    where
+      by : (b : Bool)
+          → (if b then answers j
+          else joined_item written.Add (literal (literal.number (codes "0"))) j) ≡ answers i
+          → ItemOver i
+      by true g = subst ItemOver (item_is j i g) h
+      by false g = joined_over written.Add (literal (literal.number (codes "0"))) j i tt h g
+
+  function_over : (f : Standard) (is : List Item) (i : Item) → AllItems is
+      → as_item (function_call f is) ≡ answers i → ItemOver i
+  function_over f is i h e =
+      as_item_over (function_call f is) i (λ t g. call_over f is t h g) e
 
   mutual
     item_over : (a : Syntax) (i : Item) → item_of scope a ≡ answers i → ItemOver i
@@ -375,14 +464,23 @@ module _ (scope : Fields) where
         let m = then_is (item_of scope a) (λ x. and_then (item_of scope b) (joined_item o x)) i e in
         let n = then_is (item_of scope b) (joined_item o m.a) i m.second in
         joined_over o m.a n.a i (item_over a m.a m.first) (item_over b n.a n.first) n.second
-    item_over (tested k n a) i e = let m = then_is (item_of scope a) (tested_item k n) i e in
-        tested_over k n m.a i (item_over a m.a m.first) m.second
+    item_over (tested k n a) i e =
+        let m = then_is (item_of scope a) (tested_item (test_of k) n) i e in
+        tested_over (test_of k) n m.a i (item_over a m.a m.first) m.second
+    item_over (null_tested n a) i e =
+        let m = then_is (item_of scope a) (tested_item test.Null n) i e in
+        null_over n m.a i (item_over a m.a m.first) m.second
+    item_over (plus a) i e = let m = then_is (item_of scope a) plus_item i e in
+        plus_over m.a i (item_over a m.a m.first) m.second
+    item_over (bit_not a) i e = let m = then_is (item_of scope a) bit_not_item i e in
+        function_over standard.BitNot (m.a ∷ []) i (item_over a m.a m.first, tt) m.second
     item_over (distinct n a b) i e =
         let m = then_is (item_of scope a) (λ x. and_then (item_of scope b) (distinct_item n x)) i e in
         let k = then_is (item_of scope b) (distinct_item n m.a) i m.second in
         let is = m.a ∷ k.a ∷ [] in
-        negated_call_over standard.IsDistinct (common_type is) is n i
-        (item_over a m.a m.first, (item_over b k.a k.first, tt)) k.second
+        negated_item_over (function_call standard.IsDistinct is) n i
+        (λ t g. call_over standard.IsDistinct is t
+        (item_over a m.a m.first, (item_over b k.a k.first, tt)) g) k.second
     item_over (between n a low high) i e =
         let m = then_is (item_of scope a)
         (λ x. and_then (item_of scope low)
@@ -406,12 +504,12 @@ module _ (scope : Fields) where
         let first = with_item (answers []) (item_of scope a) in
         let m = then_is (with_item (items_after scope first args) (item_of scope b))
         (λ is. listed_item n (reverse is)) i e in
-        let o = (row_of standard.InList).types.takes in
-        negated_call_over standard.InList (argument_type o (reverse m.a)) (reverse m.a) n i
+        negated_item_over (function_call standard.InList (reverse m.a)) n i
+        (λ t g. call_over standard.InList (reverse m.a) t
         (all_reversed m.a
         (more_over (items_after scope first args) (item_of scope b)
         (items_over args first (more_over (answers []) (item_of scope a) none_over (item_over a)))
-        (item_over b) m.a m.first)) m.second
+        (item_over b) m.a m.first)) g) m.second
     item_over (chosen bs c v) i e =
         let o = with_item (with_item (branch_items scope bs) (item_of scope c)) (item_of scope v) in
         let m = then_is o (λ is. chosen_item (has_operand bs) (reverse is)) i e in
@@ -426,8 +524,8 @@ module _ (scope : Fields) where
         (all_reversed m.a (more_over p (item_of scope d)
         (pair_over (branch_items scope bs) (item_of scope c) (item_of scope v) (branches_over bs)
         (item_over c) (item_over v)) (item_over d) m.a m.first)) m.second
-    item_over (nullary w) i e = applied_over w [] i tt e
-    item_over (applied w args a) i e =
+    item_over (nullary p w) i e = applied_over w [] i tt e
+    item_over (applied p w args a) i e =
         let some = items_after scope (answers []) args in
         let m = then_is (with_item some (item_of scope a)) (λ is. applied_item w (reverse is)) i e in
         applied_over w (reverse m.a) i

@@ -26,11 +26,14 @@ use Rattle.vortex_syntax.specs.Levels.{Fits, AllFit, BranchesFit, level, is_oper
 use Rattle.vortex_syntax.specs.AnswerLists as syntax
 use Rattle.vortex_syntax.specs.AnswerLists.{is_name, SpellsAnswers, one, more, SpellsAnswer}
 use Rattle.vortex_syntax.proofs.Tables.{own_right, right_sign}
+use Rattle.vortex_sql_numbers.specs.declared.bits.BitOperator.TheVariants as bits
+use Rattle.vortex_sql_numbers.specs.declared.bits.Shift.TheVariants as shift
 use Rattle.vortex_standard.specs.declared.standard.Standard.{Standard}
 use Rattle.vortex_standard.specs.declared.standard.Standard.TheVariants as standard
 use Rattle.vortex_sql_choices.specs.declared.truth_tests.TruthTest.TheVariants.{IsTrue, IsFalse}
 use Rattle.vortex_sql_choices.specs.declared.truth_tests.TruthTest.TheVariants.{IsUnknown}
-use Rattle.vortex_errors.specs.declared.error.MismatchPlace.TheVariants.{Scalars}
+use Rattle.vortex_sql_rows.specs.declared.types.Takes.{Takes}
+use Rattle.vortex_sql_rows.specs.declared.types.Takes.TheVariants.{Alike, Each, Cases}
 use Rattle.vortex_operators.specs.declared.operators.Operator.{Operator}
 use Rattle.vortex_operators.specs.declared.operators.Operator.TheVariants as operator
 use Rattle.vortex_standard.specs.Standard.{row_of}
@@ -38,18 +41,20 @@ use Rattle.vortex_standard.specs.Names.{standard_named}
 use Rattle.vortex_expressions.specs.declared.refusal.Refusal.TheVariants.{NoFunction}
 use Rattle.vortex_expressions.specs.Outcomes.{Outcome, answers, or_refuses}
 use Rattle.vortex_expressions.specs.Items.{Tree, Item, literal, bound, meaning, settled, all_settled}
-use Rattle.vortex_expressions.specs.Items.{call_of, called}
+use Rattle.vortex_expressions.specs.Items.{call_of, called, callable, common_type, truth_type}
 use Rattle.vortex_expressions.specs.Calls as calls
-use Rattle.vortex_expressions.specs.Applied.{callable, argument_type, function_call, applied_item}
+use Rattle.vortex_expressions.specs.Applied.{values_of, cases_settled, arguments_settled}
+use Rattle.vortex_expressions.specs.Applied.{function_call, applied_item}
 use Rattle.vortex_expressions.specs.Casts.{cast_function, cast_by, cast_from, cast_tree}
 use Rattle.vortex_types.specs.TypeEquality.{alike_types}
 use Rattle.vortex_expressions.specs.Binding.{with_item, item_of, items_after, branch_items}
 use Rattle.vortex_expressions.specs.Binding.{tree_of}
-use Rattle.vortex_syntax.specs.Postfix.{has_operand}
+use Rattle.vortex_syntax.specs.Postfix.{has_operand, test_of}
 use Rattle.vortex_expressions.specs.Literals as literals
 use Rattle.vortex_expressions.specs.Answers.{name_of, written_name, answer_of, answers_of}
 use Rattle.vortex_expressions.proofs.SureCalls.{Sure, sure_then, sure_or, sure_if, IsTyped, IsItem}
-use Rattle.vortex_expressions.proofs.SureCalls.{AllItems, sure_constant, sure_settled, sure_all}
+use Rattle.vortex_expressions.proofs.SureCalls.{AllItems, AllTyped, sure_constant, sure_settled}
+use Rattle.vortex_expressions.proofs.SureCalls.{sure_all, sure_less, sure_named_call}
 use Rattle.vortex_expressions.proofs.SureCalls.{sure_type, sure_null, sure_called, sure_item}
 use Rattle.vortex_expressions.proofs.SureCalls.{sure_text, sure_quoted, sure_field, sure_named}
 
@@ -85,7 +90,7 @@ module _ (scope : Fields) where
   literal_sign sign.Null h = tt
   literal_sign s h = absurd cc
 
-  literal_token : (t : Token) → is_operand t ≡ true → 13 ≤ operand_level t
+  literal_token : (t : Token) → is_operand t ≡ true → 14 ≤ operand_level t
       → Sure IsLiteral (calls.operand_item scope t)
   literal_token (name w) h le = absurd (let k : ⊥ = omega (arith, le) in k)
   literal_token (nullable w) h le = absurd cc
@@ -97,7 +102,7 @@ module _ (scope : Fields) where
       sure_then _ IsLiteral (calls.between_quotes 39 bs) _ (sure_quoted 39 bs) (λ v k. tt)
   literal_token (sign s) h le = literal_sign s h
 
-  sure_literal : (t : Syntax) → Fits t → 13 ≤ level t → Sure IsLiteral (item_of scope t)
+  sure_literal : (t : Syntax) → Fits t → 14 ≤ level t → Sure IsLiteral (item_of scope t)
   sure_literal (tree.operand t) f le = literal_token t f le
   sure_literal (tree.negative ds) f le =
       sure_then _ IsLiteral (calls.text_of (45 ∷ ds)) _ (sure_text (45 ∷ ds)) (λ v k. tt)
@@ -112,11 +117,14 @@ module _ (scope : Fields) where
   sure_literal (tree.matched k a p e) f le = absurd (let j : ⊥ = omega (arith, le) in j)
   sure_literal (tree.cast a w n) f le = absurd (let k : ⊥ = omega (arith, le) in k)
   sure_literal (tree.minus a) f le = absurd (let k : ⊥ = omega (arith, le) in k)
+  sure_literal (tree.plus a) f le = absurd (let k : ⊥ = omega (arith, le) in k)
+  sure_literal (tree.bit_not a) f le = absurd (let k : ⊥ = omega (arith, le) in k)
+  sure_literal (tree.null_tested n a) f le = absurd (let k : ⊥ = omega (arith, le) in k)
   sure_literal (tree.listed n a args b) f le = absurd (let k : ⊥ = omega (arith, le) in k)
   sure_literal (tree.chosen bs c v) f le = absurd (let k : ⊥ = omega (arith, le) in k)
   sure_literal (tree.chosen_else bs c v e) f le = absurd (let k : ⊥ = omega (arith, le) in k)
-  sure_literal (tree.nullary w) f le = absurd (let k : ⊥ = omega (arith, le) in k)
-  sure_literal (tree.applied w args a) f le = absurd (let k : ⊥ = omega (arith, le) in k)
+  sure_literal (tree.nullary p w) f le = absurd (let k : ⊥ = omega (arith, le) in k)
+  sure_literal (tree.applied p w args a) f le = absurd (let k : ⊥ = omega (arith, le) in k)
 
   sure_typed : (w : List ℕ) (n : Bool) (i : Item) → IsLiteral i
       → Sure IsItem (calls.typed_item w n i)
@@ -126,16 +134,37 @@ module _ (scope : Fields) where
       (λ t k. sure_constant l t))
 
   -- calls of SQL's functions
-  sure_named_call : (f : Standard) (ts : List Tree) → Sure IsTyped (call_of (callable f) ts)
-  sure_named_call f ts =
-      sure_if IsTyped (fits (row_of f).arity (length ts)) _ _
-      (sure_type _ (call (callable f) (trees_of ts)) (Some Scalars) refl refl) tt
-
   sure_function : (f : Standard) (o : Option LogicalType) (is : List Item) → AllItems is
       → Sure IsTyped (called (callable f) o is)
   sure_function f o is h =
       sure_then _ IsTyped (all_settled o is) (call_of (callable f)) (sure_all o is h)
       (λ ts j. sure_named_call f ts)
+
+  sure_cases : (o : Option LogicalType) (is : List Item) → AllItems is
+      → Sure AllTyped (cases_settled o is)
+  sure_cases o [] h = tt
+  sure_cases o (v ∷ []) h =
+      sure_less _ AllTyped (all_settled o (v ∷ [])) (λ ts j. j.0) (sure_all o (v ∷ []) h)
+  sure_cases o (c ∷ v ∷ is) h =
+      sure_then IsTyped AllTyped (settled truth_type c) _ (sure_settled truth_type c h.0)
+      (λ a j. sure_then IsTyped AllTyped (settled o v) _ (sure_settled o v h.1.0)
+      (λ b k. sure_then AllTyped AllTyped (cases_settled o is) _ (sure_cases o is h.1.1)
+      (λ ts l. (j, (k, l)))))
+
+  sure_arguments : (s : Takes) (is : List Item) → AllItems is
+      → Sure AllTyped (arguments_settled s is)
+  sure_arguments (Alike k) is h =
+      sure_less _ AllTyped (all_settled (common_type is) is) (λ ts j. j.0)
+      (sure_all (common_type is) is h)
+  sure_arguments (Each a b c) is h =
+      sure_less _ AllTyped (all_settled None is) (λ ts j. j.0) (sure_all None is h)
+  sure_arguments Cases is h = sure_cases (common_type (values_of is)) is h
+
+  sure_call_on : (f : Standard) (is : List Item) → AllItems is → Sure IsTyped (function_call f is)
+  sure_call_on f is h =
+      let s = (row_of f).types.takes in
+      sure_then AllTyped IsTyped (arguments_settled s is) (call_of (callable f))
+      (sure_arguments s is h) (λ ts j. sure_named_call f ts)
 
   sure_cast_by : (o : Option Standard) (u : Tree) → Sure IsTyped (cast_by o u)
   sure_cast_by None u = tt
@@ -181,6 +210,11 @@ module _ (scope : Fields) where
   sure_written signs.Div u is e h = sure_operator operator.Div u is e h
   sure_written signs.Mod u is e h = sure_function standard.Remainder u is h
   sure_written signs.Concat u is e h = sure_function standard.Concat u is h
+  sure_written signs.BitAnd u is e h = sure_function (standard.BitOperator bits.And) u is h
+  sure_written signs.BitOr u is e h = sure_function (standard.BitOperator bits.Or) u is h
+  sure_written signs.BitXor u is e h = sure_function (standard.BitOperator bits.Xor) u is h
+  sure_written signs.ShiftLeft u is e h = sure_function (standard.Shift shift.Left) u is h
+  sure_written signs.ShiftRight u is e h = sure_function (standard.Shift shift.Right) u is h
 
   sure_joined : (o : written.WrittenOperator) (a b : Item) → IsItem a → IsItem b
       → Sure IsItem (calls.joined_item o a b)
@@ -239,7 +273,15 @@ module _ (scope : Fields) where
       → Sure IsItem (calls.distinct_item n a b)
   sure_distinct n a b h k =
       sure_item _ (sure_then IsTyped IsTyped (function_call standard.IsDistinct (a ∷ b ∷ [])) _
-      (sure_function standard.IsDistinct _ (a ∷ b ∷ []) (h, (k, tt))) (sure_negated n))
+      (sure_call_on standard.IsDistinct (a ∷ b ∷ []) (h, (k, tt))) (sure_negated n))
+
+  sure_plus : (i : Item) → IsItem i → Sure IsItem (calls.plus_item i)
+  sure_plus i h =
+      sure_if IsItem (calls.is_number i) _ _ h
+      (sure_joined signs.Add (literal (literals.number (codes "0"))) i tt h)
+
+  sure_bit_not : (i : Item) → IsItem i → Sure IsItem (calls.bit_not_item i)
+  sure_bit_not i h = sure_item _ (sure_call_on standard.BitNot (i ∷ []) (h, tt))
 
   -- calls by names
   all_appended : (is js : List Item) → AllItems is → AllItems js → AllItems (is ++ js)
@@ -265,17 +307,34 @@ module _ (scope : Fields) where
   sure_listed : (n : Bool) (is : List Item) → AllItems is → Sure IsItem (calls.listed_item n is)
   sure_listed n is h =
       sure_item _ (sure_then IsTyped IsTyped (function_call standard.InList is) _
-      (sure_function standard.InList _ is h) (sure_negated n))
+      (sure_call_on standard.InList is h) (sure_negated n))
+
+  sure_equal : (a : Item) (is : List Item) → IsItem a → AllItems is
+      → Sure AllItems (calls.equal_cases a is)
+  sure_equal a [] h k = tt
+  sure_equal a (v ∷ []) h k = k
+  sure_equal a (x ∷ v ∷ is) h k =
+      sure_then IsItem AllItems (calls.joined_item signs.Equal a x) _
+      (sure_joined signs.Equal a x h k.0)
+      (λ c j. sure_then AllItems AllItems (calls.equal_cases a is) _ (sure_equal a is h k.1.1)
+      (λ js l. (j, (k.1.0, l))))
+
+  sure_conditions : (b : Bool) (is : List Item) → AllItems is
+      → Sure AllItems (calls.conditions_of b is)
+  sure_conditions true [] h = h
+  sure_conditions true (a ∷ is) h = sure_equal a is h.0 h.1
+  sure_conditions false is h = h
 
   sure_chosen : (b : Bool) (is : List Item) → AllItems is → Sure IsItem (calls.chosen_item b is)
-  sure_chosen true is h = tt
-  sure_chosen false is h = sure_item _ (sure_function standard.Case _ is h)
+  sure_chosen b is h =
+      sure_then AllItems IsItem (calls.conditions_of b is) _ (sure_conditions b is h)
+      (λ js k. sure_item _ (sure_call_on standard.Case js k))
 
   sure_applied : (w : List ℕ) (is : List Item) → AllItems is → Sure IsItem (applied_item w is)
   sure_applied w is h =
       sure_then _ IsItem (or_refuses NoFunction (standard_named w)) _
       (sure_or NoFunction (standard_named w))
-      (λ f k. sure_item _ (sure_function f (argument_type (row_of f).types.takes is) is h))
+      (λ f k. sure_item _ (sure_call_on f is h))
 
   mutual
     pub sure : (t : Syntax) → Fits t → Sure IsItem (item_of scope t)
@@ -294,7 +353,9 @@ module _ (scope : Fields) where
         (λ x h. sure_then IsItem IsItem (item_of scope b) _ (sure b f.3)
         (λ y k. sure_joined o x y h k))
     sure (tree.tested k n a) f =
-        sure_then IsItem IsItem (item_of scope a) _ (sure a f.1) (λ i h. sure_tested k n i h)
+        sure_then IsItem IsItem (item_of scope a) _ (sure a f.1) (λ i h. sure_tested (test_of k) n i h)
+    sure (tree.null_tested n a) f =
+        sure_then IsItem IsItem (item_of scope a) _ (sure a f.1) (λ i h. sure_null_test n i h)
     sure (tree.distinct n a b) f =
         sure_then IsItem IsItem (item_of scope a) _ (sure a f.2)
         (λ x h. sure_then IsItem IsItem (item_of scope b) _ (sure b f.3)
@@ -313,6 +374,10 @@ module _ (scope : Fields) where
     sure (tree.minus a) f =
         sure_then IsItem IsItem (item_of scope a) _ (sure a f.2)
         (λ i h. sure_joined signs.Sub (literal (literals.number (codes "0"))) i tt h)
+    sure (tree.plus a) f =
+        sure_then IsItem IsItem (item_of scope a) _ (sure a f.1) (λ i h. sure_plus i h)
+    sure (tree.bit_not a) f =
+        sure_then IsItem IsItem (item_of scope a) _ (sure a f.1) (λ i h. sure_bit_not i h)
     sure (tree.listed n a args b) f =
         let first = with_item (answers []) (item_of scope a) in
         sure_then AllItems IsItem (with_item (items_after scope first args) (item_of scope b)) _
@@ -333,8 +398,8 @@ module _ (scope : Fields) where
         (sure_pair (branch_items scope bs) (item_of scope c) (item_of scope v)
         (sure_branches bs f.0) (sure c f.1) (sure v f.2)) (sure e f.3))
         (λ is h. sure_chosen (has_operand bs) (reverse is) (all_reversed is h))
-    sure (tree.nullary w) f = sure_applied w [] tt
-    sure (tree.applied w args a) f =
+    sure (tree.nullary p w) f = sure_applied w [] tt
+    sure (tree.applied p w args a) f =
         let some = items_after scope (answers []) args in
         sure_then AllItems IsItem (with_item some (item_of scope a)) _
         (sure_more some (item_of scope a) (sure_all_items args (answers []) f.0 tt) (sure a f.1))

@@ -4,6 +4,8 @@ use Rattle.std.proofs.Common.{Some, None, refl, ap, ◌∙◌, arith}
 use Rattle.std.specs.Prelude.{is_some}
 use Rattle.std.specs.Str.{is_utf8}
 use Rattle.vortex_errors.specs.declared.error.MismatchPlace.{MismatchPlace}
+use Rattle.vortex_errors.specs.declared.error.MismatchPlace.TheVariants.{Scalars}
+use Rattle.vortex_types.specs.declared.dtype.PType.{PType}
 use Rattle.vortex_types.specs.LogicalTypes.{LogicalType}
 use Rattle.vortex_interface.specs.Meaning.{fits}
 use Rattle.vortex_interface.specs.Shipped.{Shipped, NullTest}
@@ -11,13 +13,18 @@ use Rattle.vortex_interface.specs.Shipped.{shipped_place}
 use Rattle.vortex_interface.specs.Functions.{ours, function_arity}
 use Rattle.vortex_interface.specs.Trees.{call, trees_of}
 use Rattle.vortex_interface.specs.Eval.{tree_type, tree_types, types_or_none}
+use Rattle.vortex_standard.specs.declared.standard.Standard.{Standard}
+use Rattle.vortex_standard.specs.declared.standard.Standard.TheVariants as standard
+use Rattle.vortex_standard.specs.Standard.{row_of}
 use Rattle.vortex_expressions.specs.TypeNames.{named_type}
 use Rattle.vortex_expressions.specs.declared.refusal.Refusal.{Refusal}
 use Rattle.vortex_expressions.specs.Literals.{Literal, value_at, type_beside}
 use Rattle.vortex_expressions.specs.Outcomes.{Outcome, answers, refuses, missing, and_then}
 use Rattle.vortex_expressions.specs.Outcomes.{or_refuses}
 use Rattle.vortex_expressions.specs.Items.{Tree, Item, literal, bound, meaning, settled, all_settled}
-use Rattle.vortex_expressions.specs.Items.{constant_at, refused_at, call_of, called}
+use Rattle.vortex_expressions.specs.Items.{callable, constant_at, refused_at, call_of, called}
+use Rattle.vortex_expressions.specs.Items.{widened, meeting}
+use Rattle.vortex_expressions.specs.Meeting.{widened_to}
 use Rattle.vortex_expressions.specs.Calls as calls
 
 -- there is a result with P, or an error
@@ -31,6 +38,12 @@ pub sure_then : {A B : Type 0} (P : A → Type 0) (Q : B → Type 0) (o : Outcom
 sure_then P Q (answers a) f h k = k a h
 sure_then P Q (refuses r) f h k = tt
 sure_then P Q missing f h k = h
+
+pub sure_less : {A : Type 0} (P Q : A → Type 0) (o : Outcome A) → ((a : A) → P a → Q a) → Sure P o
+    → Sure Q o
+sure_less P Q (answers a) f h = f a h
+sure_less P Q (refuses r) f h = tt
+sure_less P Q missing f h = h
 
 pub sure_or : {A : Type 0} (r : Refusal) (o : Option A) → Sure (λ a. Unit {0}) (or_refuses r o)
 sure_or r None = tt
@@ -60,8 +73,33 @@ AllItems (i ∷ is) = IsItem i × AllItems is
 pub sure_constant : (l : Literal) (t : LogicalType) → Sure IsTyped (constant_at l t)
 sure_constant l t = sure_then (λ s. Unit {0}) IsTyped _ _ (sure_or _ (value_at t l)) (λ s k. refl)
 
+-- calls that take the types, or do not
+pub sure_refused : (o : Option MismatchPlace) → is_some o ≡ true → Sure IsTyped (refused_at o)
+sure_refused None h = absurd cc
+sure_refused (Some p) h = tt
+
+pub sure_type : (b : Bool) (t : Tree) (o : Option MismatchPlace) → is_some (tree_type meaning t) ≡ b
+    → is_some o ≡ true → Sure IsTyped (cond b (answers t) (refused_at o))
+sure_type true t o k h = k
+sure_type false t o k h = sure_refused o h
+
+-- calls of SQL's functions, among them the cast to a wider type
+pub sure_named_call : (f : Standard) (ts : List Tree) → Sure IsTyped (call_of (callable f) ts)
+sure_named_call f ts =
+    sure_if IsTyped (fits (row_of f).arity (length ts)) _ _
+    (sure_type _ (call (callable f) (trees_of ts)) (Some Scalars) refl refl) tt
+
+sure_widened : (o : Option PType) (t : Tree) → IsTyped t → Sure IsTyped (widened o t)
+sure_widened None t h = h
+sure_widened (Some p) t h = sure_named_call (standard.Widen (record { ptype = p })) (t ∷ [])
+
+sure_meeting : (o p : Option LogicalType) (t : Tree) → IsTyped t → Sure IsTyped (meeting o p t)
+sure_meeting None p t h = h
+sure_meeting (Some k) None t h = h
+sure_meeting (Some k) (Some l) t h = sure_widened (widened_to k l) t h
+
 pub sure_settled : (o : Option LogicalType) (i : Item) → IsItem i → Sure IsTyped (settled o i)
-sure_settled o (bound t) h = h
+sure_settled o (bound t) h = sure_meeting o (tree_type meaning t) t h
 sure_settled o (literal l) h =
     sure_then (λ t. Unit {0}) IsTyped _ _ (sure_or _ (type_beside o l)) (λ t k. sure_constant l t)
 
@@ -73,17 +111,7 @@ sure_all o (i ∷ is) h =
     (λ t k. sure_then (λ ts. AllTyped ts × (length ts ≡ length is)) _ (all_settled o is) _
     (sure_all o is h.1) (λ ts j. ((k, j.0), omega (arith, j.1))))
 
--- calls of shipped functions on as many trees as they take
-pub sure_refused : (o : Option MismatchPlace) → is_some o ≡ true → Sure IsTyped (refused_at o)
-sure_refused None h = absurd cc
-sure_refused (Some p) h = tt
-
-pub sure_type : (b : Bool) (t : Tree) (o : Option MismatchPlace) → is_some (tree_type meaning t) ≡ b
-    → is_some o ≡ true → Sure IsTyped (cond b (answers t) (refused_at o))
-sure_type true t o k h = k
-sure_type false t o k h = sure_refused o h
-
--- functions that have a place for each type that they do not accept
+-- shipped functions that have a place for each type that they do not accept
 pub sure_call : (s : Shipped) (ts : List Tree) → fits (function_arity meaning (ours s)) (length ts) ≡ true
     → is_some (shipped_place s (types_or_none (tree_types meaning (trees_of ts)))) ≡ true
     → Sure IsTyped (call_of (ours s) ts)

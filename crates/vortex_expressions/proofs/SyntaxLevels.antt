@@ -17,7 +17,7 @@ use Rattle.vortex_interface.specs.declared.options.EmptyOptions.{EmptyOptions}
 use Rattle.vortex_standard.specs.declared.standard.Standard.{Standard}
 use Rattle.vortex_syntax.specs.declared.step.WrittenOperator as syntax
 use Rattle.vortex_syntax.specs.declared.step.WrittenOperator.TheVariants as written
-use Rattle.vortex_syntax.specs.declared.step.Test.TheVariants.{Null}
+use Rattle.vortex_syntax.specs.Syntax.{Null}
 use Rattle.vortex_syntax.specs.declared.token.Sign.TheVariants as sign
 use Rattle.vortex_syntax.specs.Tokens as token
 use Rattle.vortex_syntax.specs.Tokens.{quoted, sign}
@@ -59,14 +59,14 @@ literal_is s a e = by (value_syntax s.value) refl e
         record { value = v; word = m.a; says = h; named = m.there; made = m.made }
 
 -- levels
-name_level : (w : List ℕ) → operand_level (name_token w) ≡ 11
+name_level : (w : List ℕ) → operand_level (name_token w) ≡ 12
 name_level w = by (is_bare w)
   where
-    by : (b : Bool) → operand_level (if b then token.name w else quoted (doubled 34 w)) ≡ 11
+    by : (b : Bool) → operand_level (if b then token.name w else quoted (doubled 34 w)) ≡ 12
     by true = refl
     by false = refl
 
-pub value_level : (v : Value) (a : Syntax) → value_syntax v ≡ Some a → level a ≡ 13
+pub value_level : (v : Value) (a : Syntax) → value_syntax v ≡ Some a → level a ≡ 14
 value_level null a e = ap level (sym (some_is (operand (sign sign.Null)) a e))
 value_level (truth true) a e = ap level (sym (some_is (operand (sign sign.True)) a e))
 value_level (truth false) a e = ap level (sym (some_is (operand (sign sign.False)) a e))
@@ -76,11 +76,11 @@ value_level (text bs) a e = ap level (sym (some_is (operand (text_token bs)) a e
 value_level (bytes bs) a e = absurd cc
 value_level (list vs) a e = absurd cc
 
-literal_level_is : (t : LogicalType) (v : Syntax) (w : List ℕ) → level v ≡ 13
-    → level (of_type t v w) ≡ (if is_own_type t then 13 else 12)
+literal_level_is : (t : LogicalType) (v : Syntax) (w : List ℕ) → level v ≡ 14
+    → level (of_type t v w) ≡ (if is_own_type t then 14 else 13)
 literal_level_is t v w h = by (is_own_type t)
   where
-    by : (b : Bool) → level (if b then v else typed v w (is_nullable t)) ≡ (if b then 13 else 12)
+    by : (b : Bool) → level (if b then v else typed v w (is_nullable t)) ≡ (if b then 14 else 13)
     by true = h
     by false = refl
 
@@ -120,14 +120,14 @@ pub record FitsAt (l : ℕ) (a : Syntax) : Type 0 where
   pub high : l ≤ level (at_level l a)
   pub fits : Fits (at_level l a)
 
-pub fits_at : (l : ℕ) (a : Syntax) → l ≤ 11 → Fits a → FitsAt l a
+pub fits_at : (l : ℕ) (a : Syntax) → l ≤ 12 → Fits a → FitsAt l a
 fits_at l a le f = by (nat_le l (level a)) refl
   where
     by : (b : Bool) → nat_le l (level a) ≡ b → FitsAt l a
     by true h = record { high = rw h (leb-true l (level a) h); fits = rw h f }
     by false h = record { high = rw h le; fits = rw h f }
 
-left_low : (o : syntax.WrittenOperator) → left o ≤ 11
+left_low : (o : syntax.WrittenOperator) → left o ≤ 12
 left_low written.Or = lit≤ tt
 left_low written.And = lit≤ tt
 left_low written.Add = lit≤ tt
@@ -136,6 +136,11 @@ left_low written.Mul = lit≤ tt
 left_low written.Div = lit≤ tt
 left_low written.Mod = lit≤ tt
 left_low written.Concat = lit≤ tt
+left_low written.BitAnd = lit≤ tt
+left_low written.BitOr = lit≤ tt
+left_low written.BitXor = lit≤ tt
+left_low written.ShiftLeft = lit≤ tt
+left_low written.ShiftRight = lit≤ tt
 left_low written.Equal = lit≤ tt
 left_low written.NotEqual = lit≤ tt
 left_low written.Less = lit≤ tt
@@ -143,7 +148,7 @@ left_low written.LessOrEqual = lit≤ tt
 left_low written.Greater = lit≤ tt
 left_low written.GreaterOrEqual = lit≤ tt
 
-right_low : (o : syntax.WrittenOperator) → right o ≤ 11
+right_low : (o : syntax.WrittenOperator) → right o ≤ 12
 right_low written.Or = lit≤ tt
 right_low written.And = lit≤ tt
 right_low written.Add = lit≤ tt
@@ -152,6 +157,11 @@ right_low written.Mul = lit≤ tt
 right_low written.Div = lit≤ tt
 right_low written.Mod = lit≤ tt
 right_low written.Concat = lit≤ tt
+right_low written.BitAnd = lit≤ tt
+right_low written.BitOr = lit≤ tt
+right_low written.BitXor = lit≤ tt
+right_low written.ShiftLeft = lit≤ tt
+right_low written.ShiftRight = lit≤ tt
 right_low written.Equal = lit≤ tt
 right_low written.NotEqual = lit≤ tt
 right_low written.Less = lit≤ tt
@@ -176,7 +186,7 @@ name_fits w = by (is_bare w)
     by true = refl
     by false = refl
 
-of_type_fits : (t : LogicalType) (v : Syntax) (w : List ℕ) → level v ≡ 13 → Fits v
+of_type_fits : (t : LogicalType) (v : Syntax) (w : List ℕ) → level v ≡ 14 → Fits v
     → Fits (of_type t v w)
 of_type_fits t v w h f = by (is_own_type t)
   where
@@ -226,7 +236,7 @@ shipped_fits Not os a h e =
 shipped_fits (NullTest n) os a h e =
     let m = mapped_is (λ b. tested Null n (at_level is_level b)) (nth 0 os) a e in
     let x = fits_at is_level m.a (lit≤ tt) (at_place Fits 0 os m.a h m.there) in
-    subst Fits m.made (x.high, x.fits)
+    subst Fits m.made (x.high, x.fits, tt)
 shipped_fits Cast os a h e =
     let m = mapped_is (λ b. cast b (codes "bool") true) (nth 0 os) a e in
     subst Fits m.made (at_place Fits 0 os m.a h m.there)

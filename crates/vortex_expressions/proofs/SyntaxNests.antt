@@ -4,8 +4,6 @@ use Rattle.std.proofs.Common.{Some, None, refl, ap, sym, ◌∙◌, append_assoc
 use Rattle.std.proofs.lemmas.List.{append-nil}
 use Rattle.std.proofs.lemmas.Bool.{false≢true}
 use Rattle.vortex_syntax.specs.Nesting.{nesting_limit}
-use Rattle.vortex_syntax.specs.declared.step.Test.{Test}
-use Rattle.vortex_syntax.specs.declared.step.Test.TheVariants as test
 use Rattle.vortex_syntax.specs.declared.step.WrittenOperator as syntax
 use Rattle.vortex_syntax.specs.declared.step.WrittenOperator.TheVariants as written
 use Rattle.vortex_syntax.specs.declared.token.Sign.TheVariants as sign
@@ -15,10 +13,12 @@ use Rattle.vortex_syntax.specs.Syntax.{Syntax, operand, negative, typed, grouped
 use Rattle.vortex_syntax.specs.Syntax.{minus, tested, distinct, between, matched, listed, cast}
 use Rattle.vortex_syntax.specs.Syntax.{chosen, chosen_else, nullary, applied, Arguments}
 use Rattle.vortex_syntax.specs.Syntax.{no_arguments, argument, Branches, without_operand}
-use Rattle.vortex_syntax.specs.Syntax.{of_operand, branch}
+use Rattle.vortex_syntax.specs.Syntax.{of_operand, branch, plus, bit_not, null_tested, Tested}
+use Rattle.vortex_syntax.specs.Syntax.{Null, True, False, Unknown}
 use Rattle.vortex_syntax.specs.Levels.{is_operand, Fits, AllFit, BranchesFit}
 use Rattle.vortex_syntax.specs.Spelling.{spelling, all_spelled, branches_spelled, operator_sign}
-use Rattle.vortex_syntax.specs.Spelling.{type_token, with_not, in_tokens}
+use Rattle.vortex_syntax.specs.Spelling.{type_token, with_not, in_tokens, null_test_sign}
+use Rattle.vortex_syntax.specs.Spelling.{function_tokens}
 use Rattle.vortex_syntax.specs.Spelling.{test_tokens, distinct_tokens, like_sign, escape_tokens}
 use Rattle.vortex_syntax.specs.Nesting.{nests, nests_from}
 use Rattle.vortex_expressions.specs.WritingSteps.{nests_behind, all_nest_behind}
@@ -69,17 +69,33 @@ operator_nests written.Mul d us = refl
 operator_nests written.Div d us = refl
 operator_nests written.Mod d us = refl
 operator_nests written.Concat d us = refl
+operator_nests written.BitAnd d us = refl
+operator_nests written.BitOr d us = refl
+operator_nests written.BitXor d us = refl
+operator_nests written.ShiftLeft d us = refl
+operator_nests written.ShiftRight d us = refl
 
-test_nests : (k : Test) (n : Bool) (d : ℕ) (us : List Token)
+test_nests : (k : Tested) (n : Bool) (d : ℕ) (us : List Token)
     → nests_from d (test_tokens k n ++ us) ≡ nests_from d us
-test_nests test.Null true d us = refl
-test_nests test.Null false d us = refl
-test_nests test.True true d us = refl
-test_nests test.True false d us = refl
-test_nests test.False true d us = refl
-test_nests test.False false d us = refl
-test_nests test.Unknown true d us = refl
-test_nests test.Unknown false d us = refl
+test_nests Null true d us = refl
+test_nests Null false d us = refl
+test_nests True true d us = refl
+test_nests True false d us = refl
+test_nests False true d us = refl
+test_nests False false d us = refl
+test_nests (Unknown w) true d us = refl
+test_nests (Unknown w) false d us = refl
+
+null_test_nests : (n : Bool) (d : ℕ) (us : List Token)
+    → nests_from d (sign (null_test_sign n) ∷ us) ≡ nests_from d us
+null_test_nests true d us = refl
+null_test_nests false d us = refl
+
+function_nests : (p : Bool) (w : List ℕ) (d : ℕ) (us : List Token)
+    → nests_from d (function_tokens p w ++ us)
+    ≡ (nat_lt d nesting_limit && nests_from (suc d) us)
+function_nests true w d us = refl
+function_nests false w d us = refl
 
 distinct_nests : (n : Bool) (d : ℕ) (us : List Token)
     → nests_from d (distinct_tokens n ++ us) ≡ nests_from d us
@@ -123,13 +139,16 @@ argument_nests args a h k = λ d us.
     ∙ ap (λ b. all_nest_behind d args && b) (k d (sign sign.Comma ∷ us))
     ∙ sym (and_grouped (all_nest_behind d args) (nests_behind d a) (nests_from d us))
 
-call_nests : (w : List ℕ) (args : Arguments) (a : Syntax) → AllNestAs args → NestsAs a
-    → NestsAs (applied w args a)
-call_nests w args a h k = λ d us.
+call_nests : (p : Bool) (w : List ℕ) (args : Arguments) (a : Syntax) → AllNestAs args
+    → NestsAs a → NestsAs (applied p w args a)
+call_nests p w args a h k = λ d us.
     let limit = nat_lt d nesting_limit in
     let first = all_nest_behind (suc d) args in
     let rest = nests_behind (suc d) a in
-    ap (λ ts. limit && nests_from (suc d) ts)
+    let last : List Token = all_spelled args ++ (spelling a ++ (sign sign.Close ∷ [])) in
+    ap (nests_from d) (append_assoc (function_tokens p w) last us)
+    ∙ function_nests p w d (last ++ us)
+    ∙ ap (λ ts. limit && nests_from (suc d) ts)
     (append_assoc (all_spelled args) (spelling a ++ (sign sign.Close ∷ [])) us
     ∙ ap (λ ts. all_spelled args ++ ts) (append_assoc (spelling a) (sign sign.Close ∷ []) us))
     ∙ ap (λ b. limit && b)
@@ -273,6 +292,13 @@ mutual
       ∙ ap (λ v. nests_behind (suc d) a && v) (type_nests w n (suc d) (sign sign.Close ∷ us)))
       ∙ sym (and_grouped (nat_lt d nesting_limit) (nests_behind (suc d) a) (nests_from d us))
   nests_spelled (minus a) f d us = nests_spelled a f.2 d us
+  nests_spelled (plus a) f d us = nests_spelled a f.1 d us
+  nests_spelled (bit_not a) f d us = nests_spelled a f.1 d us
+  nests_spelled (null_tested n a) f d us =
+      let last : List Token = sign (null_test_sign n) ∷ [] in
+      ap (nests_from d) (append_assoc (spelling a) last us)
+      ∙ nests_spelled a f.1 d (last ++ us)
+      ∙ ap (λ v. nests_behind d a && v) (null_test_nests n d us)
   nests_spelled (listed n a args b) f d us =
       list_nests n a args b (nests_spelled a f.1) (all_nest args f.2) (nests_spelled b f.3) d us
   nests_spelled (chosen bs c v) f d us =
@@ -296,9 +322,10 @@ mutual
       ∙ ap (λ x. (b && (nests_behind d c && nests_behind d v)) && x)
       (nests_spelled e f.3 d (sign sign.End ∷ us))
       ∙ four_grouped b (nests_behind d c) (nests_behind d v) (nests_behind d e) (nests_from d us)
-  nests_spelled (nullary w) f d us = refl
-  nests_spelled (applied w args a) f d us =
-      call_nests w args a (all_nest args f.0) (nests_spelled a f.1) d us
+  nests_spelled (nullary true w) f d us = refl
+  nests_spelled (nullary false w) f d us = refl
+  nests_spelled (applied p w args a) f d us =
+      call_nests p w args a (all_nest args f.0) (nests_spelled a f.1) d us
 
   all_nest : (args : Arguments) → AllFit args → AllNestAs args
   all_nest no_arguments f d us = refl

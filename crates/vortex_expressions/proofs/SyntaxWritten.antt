@@ -28,7 +28,7 @@ use Rattle.vortex_interface.specs.declared.options.EmptyOptions.{EmptyOptions}
 use Rattle.vortex_standard.specs.declared.standard.Standard.{Standard}
 use Rattle.vortex_cells.proofs.Numbers as numbers
 use Rattle.vortex_syntax.specs.declared.token.Sign.TheVariants as sign
-use Rattle.vortex_syntax.specs.declared.step.Test.TheVariants.{Null}
+use Rattle.vortex_syntax.specs.Syntax.{Null}
 use Rattle.vortex_syntax.specs.Tokens as token
 use Rattle.vortex_syntax.specs.Tokens.{Token, nullable, quoted, sign}
 use Rattle.vortex_syntax.specs.Syntax.{Syntax, operand, negative, typed, grouped, negated, tested}

@@ -8,15 +8,17 @@ use Rattle.vortex_syntax.specs.Syntax.{Syntax, operand, negative, typed, grouped
 use Rattle.vortex_syntax.specs.Syntax.{minus, tested, distinct, between, matched, listed, cast}
 use Rattle.vortex_syntax.specs.Syntax.{chosen, chosen_else, nullary, applied, Arguments}
 use Rattle.vortex_syntax.specs.Syntax.{no_arguments, argument, Branches, without_operand}
-use Rattle.vortex_syntax.specs.Syntax.{of_operand, branch}
+use Rattle.vortex_syntax.specs.Syntax.{of_operand, branch, plus, bit_not, null_tested}
+use Rattle.vortex_syntax.specs.declared.step.Test.TheVariants as test
 use Rattle.vortex_syntax.specs.Postfix as step
 use Rattle.vortex_syntax.specs.Postfix.{Step, postfix, all_postfix, argument_count}
-use Rattle.vortex_syntax.specs.Postfix.{branches_postfix, has_operand, branch_count}
+use Rattle.vortex_syntax.specs.Postfix.{branches_postfix, has_operand, branch_count, test_of}
 use Rattle.vortex_expressions.specs.Outcomes.{Outcome, answers, refuses, missing, and_then}
 use Rattle.vortex_expressions.specs.Items.{Item}
 use Rattle.vortex_expressions.specs.Calls.{typed_item, cast_item, not_item, joined_item}
 use Rattle.vortex_expressions.specs.Calls.{minus_item, tested_item, distinct_item, between_item}
-use Rattle.vortex_expressions.specs.Calls.{matched_item, listed_item, chosen_item}
+use Rattle.vortex_expressions.specs.Calls.{matched_item, listed_item, chosen_item, plus_item}
+use Rattle.vortex_expressions.specs.Calls.{bit_not_item}
 use Rattle.vortex_expressions.specs.Binding.{with_item, of_items, item_of, items_after}
 use Rattle.vortex_expressions.specs.Binding.{branch_items, tree_of}
 use Rattle.vortex_expressions.specs.Applied.{applied_item}
@@ -160,8 +162,15 @@ module _ (scope : Fields) where
         (λ x. next (x ∷ []) (postfix b) _ _ (joined_item o x) (leaves b)
         (λ y. last (y ∷ x ∷ []) _ _ (λ st. refl)))
     leaves (tested k n a) =
-        next [] (postfix a) _ _ (tested_item k n) (leaves a)
+        next [] (postfix a) _ _ (tested_item (test_of k) n) (leaves a)
         (λ i. last (i ∷ []) _ _ (λ st. refl))
+    leaves (null_tested n a) =
+        next [] (postfix a) _ _ (tested_item test.Null n) (leaves a)
+        (λ i. last (i ∷ []) _ _ (λ st. refl))
+    leaves (plus a) =
+        next [] (postfix a) _ _ plus_item (leaves a) (λ i. last (i ∷ []) _ _ (λ st. refl))
+    leaves (bit_not a) =
+        next [] (postfix a) _ _ bit_not_item (leaves a) (λ i. last (i ∷ []) _ _ (λ st. refl))
     leaves (distinct n a b) =
         next [] (postfix a) _ _ (λ x. and_then (item_of scope b) (distinct_item n x)) (leaves a)
         (λ x. next (x ∷ []) (postfix b) _ _ (distinct_item n x) (leaves b)
@@ -187,8 +196,9 @@ module _ (scope : Fields) where
         next [] (postfix a) _ _ (cast_item w n) (leaves a) (λ i. last (i ∷ []) _ _ (λ st. refl))
     leaves (minus a) =
         next [] (postfix a) _ _ minus_item (leaves a) (λ i. last (i ∷ []) _ _ (λ st. refl))
-    leaves (nullary w) = last [] _ (item_of scope (nullary w)) (λ st. last_taken (applied_item w) [] st)
-    leaves (applied w args a) = λ ss st.
+    leaves (nullary p w) =
+        last [] _ (item_of scope (nullary p w)) (λ st. last_taken (applied_item w) [] st)
+    leaves (applied p w args a) = λ ss st.
         let n = suc (argument_count args) in
         let s : Step = step.applied w n in
         ap (λ zs. run scope (zs ++ ss) st)

@@ -1,18 +1,16 @@
 -- Calls of SQL's functions by their names.
 use Rattle.std.specs.Prelude.{ℕ, List, [], ◌∷◌, Option, None}
 use Rattle.vortex_types.specs.LogicalTypes.{LogicalType}
-use Rattle.vortex_interface.specs.Functions.{custom}
 use Rattle.vortex_standard.specs.declared.standard.Standard.{Standard}
 use Rattle.vortex_sql_rows.specs.declared.types.Takes.{Takes}
 use Rattle.vortex_sql_rows.specs.declared.types.Takes.TheVariants.{Alike, Each, Cases}
 use Rattle.vortex_standard.specs.Standard.{row_of}
 use Rattle.vortex_standard.specs.Names.{standard_named}
 use Rattle.vortex_expressions.specs.declared.refusal.Refusal.TheVariants.{NoFunction}
-use Rattle.vortex_expressions.specs.Outcomes.{Outcome, and_then, or_refuses}
-use Rattle.vortex_expressions.specs.Items.{Item, Tree, Callable, common_type, called, as_item}
-
-abbrev pub callable : Standard → Callable
-callable f = custom f (record {})
+use Rattle.vortex_expressions.specs.Outcomes.{Outcome, answers, and_then, or_refuses}
+use Rattle.vortex_expressions.specs.Items.{Item, Tree, common_type, truth_type, settled}
+use Rattle.vortex_expressions.specs.Items.{all_settled, call_of, as_item}
+pub use Rattle.vortex_expressions.specs.Items.{callable}
 
 -- the values of cases: each after its condition, and a last value alone
 abbrev pub values_of : {A : Type 0} → List A → List A
@@ -20,15 +18,23 @@ values_of [] = []
 values_of (v ∷ []) = v ∷ []
 values_of (c ∷ v ∷ xs) = v ∷ values_of xs
 
--- the type that literals take among the arguments
-abbrev pub argument_type : Takes → List Item → Option LogicalType
-argument_type (Alike k) is = common_type is
-argument_type (Each a b c) is = None
-argument_type Cases is = common_type (values_of is)
+-- cases, whose conditions are truth values, and whose values take that type
+abbrev pub cases_settled : Option LogicalType → List Item → Outcome (List Tree)
+cases_settled o [] = answers []
+cases_settled o (v ∷ []) = all_settled o (v ∷ [])
+cases_settled o (c ∷ v ∷ is) =
+    and_then (settled truth_type c) (λ a. and_then (settled o v)
+    (λ b. and_then (cases_settled o is) (λ ts. answers (a ∷ b ∷ ts))))
+
+-- arguments; those that are alike take one type
+abbrev pub arguments_settled : Takes → List Item → Outcome (List Tree)
+arguments_settled (Alike k) is = all_settled (common_type is) is
+arguments_settled (Each a b c) is = all_settled None is
+arguments_settled Cases is = cases_settled (common_type (values_of is)) is
 
 -- the call on items
 abbrev pub function_call : Standard → List Item → Outcome Tree
-function_call f is = called (callable f) (argument_type (row_of f).types.takes is) is
+function_call f is = and_then (arguments_settled (row_of f).types.takes is) (call_of (callable f))
 
 -- the call of the function of that name
 abbrev pub applied_item : List ℕ → List Item → Outcome Item

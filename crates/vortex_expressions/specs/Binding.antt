@@ -5,7 +5,8 @@ use Rattle.vortex_syntax.specs.Syntax.{Syntax, operand, negative, typed, grouped
 use Rattle.vortex_syntax.specs.Syntax.{minus, tested, distinct, between, matched, listed, cast}
 use Rattle.vortex_syntax.specs.Syntax.{chosen, chosen_else, nullary, applied, Arguments}
 use Rattle.vortex_syntax.specs.Syntax.{no_arguments, argument, Branches, without_operand}
-use Rattle.vortex_syntax.specs.Syntax.{of_operand, branch}
+use Rattle.vortex_syntax.specs.Syntax.{of_operand, branch, plus, bit_not, null_tested}
+use Rattle.vortex_syntax.specs.declared.step.Test.TheVariants as test
 use Rattle.vortex_syntax.specs.Grammar.{Reads}
 use Rattle.vortex_expressions.specs.declared.refusal.Refusal.{Refusal}
 use Rattle.vortex_expressions.specs.Outcomes.{Outcome, answers, refuses, and_then}
@@ -13,8 +14,8 @@ use Rattle.vortex_expressions.specs.Items.{Item, Tree, settled}
 use Rattle.vortex_expressions.specs.Calls.{operand_item, negative_item, typed_item, cast_item}
 use Rattle.vortex_expressions.specs.Calls.{not_item, joined_item, tested_item, distinct_item}
 use Rattle.vortex_expressions.specs.Calls.{between_item, minus_item, listed_item, chosen_item}
-use Rattle.vortex_syntax.specs.Postfix.{has_operand}
-use Rattle.vortex_expressions.specs.Calls.{matched_item}
+use Rattle.vortex_syntax.specs.Postfix.{has_operand, test_of}
+use Rattle.vortex_expressions.specs.Calls.{matched_item, plus_item, bit_not_item}
 use Rattle.vortex_expressions.specs.Applied.{applied_item}
 
 -- one more item, before those that come before it
@@ -32,11 +33,14 @@ module _ (scope : Fields) where
     item_of (operand t) = operand_item scope t
     item_of (negative ds) = negative_item ds
     item_of (minus a) = and_then (item_of a) minus_item
+    item_of (plus a) = and_then (item_of a) plus_item
+    item_of (bit_not a) = and_then (item_of a) bit_not_item
     item_of (typed a w n) = and_then (item_of a) (typed_item w n)
     item_of (grouped a) = item_of a
     item_of (negated a) = and_then (item_of a) not_item
     item_of (joined o a b) = and_then (item_of a) (λ x. and_then (item_of b) (joined_item o x))
-    item_of (tested k n a) = and_then (item_of a) (tested_item k n)
+    item_of (tested k n a) = and_then (item_of a) (tested_item (test_of k) n)
+    item_of (null_tested n a) = and_then (item_of a) (tested_item test.Null n)
     item_of (distinct n a b) =
         and_then (item_of a) (λ x. and_then (item_of b) (distinct_item n x))
     item_of (between n a low high) =
@@ -54,8 +58,8 @@ module _ (scope : Fields) where
     item_of (chosen_else bs c v e) =
         of_items (chosen_item (has_operand bs))
         (with_item (with_item (with_item (branch_items bs) (item_of c)) (item_of v)) (item_of e))
-    item_of (nullary w) = applied_item w []
-    item_of (applied w args a) =
+    item_of (nullary p w) = applied_item w []
+    item_of (applied p w args a) =
         of_items (applied_item w) (with_item (items_after (answers []) args) (item_of a))
 
     -- items after these; the last is first

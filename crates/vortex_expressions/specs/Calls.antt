@@ -3,8 +3,7 @@ use Rattle.std.specs.Prelude.{ℕ, List, [], ◌∷◌, Bool, true, false, Optio
 use Rattle.std.specs.Prelude.{codes, if◌then◌else◌}
 use Rattle.std.specs.Str.{is_utf8, chars}
 use Rattle.vortex_errors.specs.declared.error.VortexError.TheVariants.{ScopeMismatch}
-use Rattle.vortex_types.specs.LogicalTypes.{LogicalType, Fields, bool_type, text_type, find_field}
-use Rattle.vortex_types.specs.LogicalTypes.{is_bool_type, is_nullable}
+use Rattle.vortex_types.specs.LogicalTypes.{LogicalType, Fields, text_type, find_field}
 use Rattle.vortex_operators.specs.declared.operators.Operator.TheVariants as operator
 use Rattle.vortex_operators.specs.declared.between.BetweenOptions.{BetweenOptions}
 use Rattle.vortex_operators.specs.declared.between.StrictComparison.TheVariants.{NonStrict}
@@ -21,6 +20,8 @@ use Rattle.vortex_syntax.specs.declared.step.Test.{Test}
 use Rattle.vortex_syntax.specs.declared.step.Test.TheVariants as test
 use Rattle.vortex_sql_choices.specs.declared.truth_tests.TruthTest.TheVariants.{IsTrue, IsFalse}
 use Rattle.vortex_sql_choices.specs.declared.truth_tests.TruthTest.TheVariants.{IsUnknown}
+use Rattle.vortex_sql_numbers.specs.declared.bits.BitOperator.TheVariants as bits
+use Rattle.vortex_sql_numbers.specs.declared.bits.Shift.TheVariants as shift
 use Rattle.vortex_standard.specs.declared.standard.Standard.{Standard}
 use Rattle.vortex_standard.specs.declared.standard.Standard.TheVariants as standard
 use Rattle.vortex_syntax.specs.declared.token.Sign.{Sign}
@@ -28,7 +29,6 @@ use Rattle.vortex_syntax.specs.declared.token.Sign.TheVariants as sign
 use Rattle.vortex_syntax.specs.Tokens.{Token, name, nullable, function, quoted, number, text, sign}
 use Rattle.vortex_expressions.specs.declared.refusal.Refusal.TheVariants.{NotUtf8, UnknownType}
 use Rattle.vortex_expressions.specs.declared.refusal.Refusal.TheVariants.{NoEscape, Binding}
-use Rattle.vortex_expressions.specs.declared.refusal.Refusal.TheVariants.{NoFunction}
 use Rattle.vortex_expressions.specs.Literals as literal
 use Rattle.vortex_expressions.specs.Literals.{Literal}
 use Rattle.vortex_expressions.specs.Outcomes.{Outcome, answers, refuses, missing, and_then}
@@ -37,7 +37,7 @@ use Rattle.vortex_expressions.specs.Items.{Item, literal, bound, Tree, Callable,
 use Rattle.vortex_expressions.specs.Items.{common_type}
 use Rattle.vortex_expressions.specs.Applied.{callable, function_call}
 use Rattle.vortex_expressions.specs.Items.{constant_at}
-pub use Rattle.vortex_expressions.specs.Items.{as_item}
+pub use Rattle.vortex_expressions.specs.Items.{as_item, truth_type}
 use Rattle.vortex_expressions.specs.TypeNames.{named_type}
 pub use Rattle.vortex_expressions.specs.Casts.{cast_to}
 
@@ -99,10 +99,6 @@ typed_item w n (literal l) = as_item (and_then (type_of_name w n) (constant_at l
 abbrev pub cast_item : List ℕ → Bool → Item → Outcome Item
 cast_item w n i = as_item (and_then (type_of_name w n) (cast_to i))
 
--- with And, Or and Not, null is a truth value
-abbrev pub truth_type : Option LogicalType
-truth_type = Some (bool_type false)
-
 -- the function that an operator is
 abbrev pub written_function : syntax.WrittenOperator → Callable
 written_function written.Or = ours (Binary operator.Or)
@@ -119,6 +115,11 @@ written_function written.Mul = ours (Binary operator.Mul)
 written_function written.Div = ours (Binary operator.Div)
 written_function written.Mod = callable standard.Remainder
 written_function written.Concat = callable standard.Concat
+written_function written.BitAnd = callable (standard.BitOperator bits.And)
+written_function written.BitOr = callable (standard.BitOperator bits.Or)
+written_function written.BitXor = callable (standard.BitOperator bits.Xor)
+written_function written.ShiftLeft = callable (standard.Shift shift.Left)
+written_function written.ShiftRight = callable (standard.Shift shift.Right)
 
 abbrev pub joined_type : syntax.WrittenOperator → List Item → Option LogicalType
 joined_type written.Or is = truth_type
@@ -154,13 +155,39 @@ distinct_item n a b =
 abbrev pub minus_item : Item → Outcome Item
 minus_item a = joined_item written.Sub (literal (literal.number (codes "0"))) a
 
--- IN, whose operand is the first of the items; and CASE, which no function is with an operand
+-- a plus sign: a literal number stays, anything else is added to zero
+abbrev pub is_number : Item → Bool
+is_number (literal (literal.number w)) = true
+is_number i = false
+
+abbrev pub plus_item : Item → Outcome Item
+plus_item a =
+    if is_number a then answers a
+    else joined_item written.Add (literal (literal.number (codes "0"))) a
+
+-- a tilde: the bits turned
+abbrev pub bit_not_item : Item → Outcome Item
+bit_not_item a = as_item (function_call standard.BitNot (a ∷ []))
+
+-- IN, whose operand is the first of the items
 abbrev pub listed_item : Bool → List Item → Outcome Item
 listed_item n is = as_item (and_then (function_call standard.InList is) (negated_if n))
 
+-- cases with an operand: each condition is that it equals the value
+abbrev pub equal_cases : Item → List Item → Outcome (List Item)
+equal_cases a [] = answers []
+equal_cases a (v ∷ []) = answers (v ∷ [])
+equal_cases a (x ∷ v ∷ is) =
+    and_then (joined_item written.Equal a x) (λ c. and_then (equal_cases a is)
+    (λ js. answers (c ∷ v ∷ js)))
+
+-- CASE; its operand, if the flag is true, is the first of the items
+abbrev pub conditions_of : Bool → List Item → Outcome (List Item)
+conditions_of true (a ∷ is) = equal_cases a is
+conditions_of h is = answers is
+
 abbrev pub chosen_item : Bool → List Item → Outcome Item
-chosen_item true is = refuses NoFunction
-chosen_item false is = as_item (function_call standard.Case is)
+chosen_item h is = and_then (conditions_of h is) (λ js. as_item (function_call standard.Case js))
 
 -- both bounds are inclusive
 abbrev pub within_bounds : BetweenOptions

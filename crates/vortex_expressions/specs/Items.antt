@@ -1,11 +1,12 @@
 -- Literals without a type yet, and trees; and calls of them.
 use Rattle.std.specs.Prelude.{ℕ, List, [], ◌∷◌, length, map, Option, Some, None, is_some}
-use Rattle.std.specs.Prelude.{if◌then◌else◌}
+use Rattle.std.specs.Prelude.{false, if◌then◌else◌}
 use Rattle.std.specs.Option.{option_or}
 use Rattle.vortex_errors.specs.declared.error.MismatchPlace.{MismatchPlace}
 use Rattle.vortex_errors.specs.declared.error.MismatchPlace.TheVariants.{Scalars}
 use Rattle.vortex_errors.specs.declared.error.VortexError.TheVariants.{ArityMismatch, TypeMismatch}
-use Rattle.vortex_types.specs.LogicalTypes.{LogicalType}
+use Rattle.vortex_types.specs.declared.dtype.PType.{PType}
+use Rattle.vortex_types.specs.LogicalTypes.{LogicalType, bool_type}
 use Rattle.vortex_interface.specs.Meaning.{Meaning, fits}
 use Rattle.vortex_interface.specs.Shipped.{shipped_place}
 use Rattle.vortex_interface.specs.Functions.{Function, ours, custom, function_arity}
@@ -15,11 +16,13 @@ use Rattle.vortex_interface.specs.Eval.{tree_type, tree_types, types_or_none}
 use Rattle.vortex_interface.specs.declared.options.EmptyOptions.{EmptyOptions}
 use Rattle.vortex_standard.specs.Standard.{standard_meaning}
 use Rattle.vortex_standard.specs.declared.standard.Standard.{Standard}
+use Rattle.vortex_standard.specs.declared.standard.Standard.TheVariants as standard
 use Rattle.vortex_expressions.specs.declared.item.Item as held
 use Rattle.vortex_expressions.specs.declared.item.Item.TheVariants as variant
 use Rattle.vortex_expressions.specs.declared.refusal.Refusal.TheVariants.{UntypedNull, NotHeld}
 use Rattle.vortex_expressions.specs.declared.refusal.Refusal.TheVariants.{Binding}
 use Rattle.vortex_expressions.specs.Literals.{Literal, literal_in, own_type, type_beside, value_at}
+use Rattle.vortex_expressions.specs.Meeting.{meeting_type, widened_to}
 use Rattle.vortex_expressions.specs.Outcomes.{Outcome, answers, refuses, missing, and_then}
 use Rattle.vortex_expressions.specs.Outcomes.{or_refuses}
 
@@ -32,6 +35,10 @@ Callable = Function Standard EmptyOptions
 
 abbrev pub meaning : Meaning Standard EmptyOptions
 meaning = standard_meaning
+
+-- one of SQL's functions
+abbrev pub callable : Standard → Callable
+callable f = custom f (record {})
 
 pub data Item : Type 0 where
   literal : Literal → Item
@@ -54,26 +61,19 @@ abbrev pub first_some : {A : Type 0} → List (Option A) → Option A
 first_some [] = None
 first_some (o ∷ os) = option_or o (first_some os)
 
--- the type that literals take next to other items: the first tree's, or without a tree that of the
+-- the type of items next to each other: that in which the trees meet, or without a tree that of the
 -- first literal with a default type
 abbrev pub common_type : List Item → Option LogicalType
 common_type is =
-    option_or (first_some (map bound_type is)) (first_some (map literal_type is))
+    option_or (meeting_type None (map bound_type is)) (first_some (map literal_type is))
+
+-- with And, Or and Not, and as a condition, null is a truth value
+abbrev pub truth_type : Option LogicalType
+truth_type = Some (bool_type false)
 
 -- the value of a literal in that type
 abbrev pub constant_at : Literal → LogicalType → Outcome Tree
 constant_at l t = and_then (or_refuses NotHeld (value_at t l)) (λ s. answers (constant s))
-
--- a tree unchanged, and a literal with the type that it takes
-abbrev pub settled : Option LogicalType → Item → Outcome Tree
-settled o (bound t) = answers t
-settled o (literal l) = and_then (or_refuses UntypedNull (type_beside o l)) (constant_at l)
-
--- all of them, from left to right
-abbrev pub all_settled : Option LogicalType → List Item → Outcome (List Tree)
-all_settled o [] = answers []
-all_settled o (i ∷ is) =
-    and_then (settled o i) (λ t. and_then (all_settled o is) (λ ts. answers (t ∷ ts)))
 
 -- the result becomes an item
 abbrev pub as_item : Outcome Tree → Outcome Item
@@ -101,6 +101,28 @@ call_of f ts =
     else refused_at (place_of f (types_or_none (tree_types meaning (trees_of ts)))))
     else unfit f (length ts)
 
--- the call on these, whose literals take that type
+-- a tree, cast to the type if there is one; no row faults
+abbrev pub widened : Option PType → Tree → Outcome Tree
+widened None a = answers a
+widened (Some p) a = call_of (callable (standard.Widen (record { ptype = p }))) (a ∷ [])
+
+-- a tree of the second type where items take the first
+abbrev pub meeting : Option LogicalType → Option LogicalType → Tree → Outcome Tree
+meeting (Some t) (Some u) a = widened (widened_to t u) a
+meeting o p a = answers a
+
+-- where items take that type, a tree is cast to it if it is a wider integer type, and a literal
+-- takes it
+abbrev pub settled : Option LogicalType → Item → Outcome Tree
+settled o (bound a) = meeting o (tree_type meaning a) a
+settled o (literal l) = and_then (or_refuses UntypedNull (type_beside o l)) (constant_at l)
+
+-- all of them, from left to right
+abbrev pub all_settled : Option LogicalType → List Item → Outcome (List Tree)
+all_settled o [] = answers []
+all_settled o (i ∷ is) =
+    and_then (settled o i) (λ t. and_then (all_settled o is) (λ ts. answers (t ∷ ts)))
+
+-- the call on these, which take that type
 abbrev pub called : Callable → Option LogicalType → List Item → Outcome Tree
 called f o is = and_then (all_settled o is) (call_of f)

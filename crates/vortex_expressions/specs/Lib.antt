@@ -1,5 +1,6 @@
 pub mod Literals
 pub mod Outcomes
+pub mod Meeting
 pub mod Items
 pub mod Applied
 pub mod TypeNames

@@ -13,7 +13,7 @@ use Rattle.vortex_expressions.specs.Items.{Item, item_in, Tree, settled}
 use Rattle.vortex_expressions.specs.Calls.{operand_item, negative_item, typed_item, cast_item}
 use Rattle.vortex_expressions.specs.Calls.{not_item, joined_item, tested_item, distinct_item}
 use Rattle.vortex_expressions.specs.Calls.{between_item, minus_item, listed_item, chosen_item}
-use Rattle.vortex_expressions.specs.Calls.{matched_item}
+use Rattle.vortex_expressions.specs.Calls.{matched_item, plus_item, bit_not_item}
 use Rattle.vortex_expressions.specs.Applied.{applied_item}
 
 abbrev pub stack_in : List held.Item → List Item
@@ -53,6 +53,8 @@ case_count h k e = flag h + 2 * k + flag e
 abbrev pub call_made : Call → List Item → Outcome (List Item)
 call_made call.Not = with_one not_item
 call_made call.Minus = with_one minus_item
+call_made call.Plus = with_one plus_item
+call_made call.BitNot = with_one bit_not_item
 call_made (call.Join o) = with_two (joined_item o)
 call_made (call.Is k n) = with_one (tested_item k n)
 call_made (call.Distinct n) = with_two (distinct_item n)

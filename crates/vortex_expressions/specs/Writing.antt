@@ -36,9 +36,8 @@ use Rattle.vortex_syntax.specs.declared.token.Sign.TheVariants as sign
 use Rattle.vortex_syntax.specs.Tokens as token
 use Rattle.vortex_syntax.specs.Syntax.{Syntax, operand, negative, typed, grouped, negated, joined}
 use Rattle.vortex_syntax.specs.Syntax.{tested, between, matched, cast, nullary, applied, Arguments}
-use Rattle.vortex_syntax.specs.Syntax.{no_arguments, argument}
+use Rattle.vortex_syntax.specs.Syntax.{no_arguments, argument, Null}
 use Rattle.vortex_syntax.specs.Levels.{level, left, right, not_level, is_level, concat_level}
-use Rattle.vortex_syntax.specs.declared.step.Test.TheVariants.{Null}
 use Rattle.vortex_syntax.specs.Spelling.{spelling, test_tokens}
 use Rattle.vortex_syntax.specs.Nesting.{nests}
 use Rattle.vortex_syntax.specs.Writing as tokens
@@ -173,11 +172,11 @@ all_present (Some a ∷ os) = option_map (λ xs. a ∷ xs) (all_present os)
 
 -- the call of the function of that name, after the arguments before these
 abbrev pub applied_from : List ℕ → Arguments → Syntax → List Syntax → Syntax
-applied_from w args a [] = applied w args a
+applied_from w args a [] = applied false w args a
 applied_from w args a (b ∷ bs) = applied_from w (argument args a) b bs
 
 abbrev pub named_syntax : List ℕ → List Syntax → Syntax
-named_syntax w [] = nullary w
+named_syntax w [] = nullary false w
 named_syntax w (a ∷ bs) = applied_from w no_arguments a bs
 
 abbrev pub call_syntax : Callable → List (Option Syntax) → Option Syntax

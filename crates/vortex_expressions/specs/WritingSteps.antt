@@ -23,7 +23,7 @@ use Rattle.vortex_syntax.specs.Syntax.{Syntax, operand, negative, typed, grouped
 use Rattle.vortex_syntax.specs.Syntax.{minus, tested, distinct, between, matched, listed, cast}
 use Rattle.vortex_syntax.specs.Syntax.{chosen, chosen_else, nullary, applied, Arguments}
 use Rattle.vortex_syntax.specs.Syntax.{no_arguments, argument, Branches, without_operand}
-use Rattle.vortex_syntax.specs.Syntax.{of_operand, branch}
+use Rattle.vortex_syntax.specs.Syntax.{of_operand, branch, plus, bit_not, null_tested}
 use Rattle.vortex_syntax.specs.Levels.{own, left, right, not_level, is_level, predicate_level}
 use Rattle.vortex_syntax.specs.Levels.{concat_level, atom_level, typed_level, literal_level}
 use Rattle.vortex_syntax.specs.Spelling.{spelling, operator_sign, like_sign}
@@ -66,11 +66,14 @@ abbrev mutual
   nests_behind d (operand t) = true
   nests_behind d (negative ds) = true
   nests_behind d (minus a) = nests_behind d a
+  nests_behind d (plus a) = nests_behind d a
+  nests_behind d (bit_not a) = nests_behind d a
   nests_behind d (typed a w n) = nests_behind d a
   nests_behind d (grouped a) = nat_lt d nesting_limit && nests_behind (suc d) a
   nests_behind d (negated a) = nests_behind d a
   nests_behind d (joined o a b) = nests_behind d a && nests_behind d b
   nests_behind d (tested k n a) = nests_behind d a
+  nests_behind d (null_tested n a) = nests_behind d a
   nests_behind d (distinct n a b) = nests_behind d a && nests_behind d b
   nests_behind d (between n a low high) =
       nests_behind d a && (nests_behind d low && nests_behind d high)
@@ -83,8 +86,8 @@ abbrev mutual
       branches_nest_behind d bs && (nests_behind d c && nests_behind d v)
   nests_behind d (chosen_else bs c v e) =
       branches_nest_behind d bs && (nests_behind d c && (nests_behind d v && nests_behind d e))
-  nests_behind d (nullary w) = nat_lt d nesting_limit
-  nests_behind d (applied w args a) =
+  nests_behind d (nullary p w) = nat_lt d nesting_limit
+  nests_behind d (applied p w args a) =
       nat_lt d nesting_limit && (all_nest_behind (suc d) args && nests_behind (suc d) a)
 
   pub all_nest_behind : ℕ → Arguments → Bool

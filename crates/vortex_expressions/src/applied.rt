@@ -1,33 +1,35 @@
 //! Calls of SQL's functions by their names.
-ghost use Rattle.std.specs.Prelude.{◌≡◌, map, option_map};
+ghost use Rattle.std.specs.Prelude.{◌≡◌, map, option_map, None};
 ghost use Rattle.vortex_errors.specs.Answers.{AnswersUnlessMemory};
 ghost use Rattle.vortex_types.specs.TypeOf.{type_of};
-ghost use Rattle.vortex_functions.specs.FunctionOf.{function_of};
 ghost use Rattle.vortex_expressions.specs.Applied as specs;
+ghost use Rattle.vortex_expressions.specs.Meeting as meetings;
 ghost use Rattle.vortex_expressions.specs.Items.{item_in, bound_type, literal_type, first_some};
-ghost use Rattle.vortex_expressions.specs.Items.{common_type};
+ghost use Rattle.vortex_expressions.specs.Items.{common_type, settled, truth_type};
 ghost use Rattle.vortex_expressions.specs.Answering.{Gives};
 
-use crate::item::{Item, called, common_type, first_bound_type, first_literal_type};
+use crate::item::{
+    Item, call_of, callable, common_type, first_literal_type, meeting_type, settle_all,
+};
+use crate::meeting::met_next;
 use crate::refusal::{BindStop, Refusal};
 use std::alloc::Global;
-use vortex_columns::{DType, VortexResult};
-use vortex_functions::{BoundExpression, EmptyOptions, ScalarFnRef};
+use vortex_columns::{DType, Nullability, VortexResult};
+use vortex_functions::BoundExpression;
 use vortex_standard::{Standard, Takes, named};
 
-/// The type of the first tree among the values of cases.
-fn first_bound_value(alloc: Global, items: &[Item]) -> VortexResult<Option<DType>>
+/// The type in which the values of cases meet.
+fn value_type(alloc: Global, items: &[Item]) -> VortexResult<Option<DType>>
     ensures { AnswersUnlessMemory result (λ t. option_map (λ t. type_of t) t
-        ≡ first_some (map bound_type (specs.values_of (map item_in items.now)))) }
+        ≡ meetings.meeting_type None (map bound_type (specs.values_of (map item_in items.now)))) }
 {
+    let mut met = None;
     let mut rest = items;
     while let [_condition, value, more @ ..] = rest {
-        if let Some(dtype) = value.bound_type() {
-            return Ok(Some(dtype.try_clone(alloc)?));
-        }
+        met = met_next(alloc, met, value.bound_type())?;
         rest = more;
     }
-    first_bound_type(alloc, rest)
+    meeting_type(alloc, met, rest)
 }
 
 /// The default type of the first literal with one among the values of cases.
@@ -45,34 +47,67 @@ fn first_literal_value(items: &[Item]) -> Option<DType>
     first_literal_type(rest)
 }
 
-/// The type that literals take among the values of cases.
-fn common_value_type(alloc: Global, items: &[Item]) -> VortexResult<Option<DType>>
+/// The type of the values of cases.
+pub(crate) fn common_value_type(alloc: Global, items: &[Item]) -> VortexResult<Option<DType>>
     ensures { AnswersUnlessMemory result (λ t. option_map (λ t. type_of t) t
         ≡ common_type (specs.values_of (map item_in items.now))) }
 {
-    match first_bound_value(alloc, items)? {
+    match value_type(alloc, items)? {
         Some(dtype) => Ok(Some(dtype)),
         None => Ok(first_literal_value(items)),
     }
 }
 
-/// The type that literals take among the arguments.
-fn argument_type(alloc: Global, takes: Takes, items: &[Item]) -> VortexResult<Option<DType>>
-    ensures { AnswersUnlessMemory result (λ t. option_map (λ t. type_of t) t
-        ≡ specs.argument_type takes (map item_in items.now)) }
+/// A condition: a literal becomes a truth value.
+fn settle_condition(alloc: Global, item: &Item) -> Result<BoundExpression<Standard>, BindStop>
+    ensures { Gives (λ t. t) result (settled truth_type (item_in item.now)) }
 {
-    match takes {
-        Takes::Alike(_) => common_type(alloc, items),
-        Takes::Each(_, _, _) => Ok(None),
-        Takes::Cases => common_value_type(alloc, items),
-    }
+    let truth = DType::Bool(Nullability::NonNullable);
+    item.settle(alloc, Some(&truth))
 }
 
-/// The function without options.
-pub(crate) fn callable(function: Standard) -> ScalarFnRef<Standard>
-    ensures { function_of result ≡ specs.callable function }
+/// Cases: conditions are truth values, and values take that type.
+fn settle_cases(
+    alloc: Global,
+    beside: Option<&DType>,
+    items: &[Item],
+) -> Result<Vec<BoundExpression<Standard>>, BindStop>
+    ensures { Gives (λ ts. ts.items) result (specs.cases_settled
+        (option_map (λ t. type_of t.now) beside.entry) (map item_in items.now)) }
 {
-    ScalarFnRef::custom(function, EmptyOptions)
+    let mut trees = Vec::new(alloc);
+    let mut rest = items;
+    while let [condition, value, more @ ..] = rest {
+        trees.push(settle_condition(alloc, condition)?)?;
+        trees.push(value.settle(alloc, beside)?)?;
+        rest = more;
+    }
+    if let [value] = rest {
+        trees.push(value.settle(alloc, beside)?)?;
+    }
+    Ok(trees)
+}
+
+/// The arguments; those that are alike take one type.
+fn settle_arguments(
+    alloc: Global,
+    takes: Takes,
+    items: &[Item],
+) -> Result<Vec<BoundExpression<Standard>>, BindStop>
+    ensures { Gives (λ ts. ts.items) result
+        (specs.arguments_settled takes (map item_in items.now)) }
+{
+    match takes {
+        Takes::Alike(_) => {
+            let dtype = common_type(alloc, items)?;
+            settle_all(alloc, dtype.as_ref(), items)
+        }
+        Takes::Each(_, _, _) => settle_all(alloc, None, items),
+        Takes::Cases => {
+            let dtype = common_value_type(alloc, items)?;
+            settle_cases(alloc, dtype.as_ref(), items)
+        }
+    }
 }
 
 /// The call on items.
@@ -83,8 +118,8 @@ pub(crate) fn function_call(
 ) -> Result<BoundExpression<Standard>, BindStop>
     ensures { Gives (λ t. t) result (specs.function_call function (map item_in items.items)) }
 {
-    let dtype = argument_type(alloc, function.takes(), &items)?;
-    called(alloc, callable(function), dtype.as_ref(), items)
+    let trees = settle_arguments(alloc, function.takes(), &items)?;
+    call_of(alloc, callable(function), trees)
 }
 
 /// The call of the function of that name.

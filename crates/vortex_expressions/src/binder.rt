@@ -14,8 +14,8 @@ ghost use Rattle.vortex_expressions.specs.Answering.{Gives, StopsBy};
 
 use crate::applied::applied_item;
 use crate::calls::{
-    between_item, chosen_item, distinct_item, joined_item, listed_item, matched_item, minus_item,
-    negative_item, not_item, operand_item, tested_item, typed_item,
+    between_item, bit_not_item, chosen_item, distinct_item, joined_item, listed_item, matched_item,
+    minus_item, negative_item, not_item, operand_item, plus_item, tested_item, typed_item,
 };
 use crate::casts::cast_item;
 use crate::item::Item;
@@ -93,6 +93,14 @@ impl Stack {
             Call::Minus => {
                 let item = self.pop()?;
                 self.push(minus_item(alloc, item)?)
+            }
+            Call::Plus => {
+                let item = self.pop()?;
+                self.push(plus_item(alloc, item)?)
+            }
+            Call::BitNot => {
+                let item = self.pop()?;
+                self.push(bit_not_item(alloc, item)?)
             }
             Call::Is(test, negated) => {
                 let item = self.pop()?;

@@ -10,9 +10,9 @@ ghost use Rattle.vortex_expressions.specs.Items.{item_in};
 ghost use Rattle.vortex_expressions.specs.Literals.{literal_in};
 ghost use Rattle.vortex_expressions.specs.Answering.{Gives};
 
-use crate::applied::{callable, function_call};
+use crate::applied::function_call;
 use crate::casts::type_of_name;
-use crate::item::{Item, called, common_type, constant_at};
+use crate::item::{Item, callable, called, common_type, constant_at};
 use crate::literal::Literal;
 use crate::quotes::{between_quotes, text_of};
 use crate::refusal::{BindStop, Refusal};
@@ -21,7 +21,7 @@ use vortex_cells::escapes;
 use vortex_columns::{DType, Nullability, StructFields, VortexResult};
 use vortex_functions::{BoundExpression, LikeOptions, ScalarFnRef};
 use vortex_operators::{BetweenOptions, Operator, StrictComparison};
-use vortex_standard::{Standard, TruthTest};
+use vortex_standard::{BitOperator, Shift, Standard, TruthTest};
 use vortex_syntax::{LikeKind, Sign, Test, Token, WrittenOperator as Written};
 
 /// The column of that name.
@@ -120,6 +120,11 @@ fn written_function(written: Written) -> ScalarFnRef<Standard>
         Written::Div => ScalarFnRef::Binary(Operator::Div),
         Written::Mod => callable(Standard::Remainder),
         Written::Concat => callable(Standard::Concat),
+        Written::BitAnd => callable(Standard::BitOperator(BitOperator::And)),
+        Written::BitOr => callable(Standard::BitOperator(BitOperator::Or)),
+        Written::BitXor => callable(Standard::BitOperator(BitOperator::Xor)),
+        Written::ShiftLeft => callable(Standard::Shift(Shift::Left)),
+        Written::ShiftRight => callable(Standard::Shift(Shift::Right)),
     }
 }
 
@@ -258,6 +263,32 @@ pub(crate) fn minus_item(alloc: Global, item: Item) -> Result<Item, BindStop>
     joined_item(alloc, Written::Sub, zero, item)
 }
 
+/// Whether the item is a literal number.
+fn is_number(item: &Item) -> bool
+    ensures { result ≡ specs.is_number (item_in item.now) }
+{
+    matches!(item, Item::Literal(Literal::Number(_)))
+}
+
+/// A plus sign: a literal number stays, anything else is added to zero.
+pub(crate) fn plus_item(alloc: Global, item: Item) -> Result<Item, BindStop>
+    ensures { Gives item_in result (specs.plus_item (item_in item)) }
+{
+    if is_number(&item) {
+        return Ok(item);
+    }
+    let zero = Item::Literal(Literal::Number(String::from_str(alloc, "0")?));
+    joined_item(alloc, Written::Add, zero, item)
+}
+
+/// A tilde: the bits turned.
+pub(crate) fn bit_not_item(alloc: Global, item: Item) -> Result<Item, BindStop>
+    ensures { Gives item_in result (specs.bit_not_item (item_in item)) }
+{
+    let tree = function_call(alloc, Standard::BitNot, vec![in alloc; item]?)?;
+    Ok(Item::Bound(tree))
+}
+
 /// IN, whose operand is the first of the items, or NOT IN.
 pub(crate) fn listed_item(alloc: Global, negated: bool, items: Vec<Item>) -> Result<Item, BindStop>
     ensures { Gives item_in result (specs.listed_item negated (map item_in items.items)) }
@@ -266,7 +297,40 @@ pub(crate) fn listed_item(alloc: Global, negated: bool, items: Vec<Item>) -> Res
     Ok(Item::Bound(negated_if(alloc, negated, tree)?))
 }
 
-/// CASE of conditions with their values; one with an operand is refused.
+/// Cases with an operand: each condition is that it equals the value.
+fn equal_cases(alloc: Global, operand: &Item, items: &[Item]) -> Result<Vec<Item>, BindStop>
+    ensures { Gives (λ is. map item_in is.items) result
+        (specs.equal_cases (item_in operand.now) (map item_in items.now)) }
+{
+    let mut cases = Vec::new(alloc);
+    let mut rest = items;
+    while let [case, value, more @ ..] = rest {
+        let (left, right) = (operand.try_clone(alloc)?, case.try_clone(alloc)?);
+        cases.push(joined_item(alloc, Written::Equal, left, right)?)?;
+        cases.push(value.try_clone(alloc)?)?;
+        rest = more;
+    }
+    if let [last] = rest {
+        cases.push(last.try_clone(alloc)?)?;
+    }
+    Ok(cases)
+}
+
+/// The conditions with their values; an operand, if the flag is true, is the first of the items.
+fn conditions_of(alloc: Global, has_operand: bool, items: Vec<Item>) -> Result<Vec<Item>, BindStop>
+    ensures { Gives (λ is. map item_in is.items) result
+        (specs.conditions_of has_operand (map item_in items.items)) }
+{
+    if !has_operand {
+        return Ok(items);
+    }
+    match items.as_slice() {
+        [operand, cases @ ..] => equal_cases(alloc, operand, cases),
+        [] => Ok(items),
+    }
+}
+
+/// CASE.
 pub(crate) fn chosen_item(
     alloc: Global,
     has_operand: bool,
@@ -274,10 +338,8 @@ pub(crate) fn chosen_item(
 ) -> Result<Item, BindStop>
     ensures { Gives item_in result (specs.chosen_item has_operand (map item_in items.items)) }
 {
-    if has_operand {
-        return Err(BindStop::Refused(Refusal::NoFunction));
-    }
-    Ok(Item::Bound(function_call(alloc, Standard::Case, items)?))
+    let cases = conditions_of(alloc, has_operand, items)?;
+    Ok(Item::Bound(function_call(alloc, Standard::Case, cases)?))
 }
 
 /// BETWEEN, with inclusive bounds.

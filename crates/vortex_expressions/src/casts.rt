@@ -8,8 +8,7 @@ ghost use Rattle.vortex_expressions.specs.Calls.{type_of_name, cast_item};
 ghost use Rattle.vortex_expressions.specs.Items.{item_in};
 ghost use Rattle.vortex_expressions.specs.Answering.{Gives};
 
-use crate::applied::callable;
-use crate::item::{Item, call_of, called};
+use crate::item::{Item, call_of, callable, called};
 use crate::quotes::text_of;
 use crate::refusal::{BindStop, Refusal};
 use std::alloc::Global;

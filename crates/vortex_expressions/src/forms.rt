@@ -1,15 +1,15 @@
 //! Functions that there are not, and how what they mean is written.
+use crate::hints::missing_function;
 use crate::words::LIKENED;
 use std::alloc::Global;
 use std::str;
 use strsim::osa_distance;
 use vortex_columns::VortexResult;
-use vortex_standard::{FUNCTIONS, Kind, Standard, Takes, TruthTest, named};
+use vortex_standard::{BitOperator, FUNCTIONS, Kind, Shift, Standard, Takes, TruthTest, named};
 use vortex_syntax::{Call, Step, WrittenOperator};
 
 /// Names by which other languages call what has no form of a call here, and how it is written.
-const FORMS: [(&str, &str); 9] = [
-    ("isnull", "a is null"),
+const FORMS: [(&str, &str); 8] = [
     ("is_null", "a is null"),
     ("isnotnull", "a is not null"),
     ("is_not_null", "a is not null"),
@@ -64,11 +64,11 @@ fn called_name<'a>(step: Option<&Step<'a>>) -> &'a [u8] {
 
 /// The function that there is not, and the one that may be meant, or how it is written.
 pub(crate) fn function_text(alloc: Global, step: Option<&Step<'_>>) -> VortexResult<String> {
-    if let Some(Step::Case(_, _, _)) = step {
-        let text = "case takes conditions alone: write case when a = x then .. end";
-        return Ok(String::from_str(alloc, text)?);
-    }
     let written = str::from_utf8(called_name(step)).unwrap_or("");
+    let missing = missing_function(called_name(step));
+    if !missing.is_empty() {
+        return Ok(format!(in alloc; "no function {written:?}; {missing}")?);
+    }
     if let Some(form) = form_of(alloc, written)? {
         return Ok(format!(in alloc; "no function {written:?}; write {form}")?);
     }
@@ -92,7 +92,7 @@ fn kinds_text(kind: Kind) -> &'static str {
     match kind {
         Kind::Any => "values of one type",
         Kind::Truth => "truth values",
-        Kind::Integer => "integers of one type",
+        Kind::Integer => "integers",
         Kind::Within(_) => "an integer of a type that the other holds",
         Kind::Text => "texts",
     }
@@ -114,8 +114,20 @@ fn push_taken(out: &mut String, takes: Takes, count: usize) -> VortexResult<()> 
     Ok(())
 }
 
+/// The function of bits that an operator is.
+fn bits_of(operator: WrittenOperator) -> Option<Standard> {
+    match operator {
+        WrittenOperator::BitAnd => Some(Standard::BitOperator(BitOperator::And)),
+        WrittenOperator::BitOr => Some(Standard::BitOperator(BitOperator::Or)),
+        WrittenOperator::BitXor => Some(Standard::BitOperator(BitOperator::Xor)),
+        WrittenOperator::ShiftLeft => Some(Standard::Shift(Shift::Left)),
+        WrittenOperator::ShiftRight => Some(Standard::Shift(Shift::Right)),
+        _ => None,
+    }
+}
+
 /// The function of SQL that a step calls.
-fn function_in(step: Option<&Step<'_>>) -> Option<Standard> {
+pub(crate) fn function_in(step: Option<&Step<'_>>) -> Option<Standard> {
     match step {
         Some(Step::Apply(name, _)) => named(*name),
         Some(Step::Call(Call::Is(_, _))) => Some(Standard::TruthTest(TruthTest::IsTrue)),
@@ -124,6 +136,8 @@ fn function_in(step: Option<&Step<'_>>) -> Option<Standard> {
         Some(Step::Case(_, _, _)) => Some(Standard::Case),
         Some(Step::Call(Call::Join(WrittenOperator::Mod))) => Some(Standard::Remainder),
         Some(Step::Call(Call::Join(WrittenOperator::Concat))) => Some(Standard::Concat),
+        Some(Step::Call(Call::Join(operator))) => bits_of(*operator),
+        Some(Step::Call(Call::BitNot)) => Some(Standard::BitNot),
         _ => None,
     }
 }

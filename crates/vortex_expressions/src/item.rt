@@ -3,18 +3,21 @@ ghost use Rattle.std.specs.Prelude.{◌≡◌, map, option_map, is_some, None, t
 ghost use Rattle.vortex_errors.specs.Answers.{AnswersUnlessMemory};
 ghost use Rattle.vortex_types.specs.TypeOf.{type_of};
 ghost use Rattle.vortex_functions.specs.FunctionOf.{function_of, instance_in};
+ghost use Rattle.vortex_expressions.specs.Meeting as meetings;
+ghost use Rattle.vortex_expressions.specs.Items as specs;
 ghost use Rattle.vortex_expressions.specs.Items.{item_in, bound_type, literal_type, first_some};
 ghost use Rattle.vortex_expressions.specs.Items.{common_type, constant_at, settled, all_settled};
-ghost use Rattle.vortex_expressions.specs.Items.{call_of, called};
+ghost use Rattle.vortex_expressions.specs.Items.{call_of, called, bound};
 ghost use Rattle.vortex_expressions.specs.Literals.{literal_in};
 ghost use Rattle.vortex_expressions.specs.Answering.{Gives};
 
 use crate::literal::Literal;
+use crate::meeting::{met_next, widened_to};
 use crate::refusal::{BindStop, Refusal};
 use std::alloc::Global;
-use vortex_columns::{DType, MismatchPlace, VortexError, VortexResult};
-use vortex_functions::{BoundExpression, ScalarFnRef};
-use vortex_standard::Standard;
+use vortex_columns::{DType, MismatchPlace, PType, VortexError, VortexResult};
+use vortex_functions::{BoundExpression, EmptyOptions, ScalarFnRef};
+use vortex_standard::{Standard, Widen};
 
 /// A literal without a type yet, or a tree.
 #[derive(Drop)]
@@ -58,37 +61,52 @@ impl Item {
         }
     }
 
-    /// A tree unchanged, and a literal with the type that it takes.
+    /// A copy.
+    pub(crate) fn try_clone(&self, alloc: Global) -> VortexResult<Item>
+        ensures { AnswersUnlessMemory result (λ i. item_in i ≡ item_in self.now) }
+    {
+        match self {
+            Item::Bound(tree) => Ok(Item::Bound(tree.try_clone(alloc)?)),
+            Item::Literal(literal) => Ok(Item::Literal(literal.try_clone(alloc)?)),
+        }
+    }
+
+    /// Its tree where that type is taken: a tree of a narrower integer type is cast, and a literal
+    /// takes the type.
     pub(crate) fn settle(
-        self,
+        &self,
         alloc: Global,
         beside: Option<&DType>,
     ) -> Result<BoundExpression<Standard>, BindStop>
         ensures { Gives (λ t. t) result
-            (settled (option_map (λ t. type_of t.now) beside.entry) (item_in self)) }
+            (settled (option_map (λ t. type_of t.now) beside.entry) (item_in self.now)) }
     {
         let literal = match self {
-            Item::Bound(tree) => return Ok(tree),
+            Item::Bound(tree) => return meeting(alloc, beside, tree.try_clone(alloc)?),
             Item::Literal(literal) => literal,
         };
         match literal.type_beside(alloc, beside)? {
-            Some(dtype) => constant_at(alloc, &literal, dtype),
+            Some(dtype) => constant_at(alloc, literal, dtype),
             None => Err(BindStop::Refused(Refusal::UntypedNull)),
         }
     }
 }
 
-/// The type of the first tree.
-pub(crate) fn first_bound_type(alloc: Global, items: &[Item]) -> VortexResult<Option<DType>>
+/// The type in which trees meet, after those so far.
+pub(crate) fn meeting_type(
+    alloc: Global,
+    found: Option<DType>,
+    items: &[Item],
+) -> VortexResult<Option<DType>>
     ensures { AnswersUnlessMemory result (λ t. option_map (λ t. type_of t) t
-        ≡ first_some (map bound_type (map item_in items.now))) }
+        ≡ meetings.meeting_type (option_map (λ t. type_of t) found)
+        (map bound_type (map item_in items.now))) }
 {
+    let mut met = found;
     for item in items {
-        if let Some(dtype) = item.bound_type() {
-            return Ok(Some(dtype.try_clone(alloc)?));
-        }
+        met = met_next(alloc, met, item.bound_type())?;
     }
-    Ok(None)
+    Ok(met)
 }
 
 /// The type of the first literal with a default type.
@@ -104,31 +122,22 @@ pub(crate) fn first_literal_type(items: &[Item]) -> Option<DType>
     None
 }
 
-/// The type that literals take next to other items. E9 where an allocation fails.
+/// The type of items next to each other. E9 where an allocation fails.
 pub(crate) fn common_type(alloc: Global, items: &[Item]) -> VortexResult<Option<DType>>
     ensures { AnswersUnlessMemory result (λ t. option_map (λ t. type_of t) t
         ≡ common_type (map item_in items.now)) }
 {
-    match first_bound_type(alloc, items)? {
+    match meeting_type(alloc, None, items)? {
         Some(dtype) => Ok(Some(dtype)),
         None => Ok(first_literal_type(items)),
     }
 }
 
-/// All of them with their types, from left to right.
-fn settle_all(
-    alloc: Global,
-    beside: Option<&DType>,
-    items: Vec<Item>,
-) -> Result<Vec<BoundExpression<Standard>>, BindStop>
-    ensures { Gives (λ ts. ts.items) result
-        (all_settled (option_map (λ t. type_of t.now) beside.entry) (map item_in items.items)) }
+/// The function without options.
+pub(crate) fn callable(function: Standard) -> ScalarFnRef<Standard>
+    ensures { function_of result ≡ specs.callable function }
 {
-    let mut trees = Vec::new(alloc);
-    for item in items {
-        trees.push(item.settle(alloc, beside)?)?;
-    }
-    Ok(trees)
+    ScalarFnRef::custom(function, EmptyOptions)
 }
 
 /// The call of a shipped function on trees.
@@ -180,7 +189,58 @@ pub(crate) fn call_of(
     }
 }
 
-/// The call of a function on items, whose literals take that type.
+/// A tree, cast to the integer type if there is one.
+fn widened(
+    alloc: Global,
+    ptype: Option<PType>,
+    tree: BoundExpression<Standard>,
+) -> Result<BoundExpression<Standard>, BindStop>
+    ensures { Gives (λ t. t) result (specs.widened ptype tree) }
+{
+    match ptype {
+        Some(ptype) => {
+            let widen = callable(Standard::Widen(Widen { ptype }));
+            call_of(alloc, widen, vec![in alloc; tree]?)
+        }
+        None => Ok(tree),
+    }
+}
+
+/// A tree where that type is taken.
+fn meeting(
+    alloc: Global,
+    beside: Option<&DType>,
+    tree: BoundExpression<Standard>,
+) -> Result<BoundExpression<Standard>, BindStop>
+    ensures { Gives (λ t. t) result
+        (settled (option_map (λ t. type_of t.now) beside.entry) (bound tree)) }
+{
+    match beside {
+        Some(taken) => {
+            let ptype = widened_to(taken, tree.dtype());
+            widened(alloc, ptype, tree)
+        }
+        None => Ok(tree),
+    }
+}
+
+/// All of them with their types, from left to right.
+pub(crate) fn settle_all(
+    alloc: Global,
+    beside: Option<&DType>,
+    items: &[Item],
+) -> Result<Vec<BoundExpression<Standard>>, BindStop>
+    ensures { Gives (λ ts. ts.items) result
+        (all_settled (option_map (λ t. type_of t.now) beside.entry) (map item_in items.now)) }
+{
+    let mut trees = Vec::new(alloc);
+    for item in items {
+        trees.push(item.settle(alloc, beside)?)?;
+    }
+    Ok(trees)
+}
+
+/// The call of a function on items, which take that type.
 pub(crate) fn called(
     alloc: Global,
     function: ScalarFnRef<Standard>,
@@ -190,6 +250,6 @@ pub(crate) fn called(
     ensures { Gives (λ t. t) result (called (function_of function)
         (option_map (λ t. type_of t.now) beside.entry) (map item_in items.items)) }
 {
-    let trees = settle_all(alloc, beside, items)?;
+    let trees = settle_all(alloc, beside, &items)?;
     call_of(alloc, function, trees)
 }

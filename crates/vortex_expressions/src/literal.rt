@@ -37,6 +37,18 @@ fn truth_word(truth: bool) -> &'static str
 }
 
 impl Literal {
+    /// A copy.
+    pub(crate) fn try_clone(&self, alloc: Global) -> VortexResult<Literal>
+        ensures { AnswersUnlessMemory result (λ l. literal_in l ≡ literal_in self.now) }
+    {
+        match self {
+            Literal::Number(word) => Ok(Literal::Number(String::from_str(alloc, word.as_str())?)),
+            Literal::Text(text) => Ok(Literal::Text(String::from_str(alloc, text.as_str())?)),
+            Literal::Truth(truth) => Ok(Literal::Truth(*truth)),
+            Literal::Null => Ok(Literal::Null),
+        }
+    }
+
     /// The default type; null has none.
     pub(crate) fn own_type(&self) -> Option<DType>
         ensures { option_map (λ t. type_of t) result ≡ own_type (literal_in self.now) }

@@ -59,6 +59,11 @@ pub(crate) fn operator_sign(operator: Written) -> Sign
         Written::Div => Sign::Divide,
         Written::Mod => Sign::Modulo,
         Written::Concat => Sign::Concat,
+        Written::BitAnd => Sign::BitAnd,
+        Written::BitOr => Sign::BitOr,
+        Written::BitXor => Sign::BitXor,
+        Written::ShiftLeft => Sign::ShiftLeft,
+        Written::ShiftRight => Sign::ShiftRight,
     }
 }
 

@@ -1,0 +1,15 @@
+use Rattle.std.proofs.Common.{◌≡◌, None, length, map, option_map}
+use Rattle.vortex_types.specs.TypeOf.{type_of}
+use Rattle.vortex_expressions.specs.Meeting.{meeting_type}
+use Rattle.vortex_expressions.specs.Items.{item_in, bound_type}
+use Rattle.vortex_expressions.specs.Applied.{values_of}
+use Rattle.vortex_expressions.proofs.applied.value_type.Given as goal
+
+abbrev pub invariant-loop-rest : goal.invariant-loop-rest
+invariant-loop-rest l =
+    meeting_type (option_map (λ t. type_of t) l.met)
+    (map bound_type (values_of (map item_in l.rest)))
+    ≡ meeting_type None (map bound_type (values_of (map item_in l.items)))
+
+abbrev pub decreases-loop-rest : goal.decreases-loop-rest
+decreases-loop-rest l = length l.rest

@@ -1,0 +1,16 @@
+use Rattle.std.proofs.Common.{◌≡◌, ◌∙◌, ◌++◌, ◌∷◌, [], List, ap}
+use Rattle.vortex_expressions.specs.declared.item.Item as held
+use Rattle.vortex_expressions.proofs.Settling.{equal_step}
+use Rattle.vortex_expressions.proofs.calls.equal_cases.Goals as goal
+
+pub loop-rest-preserved : goal.loop-rest-preserved
+loop-rest-preserved c =
+    equal_step c.args.operand.now c.loop-rest.rest.now c.case-item.result c.value-item.result
+    c.in_ok-left.left c.in_ok-right.right c.in_ok-joined_item.field-0
+    c.in_ok-try_clone.field-0 c.loop-rest.cases.items _ _ c.in-len2-up.len_at_least
+    c.case-item.is c.value-item.is c.in_ok-left.ensures c.in_ok-right.ensures
+    c.in_ok-try_clone.ensures c.in_ok-joined_item.ensures
+    (c.in_ok-push-2.ensures.items
+    ∙ ap (λ (is : List held.Item). is ++ c.in_ok-try_clone.field-0 ∷ [])
+    c.in_ok-push.ensures.items)
+    c.loop-rest.invariant

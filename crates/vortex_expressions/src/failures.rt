@@ -1,0 +1,334 @@
+//! Reports of errors that are no syntax errors, in words.
+use crate::applied::common_value_type;
+use crate::binder::operands;
+use crate::calls::joined_item;
+use crate::casts::type_of_name;
+use crate::forms::{function_in, function_text, push_accepted};
+use crate::item::{Item, common_type};
+use crate::item_texts::{is_fraction, push_fraction, push_literal, push_types};
+use crate::meeting::met_next;
+use crate::quotes::unquoted;
+use crate::refusal::Refusal;
+use crate::words::{found_at, nearest};
+use std::alloc::Global;
+use std::fmt::Write;
+use std::str;
+use vortex_columns::{DType, MismatchPlace, StructFields, VortexError, VortexResult};
+use vortex_standard::{Takes, has_all_of};
+use vortex_syntax::{Call, Step, SyntaxTree, Token, WrittenOperator};
+
+/// How many items a step takes; the end takes all that are left.
+fn operand_count(step: Option<&Step<'_>>) -> usize {
+    match step {
+        Some(Step::Operand(_)) | Some(Step::Negative(_)) => 0,
+        Some(Step::Apply(_, count)) => *count,
+        Some(Step::In(_, count)) => count.saturating_add(1),
+        Some(Step::Case(has_operand, count, has_else)) => {
+            let pairs = count.saturating_mul(2);
+            pairs.saturating_add(*has_operand as usize + *has_else as usize)
+        }
+        Some(Step::Call(Call::Join(_) | Call::Like(_) | Call::Distinct(_))) => 2,
+        Some(Step::Escaped(_, _)) => 2,
+        Some(Step::Call(Call::Between(_))) => 3,
+        _ => 1,
+    }
+}
+
+/// What a call accepts that does not accept types at that place.
+fn taken_at(place: MismatchPlace) -> &'static str {
+    match place {
+        MismatchPlace::Arithmetic => "two whole numbers",
+        MismatchPlace::Compare => "two values of one type",
+        MismatchPlace::Boolean => "two truth values",
+        MismatchPlace::Not => "a truth value",
+        MismatchPlace::BetweenLower | MismatchPlace::BetweenUpper => "three values of one type",
+        MismatchPlace::LikeInput | MismatchPlace::LikePattern => "two texts",
+        MismatchPlace::Cast => "a truth value",
+        MismatchPlace::Scalars => "values of one type",
+    }
+}
+
+/// How many columns of a scope are listed.
+const LISTED: usize = 10;
+
+/// The first columns that there are; nothing of a scope without columns.
+fn push_columns(out: &mut String, scope: &StructFields) -> VortexResult<()> {
+    let count = scope.len();
+    for place in 0..count.min(LISTED) {
+        out.push_str(if place == 0 { "; there are " } else { ", " })?;
+        out.push_str(scope.name(place))?;
+    }
+    if count > LISTED {
+        write!(out, " and {} more", count - LISTED)?;
+    }
+    Ok(())
+}
+
+/// The column that the scope does not have, and the one that may be meant.
+fn column_text(
+    alloc: Global,
+    scope: &StructFields,
+    step: Option<&Step<'_>>,
+) -> VortexResult<String> {
+    let (written, is_quoted) = match step {
+        Some(Step::Operand(Token::Name(name))) => (*name, false),
+        Some(Step::Operand(Token::Quoted(name))) => (*name, true),
+        _ => (b"" as &[u8], false),
+    };
+    // A name without quotes has none within.
+    let name = unquoted(alloc, b'"', written)?;
+    let name = str::from_utf8(&name).unwrap_or("");
+    match nearest(alloc, scope, name)? {
+        Some(other) => Ok(format!(in alloc; "no column {name:?}; is {other:?} meant?")?),
+        None if is_quoted => Ok(format!(in alloc;
+            "no column {name:?}; texts are written in single quotes, as 'text'"
+        )?),
+        None => {
+            let mut out = format!(in alloc; "no column {name:?}")?;
+            push_columns(&mut out, scope)?;
+            Ok(out)
+        }
+    }
+}
+
+/// The literal among the items that has no value in the type that it takes; whether there is one.
+fn push_unheld(
+    out: &mut String,
+    alloc: Global,
+    taken: Option<&DType>,
+    items: &[Item],
+) -> VortexResult<bool> {
+    for item in items {
+        let Item::Literal(literal) = item else {
+            continue;
+        };
+        let Some(dtype) = literal.type_beside(alloc, taken)? else {
+            continue;
+        };
+        if literal.value_at(alloc, dtype.try_clone(alloc)?)?.is_none() {
+            if is_fraction(literal) {
+                push_fraction(out, literal)?;
+            } else {
+                push_literal(out, literal)?;
+                out.push_str(" is no ")?;
+                dtype.write_text(out)?;
+            }
+            return Ok(true);
+        }
+    }
+    Ok(false)
+}
+
+/// That no integer type has the numbers of all of these types, if they are integer types.
+fn push_apart(out: &mut String, alloc: Global, types: &[DType]) -> VortexResult<()> {
+    let mut met = None;
+    for dtype in types {
+        met = met_next(alloc, met, Some(dtype))?;
+    }
+    let Some(DType::Primitive(wide, _)) = &met else {
+        return Ok(());
+    };
+    for dtype in types {
+        match dtype {
+            DType::Primitive(other, _) if has_all_of(*wide, *other) => {}
+            DType::Primitive(other, _) => {
+                let (wide, other) = (wide.text(), other.text());
+                write!(out, "; no type has every number of {wide} and {other}")?;
+                return Ok(());
+            }
+            _ => return Ok(()),
+        }
+    }
+    Ok(())
+}
+
+/// The literal that has no value in the type after it.
+fn push_untyped(out: &mut String, name: &[u8], items: &[Item]) -> VortexResult<()> {
+    if let Some(Item::Literal(literal)) = items.last() {
+        if is_fraction(literal) {
+            return push_fraction(out, literal);
+        }
+        push_literal(out, literal)?;
+    }
+    let name = str::from_utf8(name).unwrap_or("");
+    write!(out, " is no {name}")?;
+    Ok(())
+}
+
+/// The operand of cases and the first value that it does not compare with, if there is one.
+fn unequal_items(alloc: Global, operand: &Item, cases: &[Item]) -> VortexResult<Option<Vec<Item>>> {
+    let mut rest = cases;
+    while let [case, _value, more @ ..] = rest {
+        let (left, right) = (operand.try_clone(alloc)?, case.try_clone(alloc)?);
+        if joined_item(alloc, WrittenOperator::Equal, left, right).is_err() {
+            let pair = vec![in alloc; operand.try_clone(alloc)?, case.try_clone(alloc)?]?;
+            return Ok(Some(pair));
+        }
+        rest = more;
+    }
+    Ok(None)
+}
+
+fn copies(alloc: Global, items: &[Item]) -> VortexResult<Vec<Item>> {
+    let mut copied = Vec::new(alloc);
+    for item in items {
+        copied.push(item.try_clone(alloc)?)?;
+    }
+    Ok(copied)
+}
+
+/// The types of the trees that are to be alike: of cases the values.
+fn alike_types(alloc: Global, items: &[Item], are_cases: bool) -> VortexResult<Vec<DType>> {
+    let mut types = Vec::new(alloc);
+    for (place, item) in items.iter().enumerate() {
+        let is_value = !are_cases || place % 2 == 1 || place + 1 == items.len();
+        if let (true, Some(dtype)) = (is_value, item.bound_type()) {
+            types.push(dtype.try_clone(alloc)?)?;
+        }
+    }
+    Ok(types)
+}
+
+/// The report for a text without syntax errors.
+#[derive(Clone, Copy)]
+pub(crate) struct TextFailure<'a> {
+    pub(crate) alloc: Global,
+    pub(crate) scope: &'a StructFields,
+    pub(crate) text: &'a str,
+    pub(crate) tree: &'a SyntaxTree<'a>,
+    pub(crate) step: usize,
+    pub(crate) byte: usize,
+}
+
+impl<'a> TextFailure<'a> {
+    fn failing_step(&self) -> Option<&Step<'a>> {
+        self.tree.steps.get(self.step)
+    }
+
+    /// The items that the step takes.
+    fn items(&self) -> VortexResult<Vec<Item>> {
+        let mut items = operands(self.alloc, self.scope, &self.tree.steps, self.step);
+        let count = operand_count(self.failing_step());
+        let kept = items.len().saturating_sub(count);
+        Ok(items.split_off(kept)?)
+    }
+
+    /// The items that do not fit, and whether they are cases: of a CASE with an operand, the operand
+    /// and the value that it does not compare with, or else the cases.
+    fn failing_items(&self) -> VortexResult<(Vec<Item>, bool)> {
+        let items = self.items()?;
+        match (self.failing_step(), items.as_slice()) {
+            (Some(Step::Case(true, _, _)), [operand, cases @ ..]) => {
+                match unequal_items(self.alloc, operand, cases)? {
+                    Some(pair) => Ok((pair, false)),
+                    None => Ok((copies(self.alloc, cases)?, true)),
+                }
+            }
+            (step, _) => {
+                let are_cases = matches!(step, Some(Step::Case(_, _, _)));
+                Ok((items, are_cases))
+            }
+        }
+    }
+
+    /// The type that literals take there.
+    fn taken_type(&self, items: &[Item], are_cases: bool) -> VortexResult<Option<DType>> {
+        let alloc = self.alloc;
+        if are_cases {
+            return common_value_type(alloc, items);
+        }
+        let step = self.failing_step();
+        if let Some(Step::Cast(name, is_nullable)) = step {
+            return Ok(type_of_name(alloc, *name, *is_nullable).ok());
+        }
+        match function_in(step) {
+            Some(function) if matches!(function.takes(), Takes::Each(_, _, _)) => Ok(None),
+            _ => common_type(alloc, items),
+        }
+    }
+
+    /// The types of the items, and that no integer type has the numbers of all.
+    fn push_given(&self, out: &mut String, items: &[Item], are_cases: bool) -> VortexResult<()> {
+        push_types(out, items)?;
+        push_apart(out, self.alloc, &alike_types(self.alloc, items, are_cases)?)
+    }
+
+    /// That the call does not accept these types.
+    fn types_text(&self, place: MismatchPlace) -> VortexResult<String> {
+        let alloc = self.alloc;
+        let (found, name, taken) = (
+            found_at(self.text, self.byte),
+            place.name(),
+            taken_at(place),
+        );
+        let (items, are_cases) = self.failing_items()?;
+        let mut out = format!(in alloc; "E3 {name}: {found} takes {taken}, not ")?;
+        self.push_given(&mut out, &items, are_cases)?;
+        Ok(out)
+    }
+
+    /// That the function does not accept these types.
+    fn arguments_text(&self) -> VortexResult<String> {
+        let alloc = self.alloc;
+        let (items, are_cases) = self.failing_items()?;
+        let found = found_at(self.text, self.byte);
+        let mut out = format!(in alloc; "E3 Scalars: {found} takes ")?;
+        push_accepted(&mut out, self.failing_step(), items.len())?;
+        out.push_str(", not ")?;
+        self.push_given(&mut out, &items, are_cases)?;
+        Ok(out)
+    }
+
+    fn held_text(&self) -> VortexResult<String> {
+        let mut out = String::new(self.alloc);
+        let (items, are_cases) = self.failing_items()?;
+        if let Some(Step::Typed(name, _)) = self.failing_step() {
+            push_untyped(&mut out, name, &items)?;
+            return Ok(out);
+        }
+        let taken = self.taken_type(&items, are_cases)?;
+        if !push_unheld(&mut out, self.alloc, taken.as_ref(), &items)? {
+            out.push_str("a literal is none of its type")?;
+        }
+        Ok(out)
+    }
+
+    fn binding_text(&self, error: &VortexError) -> VortexResult<String> {
+        let alloc = self.alloc;
+        match error {
+            VortexError::TypeMismatch(MismatchPlace::Scalars) => self.arguments_text(),
+            VortexError::TypeMismatch(place) => self.types_text(*place),
+            VortexError::ArityMismatch { arity, given } => {
+                let found = found_at(self.text, self.byte);
+                Ok(format!(in alloc;
+                    "E6 ArityMismatch: {found} takes {arity} arguments, not {given}"
+                )?)
+            }
+            VortexError::ScopeMismatch => { column_text(alloc, self.scope, self.failing_step()) }
+            error => {
+                let (number, name) = (error.number(), error.name());
+                Ok(format!(in alloc; "E{number} {name}")?)
+            }
+        }
+    }
+
+    pub(crate) fn told(&self, refusal: &Refusal) -> VortexResult<String> {
+        let alloc = self.alloc;
+        let text = match refusal {
+            Refusal::Binding(error) => return self.binding_text(error),
+            Refusal::NotHeld => return self.held_text(),
+            Refusal::UnknownType => {
+                let found = found_at(self.text, self.byte);
+                return Ok(format!(in alloc;
+                    "no type {found}; types are bool, utf8, i8, i16, i32, i64, u8, u16, u32 and u64, with ? where they have null"
+                )?);
+            }
+            Refusal::NoFunction => return function_text(alloc, self.failing_step()),
+            Refusal::NotUtf8 => "a text is not UTF-8",
+            Refusal::UntypedNull => "null has no type here; give it one, as null::i64?",
+            Refusal::NoEscape => "an escape is one character, or none",
+            Refusal::NoCast => "no cast leads from that type to this one",
+        };
+        Ok(String::from_str(alloc, text)?)
+    }
+}

@@ -1,0 +1,186 @@
+//! What other languages have and this one lacks, and what there is.
+
+const WINDOWS: &str = "no window functions: each row is computed by itself";
+
+const AGGREGATES: &str = "no aggregates: each row is computed by itself";
+
+const QUERIES: &str = "no queries: this is an expression over the columns of one table";
+
+const SUBQUERIES: &str = "no subqueries: a in (1, 2) compares with a list of values";
+
+const TIMES: &str = "no dates and times: types are bool, utf8 and integers";
+
+const REGULAR: &str = "no regular expressions: like and ilike match texts";
+
+const COLLATIONS: &str = "no collations: texts compare by their bytes";
+
+const ARRAYS: &str = "no arrays: a in (1, 2) compares with a list of values";
+
+const POWERS: &str = "no powers: write a * a";
+
+const SYMMETRIC: &str = "the lesser bound comes first";
+
+/// Words that other languages have behind an operand.
+const BEHIND: [(&str, &str); 20] = [
+    ("over", WINDOWS),
+    ("filter", AGGREGATES),
+    ("within", AGGREGATES),
+    ("where", QUERIES),
+    ("group", QUERIES),
+    ("order", QUERIES),
+    ("having", QUERIES),
+    ("limit", QUERIES),
+    ("union", QUERIES),
+    ("join", QUERIES),
+    ("collate", COLLATIONS),
+    ("similar", REGULAR),
+    ("regexp", REGULAR),
+    ("rlike", REGULAR),
+    ("glob", REGULAR),
+    ("match", REGULAR),
+    ("at", TIMES),
+    ("xor", "write a <> b"),
+    ("div", "write a / b"),
+    ("mod", "write a % b"),
+];
+
+/// Words that other languages have before what begins with one of these bytes, or before anything;
+/// here they are names.
+const BEFORE: [(&str, &[u8], &str); 12] = [
+    ("select", b"", SUBQUERIES),
+    ("exists", b"(", SUBQUERIES),
+    ("any", b"(", SUBQUERIES),
+    ("some", b"(", SUBQUERIES),
+    ("all", b"(", SUBQUERIES),
+    ("array", b"[", ARRAYS),
+    ("date", b"'", TIMES),
+    ("time", b"'", TIMES),
+    ("timestamp", b"'", TIMES),
+    ("interval", b"'", TIMES),
+    ("count", b"*", AGGREGATES),
+    ("symmetric", b"", SYMMETRIC),
+];
+
+/// Functions that other languages have.
+const FUNCTIONS: [(&str, &str); 27] = [
+    ("sum", AGGREGATES),
+    ("count", AGGREGATES),
+    ("avg", AGGREGATES),
+    ("max", "write greatest(a, b)"),
+    ("min", "write least(a, b)"),
+    ("row_number", WINDOWS),
+    ("rank", WINDOWS),
+    ("lag", WINDOWS),
+    ("lead", WINDOWS),
+    ("exists", SUBQUERIES),
+    ("any", SUBQUERIES),
+    ("some", SUBQUERIES),
+    ("all", SUBQUERIES),
+    ("now", TIMES),
+    ("extract", TIMES),
+    ("date", TIMES),
+    ("date_trunc", TIMES),
+    ("date_part", TIMES),
+    ("lcase", "write lower(s)"),
+    ("ucase", "write upper(s)"),
+    ("mid", "write substr(s, 2, 3)"),
+    ("instr", "write strpos(s, t)"),
+    ("locate", "write strpos(s, t)"),
+    ("nvl", "write coalesce(a, b)"),
+    ("decode", "write case a when x then v end"),
+    ("if", "write case when c then a else b end"),
+    ("iif", "write case when c then a else b end"),
+];
+
+fn told_of(words: &[(&'static str, &'static str)], word: &[u8]) -> &'static str {
+    for (name, told) in words {
+        if word.eq_ignore_ascii_case(name.as_bytes()) {
+            return *told;
+        }
+    }
+    ""
+}
+
+fn is_word_byte(byte: u8) -> bool {
+    byte.is_ascii_alphanumeric() || byte == b'_'
+}
+
+/// The last two words of a text.
+fn last_words(text: &[u8]) -> (&[u8], &[u8]) {
+    let mut words: (&[u8], &[u8]) = (b"", b"");
+    for word in text.split(|byte| !is_word_byte(*byte)) {
+        if !word.is_empty() {
+            words = (words.1, word);
+        }
+    }
+    words
+}
+
+/// The word that a text begins with.
+fn word_at(text: &[u8]) -> &[u8] {
+    text.split(|byte| !is_word_byte(*byte))
+        .next()
+        .unwrap_or(b"")
+}
+
+/// What a word is elsewhere before a text that begins so.
+fn told_before(word: &[u8], behind: &[u8]) -> &'static str {
+    let first = behind.first().copied();
+    for (name, begins, told) in BEFORE {
+        let fits = begins.is_empty() || first.is_some_and(|byte| begins.contains(&byte));
+        if fits && word.eq_ignore_ascii_case(name.as_bytes()) {
+            return told;
+        }
+    }
+    ""
+}
+
+/// Whether the text ends with what ends an operand.
+fn ends_operand(before: &[u8]) -> bool {
+    match before.iter().rev().find(|byte| !byte.is_ascii_whitespace()) {
+        Some(byte) => is_word_byte(*byte) || matches!(*byte, b')' | b'\'' | b'"'),
+        None => false,
+    }
+}
+
+/// What the signs at the end of the first text and at the start of the second mean elsewhere.
+fn told_of_signs(before: &[u8], behind: &[u8]) -> &'static str {
+    match (before, behind) {
+        ([.., b'<', b'='], [b'>', ..]) => "write is not distinct from",
+        (_, [b'&', b'&', ..]) | ([.., b'&'], [b'&', ..]) => "write and",
+        (_, [b'!', b'<', ..]) => "write >=",
+        (_, [b'!', b'>', ..]) => "write <=",
+        (_, [b'!', b'~', ..]) => REGULAR,
+        (_, [b'~', ..]) if ends_operand(before) => REGULAR,
+        (_, [b'!', ..]) => "is not or <> meant?",
+        (_, [b'[', ..]) => ARRAYS,
+        (_, [b'^', ..]) | ([.., b'*'], [b'*', ..]) => POWERS,
+        ([.., b'='], [b'=', ..]) => "one = compares",
+        ([.., b'='], [b'>', ..]) => "is >= meant?",
+        ([.., b'='], [b'<', ..]) => "is <= meant?",
+        _ => "",
+    }
+}
+
+/// What is missing at that byte of a text, or what to write there; empty if it is not known.
+pub(crate) fn hint_at(text: &str, byte: usize) -> &'static str {
+    let (before, behind) = text.as_bytes().split_at(byte.min(text.len()));
+    let signs = told_of_signs(before, behind);
+    if !signs.is_empty() {
+        return signs;
+    }
+    let here = told_of(&BEHIND, word_at(behind));
+    if !here.is_empty() {
+        return here;
+    }
+    let (first, last) = last_words(before);
+    if first.eq_ignore_ascii_case(b"extract") && word_at(behind).eq_ignore_ascii_case(b"from") {
+        return TIMES;
+    }
+    told_before(last, behind)
+}
+
+/// What is missing where a function of that name is called; empty if it is not known.
+pub(crate) fn missing_function(name: &[u8]) -> &'static str {
+    told_of(&FUNCTIONS, name)
+}
