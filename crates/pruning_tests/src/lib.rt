@@ -5,6 +5,8 @@
 #[cfg(test)]
 mod described;
 #[cfg(test)]
+mod groups;
+#[cfg(test)]
 mod makers;
 #[cfg(test)]
 mod verdicts;

@@ -1,9 +1,8 @@
 -- Columns that statistics describe: their lengths, their types, and what leaves read of them.
-use Rattle.std.specs.Prelude.{◌≡◌, ℕ, zero, suc, ◌<◌, List, [], ◌∷◌, All, Option, Some, None, map}
-use Rattle.std.specs.Prelude.{length, slice_get, slice_index_or, nat_eq, if◌then◌else◌, refl}
-use Rattle.std.proofs.Common.{arith, sym, ap, ◌∙◌, subst, Bool, true, false}
+use Rattle.std.specs.Prelude.{◌≡◌, ℕ, zero, suc, List, [], ◌∷◌, All, Some, None, map}
+use Rattle.std.specs.Prelude.{length, slice_get, nat_eq, if◌then◌else◌, refl}
+use Rattle.std.proofs.Common.{arith, sym, ap, ◌∙◌, subst, true}
 use Rattle.vortex_types.specs.LogicalTypes.{LogicalType}
-use Rattle.vortex_types.specs.Typing.{HasType}
 use Rattle.vortex_columns.specs.ColumnView.{ColumnView, AreTyped}
 use Rattle.vortex_statistics.specs.StatisticsView.{StatisticsView}
 use Rattle.vortex_interface.specs.Trees.{Leaf, place, held, Tree, leaf, constant, call, Trees}

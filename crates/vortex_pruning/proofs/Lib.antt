@@ -1,3 +1,4 @@
 pub mod DescribedColumns
 pub mod TreesKnown
 pub mod Verdicts
+pub mod GroupsPruned

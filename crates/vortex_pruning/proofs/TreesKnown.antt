@@ -1,6 +1,6 @@
 -- What is known of a leaf, of a literal, and of a call from what is known of its children.
 use Rattle.std.specs.Prelude.{◌≡◌, ℕ, zero, suc, ◌<◌, ◌||◌, List, [], ◌∷◌, Option, Some, None, ⊤}
-use Rattle.std.specs.Prelude.{Bool, true, false, map, slice_get, refl, length, take}
+use Rattle.std.specs.Prelude.{Bool, true, map, slice_get, refl, length, take}
 use Rattle.std.specs.List.{list_any}
 use Rattle.std.proofs.Common.{sym, ap, ◌∙◌, subst}
 use Rattle.std.proofs.lemmas.Option.{slice_get-map}
@@ -11,16 +11,16 @@ use Rattle.vortex_types.specs.Values.{Value, null}
 use Rattle.vortex_columns.specs.ColumnView.{ColumnView, row}
 use Rattle.vortex_statistics.specs.StatisticsView.{StatisticsView}
 use Rattle.vortex_interface.specs.Outcomes.{Outcome, gives, faults, Fault}
-use Rattle.vortex_interface.specs.Meaning.{Meaning, Lawful, HaveTypes}
+use Rattle.vortex_interface.specs.Meaning.{Meaning, Lawful}
 use Rattle.vortex_interface.specs.Functions.{Function, function_type, function_means}
-use Rattle.vortex_interface.specs.Trees.{Leaf, place, held, Tree, leaf, constant, call, Trees}
+use Rattle.vortex_interface.specs.Trees.{place, held, Tree, leaf, constant, call, Trees}
 use Rattle.vortex_interface.specs.Trees.{no_trees, tree, children_of, list_of, called, literal}
-use Rattle.vortex_interface.specs.Bound.{IsBound, AllBound}
+use Rattle.vortex_interface.specs.Bound.{IsBound}
 use Rattle.vortex_interface.specs.Eval.{Inputs, all_give, one_faults, with_first, then_means}
 use Rattle.vortex_interface.specs.Eval.{types_or_none, rows_or_none, tree_type, tree_types, eval}
 use Rattle.vortex_interface.specs.Eval.{eval_all}
 use Rattle.vortex_interface.specs.Execution.{AllLeavesFit}
-use Rattle.vortex_interface.specs.Rewrites.{HasRow, AllHaveRow}
+use Rattle.vortex_interface.specs.Rewrites.{AllHaveRow}
 use Rattle.vortex_interface.proofs.AfterRun.{bound_made}
 use Rattle.vortex_interface.proofs.RewrittenRows.{fitting_row}
 use Rattle.vortex_interface.proofs.TypedCalls.{typed_call}

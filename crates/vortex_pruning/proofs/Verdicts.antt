@@ -1,10 +1,10 @@
 -- What the range of a condition says is so of each outcome that it admits.
-use Rattle.std.specs.Prelude.{◌≡◌, ◌≢◌, ◌||◌, ◌+◌, ◌≤◌, ℕ, zero, suc, ◌<◌, Bool, true, false, not}
-use Rattle.std.specs.Prelude.{Option, Some, None, ⊤, if◌then◌else◌, refl}
+use Rattle.std.specs.Prelude.{◌≡◌, ◌||◌, ◌+◌, ◌≤◌, ℕ, zero, suc, ◌<◌, Bool, true, false, not}
+use Rattle.std.specs.Prelude.{Option, Some, None, if◌then◌else◌, refl}
 use Rattle.std.proofs.Common.{arith, sym, ap, ◌∙◌, subst, cond}
-use Rattle.vortex_types.specs.Values.{Value, null, truth, number, text, bytes, list, truth_of}
+use Rattle.vortex_types.specs.Values.{Value, truth, truth_of}
 use Rattle.vortex_interface.specs.Outcomes.{Outcome, gives, faults, GivesValue}
-use Rattle.vortex_ranges.specs.Ranges.{RangeView, Admits, may_be}
+use Rattle.vortex_ranges.specs.Ranges.{RangeView, Admits}
 use Rattle.vortex_ranges.specs.Truths.{may_be_true, may_be_false, may_be_unknown}
 use Rattle.vortex_ranges.specs.Calls.{AdmitsOutcome}
 use Rattle.vortex_ranges.proofs.Tests.{on_left, on_right}

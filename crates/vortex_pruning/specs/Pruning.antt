@@ -8,7 +8,7 @@ use Rattle.vortex_types.specs.LogicalTypes.{LogicalType, is_bool_type}
 use Rattle.vortex_types.specs.Values.{truth}
 use Rattle.vortex_columns.specs.ColumnView.{ColumnView}
 use Rattle.vortex_statistics.specs.StatisticsView.{StatisticsView}
-use Rattle.vortex_interface.specs.Outcomes.{Outcome, gives, faults}
+use Rattle.vortex_interface.specs.Outcomes.{Outcome, gives}
 use Rattle.vortex_interface.specs.Meaning.{Meaning}
 use Rattle.vortex_interface.specs.Trees.{Tree}
 use Rattle.vortex_interface.specs.Eval.{eval, tree_type, Settled}

@@ -4,11 +4,14 @@
 
 mod call;
 pub mod functions;
+pub mod groups;
 mod node;
 pub mod pruned;
+mod sql;
 pub mod trees;
 
 pub use functions::ScalarFnRanges;
+pub use groups::{FieldStatistics, GroupError, prune_groups};
 pub use pruned::{Pruned, Verdict};
 pub use trees::{prune, ranges};
 pub use vortex_ranges::{Bound, Range};

@@ -1,8 +1,7 @@
 -- The order of values, by which is not above which; and what lies inside ends.
-use Rattle.std.specs.Prelude.{◌≡◌, ◌&&◌, Bool, true, false, not, Option, Some, None, refl}
+use Rattle.std.specs.Prelude.{◌≡◌, true, false, not, Option, Some}
 use Rattle.std.proofs.Common.{ap, ◌∙◌}
-use Rattle.std.specs.declared.cmp.Ordering.{Ordering}
-use Rattle.std.specs.declared.cmp.Ordering.TheVariants.{Less, Equal, Greater}
+use Rattle.std.specs.declared.cmp.Ordering.TheVariants.{Less, Equal}
 use Rattle.std.specs.Ordering.{is_gt, ordering_reverse}
 use Rattle.std.proofs.lemmas.Cmp.{upto}
 use Rattle.vortex_types.specs.Values.{Value}

@@ -1,5 +1,5 @@
 -- The range that excludes nothing admits each outcome.
-use Rattle.std.specs.Prelude.{◌≡◌, refl}
+use Rattle.std.specs.Prelude.{refl}
 use Rattle.vortex_types.specs.Values.{Value, null}
 use Rattle.vortex_interface.specs.Outcomes.{Outcome, gives, faults}
 use Rattle.vortex_ranges.specs.Ranges.{Admits, anything}

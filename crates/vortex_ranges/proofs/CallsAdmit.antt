@@ -1,7 +1,7 @@
 -- The ranges of calls of the shipped functions admit their outcomes.
-use Rattle.std.specs.Prelude.{◌≡◌, List, [], ◌∷◌, Bool, true, false, not, Option, Some, None, refl}
+use Rattle.std.specs.Prelude.{List, [], ◌∷◌, Bool, true, false, not}
 use Rattle.vortex_types.specs.LogicalTypes.{LogicalType}
-use Rattle.vortex_types.specs.Values.{Value, null, is_null, truth}
+use Rattle.vortex_types.specs.Values.{Value, is_null, truth}
 use Rattle.vortex_operators.specs.declared.between.BetweenOptions.{BetweenOptions}
 use Rattle.vortex_operators.specs.declared.operators.CompareOperator.{CompareOperator}
 use Rattle.vortex_operators.specs.declared.operators.Operator.{Operator}
@@ -11,22 +11,19 @@ use Rattle.vortex_operators.specs.declared.operators.Operator.TheVariants.{Mul, 
 use Rattle.vortex_operators.specs.declared.operators.CompareOperator.TheVariants as compare
 use Rattle.vortex_operators.specs.Between.{between_value}
 use Rattle.vortex_operators.specs.OperatorValues.{boolean_value, not_value, comparison_value}
-use Rattle.vortex_interface.specs.Outcomes.{Outcome, gives, faults, GivesType}
-use Rattle.vortex_interface.specs.Meaning.{HaveTypes}
 use Rattle.vortex_interface.specs.Arguments as arguments
 use Rattle.vortex_like.specs.declared.options.LikeOptions.{LikeOptions}
 use Rattle.vortex_like.specs.Patterns.{like_value}
-use Rattle.vortex_interface.specs.Shipped.{Shipped, Binary, Not, NullTest, Cast, Between, Like}
+use Rattle.vortex_interface.specs.Shipped.{Not, NullTest, Cast, Between, Like}
 use Rattle.vortex_interface.specs.Shipped.{shipped_type, shipped_means, row_lawful}
 use Rattle.vortex_interface.specs.Shipped.BinaryFunction.{operator_type, operator_means}
-use Rattle.vortex_interface.specs.Shipped.NullTestFunctions.{null_test_value}
-use Rattle.vortex_ranges.specs.Ranges.{RangeView, Admits, anything}
+use Rattle.vortex_ranges.specs.Ranges.{RangeView, Admits}
 use Rattle.vortex_ranges.specs.Truths.{negation, conjunction, disjunction, null_test}
-use Rattle.vortex_ranges.specs.Comparing.{comparison, betweenness}
+use Rattle.vortex_ranges.specs.Comparing.{comparison}
 use Rattle.vortex_ranges.specs.TypeRanges.{of_type}
 use Rattle.vortex_ranges.specs.Sound.{AdmitsOne, AdmitsTwo}
-use Rattle.vortex_ranges.specs.Calls.{AdmitsOutcome, AllAdmit, AdmitsCalls}
-use Rattle.vortex_ranges.specs.ShippedCalls.{of_one, of_two, of_three, operator_range, binary_range}
+use Rattle.vortex_ranges.specs.Calls.{AllAdmit, AdmitsCalls}
+use Rattle.vortex_ranges.specs.ShippedCalls.{of_one, of_two, binary_range}
 use Rattle.vortex_ranges.specs.ShippedCalls.{not_range, null_test_range, cast_range, between_range}
 use Rattle.vortex_ranges.proofs.KleeneTables.{truths_admitted}
 use Rattle.vortex_ranges.proofs.Compared.{comparisons_admitted}

@@ -10,7 +10,7 @@ use Rattle.vortex_operators.specs.declared.between.BetweenOptions.{BetweenOption
 use Rattle.vortex_operators.specs.declared.operators.CompareOperator.{CompareOperator}
 use Rattle.vortex_operators.specs.Between.{bound_operator, between_value}
 use Rattle.vortex_operators.specs.OperatorValues.{holds, comparison_value}
-use Rattle.vortex_ranges.specs.Ranges.{RangeView, Admits, is_above, is_under, is_over, is_inside}
+use Rattle.vortex_ranges.specs.Ranges.{RangeView, Admits, is_above, is_under, is_over}
 use Rattle.vortex_ranges.specs.Ranges.{may_be}
 use Rattle.vortex_ranges.specs.Comparing.{are_apart, leave_room, may_compare, may_pass, comparison}
 use Rattle.vortex_ranges.specs.Comparing.{betweenness}

@@ -1,9 +1,9 @@
 -- The ranges of arithmetic admit its results.
 use Rattle.std.specs.Prelude.{◌≡◌, ◌&&◌, ◌||◌, ◌<ℤ◌, ◌≤ℤ◌, ℤ, pos, negsuc, int_lt, List, [], ◌∷◌}
-use Rattle.std.specs.Prelude.{Bool, true, false, Option, Some, None, refl, if◌then◌else◌}
+use Rattle.std.specs.Prelude.{Bool, true, false, Option, Some, None, refl}
 use Rattle.std.specs.Int.{int_min, int_max}
 use Rattle.std.specs.Option.{option_map}
-use Rattle.std.proofs.Common.{arith, sym, ap, ◌∙◌, subst, cond}
+use Rattle.std.proofs.Common.{arith, sym, subst, cond}
 use Rattle.std.proofs.lemmas.Int.{ints, clamps}
 use Rattle.std.proofs.lemmas.Cmp.{int_ranked}
 use Rattle.std.specs.declared.cmp.Ordering.{Ordering}
@@ -17,12 +17,10 @@ use Rattle.vortex_types.specs.TypeEquality.{ptype_eq, ptype_yes}
 use Rattle.vortex_types.specs.Typing.{HasType, least_of, greatest_of}
 use Rattle.vortex_types.specs.Values.{Value, null, number}
 use Rattle.vortex_operators.specs.Arithmetic.{exact_result, held, arithmetic_value}
-use Rattle.vortex_interface.specs.Outcomes.{gives, faults}
-use Rattle.vortex_interface.specs.Meaning.{HaveTypes}
 use Rattle.vortex_interface.specs.Arithmetic.{arithmetic_type, value_or_fault, arithmetic_of}
 use Rattle.vortex_interface.specs.Arithmetic.{arithmetic_means}
 use Rattle.vortex_ranges.specs.Ranges.{RangeView, Admits, AdmitsResult, is_above, is_inside, may_be}
-use Rattle.vortex_ranges.specs.Calls.{AdmitsOutcome, AllAdmit, AdmitsCalls}
+use Rattle.vortex_ranges.specs.Calls.{AdmitsOutcome, AdmitsCalls}
 use Rattle.vortex_ranges.specs.Arithmetic.{narrow, both_of, number_ends, has_results, low_result}
 use Rattle.vortex_ranges.specs.Arithmetic.{high_result, numbers, any_number, results, integer_range}
 use Rattle.vortex_ranges.specs.Arithmetic.{arithmetic_range}
@@ -30,7 +28,7 @@ use Rattle.vortex_ranges.specs.ShippedCalls.{of_two}
 use Rattle.vortex_ranges.proofs.Tests.{both, on_left, on_right}
 use Rattle.vortex_ranges.proofs.Above.{inside, not_under, not_over, has_value, lies_inside}
 use Rattle.vortex_ranges.proofs.OfType.{not_below}
-use Rattle.vortex_ranges.proofs.Products.{Lies, IsResult, has_result}
+use Rattle.vortex_ranges.proofs.Products.{Lies, has_result}
 use Rattle.vortex_ranges.proofs.Anything.{anything-admits}
 
 no_higher : (x a : ℤ) → is_above (number x) (number a) ≡ false → x ≤ℤ a

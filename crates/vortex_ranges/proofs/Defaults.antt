@@ -1,8 +1,8 @@
 -- What the marks of a function and the type of a call say of its outcomes.
-use Rattle.std.specs.Prelude.{◌≡◌, ◌<◌, ℕ, suc, List, [], ◌∷◌, ◌||◌, Bool, true, false, not, map}
-use Rattle.std.specs.Prelude.{None, Any, length, refl, slice_index_or}
+use Rattle.std.specs.Prelude.{◌≡◌, suc, List, [], ◌∷◌, ◌||◌, Bool, true, false, not, map}
+use Rattle.std.specs.Prelude.{None, Any, refl}
 use Rattle.std.specs.List.{list_any}
-use Rattle.std.proofs.Common.{arith, sym, ap, ◌∙◌}
+use Rattle.std.proofs.Common.{arith, sym, ◌∙◌}
 use Rattle.vortex_types.specs.LogicalTypes.{LogicalType}
 use Rattle.vortex_types.specs.Values.{Value, null}
 use Rattle.vortex_interface.specs.Outcomes.{Outcome, gives, faults, GivesType, GivesValue, GivesNull}

@@ -1,21 +1,21 @@
 -- What statistics say of the rows of a column admits each row.
 use Rattle.std.specs.Prelude.{◌≡◌, ◌&&◌, ◌<◌, ℕ, zero, suc, ◌+◌, List, [], ◌∷◌, Bool, true, false, not}
-use Rattle.std.specs.Prelude.{Option, Some, None, IfSome, nat_eq, length, count_by, refl}
+use Rattle.std.specs.Prelude.{Option, Some, None, IfSome, length, count_by, refl}
 use Rattle.std.specs.Prelude.{if◌then◌else◌}
 use Rattle.std.proofs.Common.{arith, sym, ap, ◌∙◌, subst}
 use Rattle.std.proofs.lemmas.List.Sums.{sum_by-cons}
 use Rattle.std.specs.declared.cmp.Ordering.{Ordering}
 use Rattle.std.specs.declared.cmp.Ordering.TheVariants.{Less, Equal, Greater}
 use Rattle.std.specs.Ordering.{is_gt, is_le}
-use Rattle.vortex_types.specs.Values.{Value, null, truth, number, text, bytes, list, is_null}
+use Rattle.vortex_types.specs.Values.{Value, null, list, is_null}
 use Rattle.vortex_types.specs.Order.{compare_values}
 use Rattle.vortex_columns.specs.ColumnView.{ColumnView, row}
 use Rattle.vortex_statistics.specs.StatisticsView.{EndView, StatisticsView, is_at_most, is_all_null}
 use Rattle.vortex_statistics.specs.Describes.{Describes, IsLowEnd, IsHighEnd, is_bounded}
 use Rattle.vortex_statistics.proofs.AllNull.{counted}
-use Rattle.vortex_ranges.specs.Ranges.{RangeView, Admits, is_above, is_under, is_over, is_inside}
+use Rattle.vortex_ranges.specs.Ranges.{RangeView, Admits, is_under, is_over, is_inside}
 use Rattle.vortex_ranges.specs.Ranges.{may_be}
-use Rattle.vortex_ranges.specs.Described.{IsDescribed, DescribeAll, end_value, known_end}
+use Rattle.vortex_ranges.specs.Described.{IsDescribed, end_value, known_end}
 use Rattle.vortex_ranges.specs.Described.{has_no_null, described, literal_range}
 use Rattle.vortex_ranges.proofs.Tests.{both, negated, either_way}
 use Rattle.vortex_ranges.proofs.Above.{inside}

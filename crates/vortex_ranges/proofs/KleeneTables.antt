@@ -1,5 +1,5 @@
 -- The ranges of Kleene's tables and of the null tests admit their values.
-use Rattle.std.specs.Prelude.{◌≡◌, ◌&&◌, ◌||◌, Bool, true, false, not, Option, Some, None, refl}
+use Rattle.std.specs.Prelude.{◌≡◌, ◌&&◌, ◌||◌, Bool, true, false, Option, Some, None, refl}
 use Rattle.vortex_types.specs.Values.{Value, null, truth, number, text, bytes, list, truth_of}
 use Rattle.vortex_types.specs.Values.{truth_or_null}
 use Rattle.vortex_operators.specs.declared.operators.Operator.TheVariants.{And, Or}

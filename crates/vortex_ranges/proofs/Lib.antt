@@ -9,3 +9,5 @@ pub mod DescribedRows
 pub mod Products
 pub mod Anything
 pub mod Computed
+pub mod PrefixOrder
+pub mod LikeAdmits

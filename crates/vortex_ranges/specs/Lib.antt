@@ -7,4 +7,5 @@ pub mod Calls
 pub mod ShippedCalls
 pub mod Described
 pub mod Arithmetic
+pub mod Prefixes
 pub mod Sound

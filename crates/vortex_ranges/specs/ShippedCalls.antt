@@ -1,5 +1,5 @@
 -- The ranges of calls of the shipped functions.
-use Rattle.std.specs.Prelude.{List, [], ◌∷◌, Bool, true, false, Option, Some, None}
+use Rattle.std.specs.Prelude.{List, [], ◌∷◌, Bool, Option, Some, None}
 use Rattle.vortex_errors.specs.declared.error.NumericOperator.TheVariants as numeric
 use Rattle.vortex_types.specs.LogicalTypes.{LogicalType}
 use Rattle.vortex_operators.specs.declared.between.BetweenOptions.{BetweenOptions}

@@ -1,5 +1,5 @@
 -- Ranges of truth values: Kleene's tables and the null tests.
-use Rattle.std.specs.Prelude.{◌&&◌, ◌||◌, Bool, true, false, not, Option, Some, None}
+use Rattle.std.specs.Prelude.{◌&&◌, ◌||◌, Bool, true, false, not, Option, Some}
 use Rattle.vortex_types.specs.Values.{Value, truth}
 use Rattle.vortex_ranges.specs.Ranges.{RangeView, is_above, may_be}
 

@@ -1,6 +1,6 @@
 -- What the type alone says of a value.
 use Rattle.std.specs.Prelude.{◌&&◌, [], Bool, true, false, Option, Some, None}
-use Rattle.vortex_types.specs.LogicalTypes.{LogicalType, null_type, bool_type, integer_type}
+use Rattle.vortex_types.specs.LogicalTypes.{LogicalType, bool_type, integer_type}
 use Rattle.vortex_types.specs.LogicalTypes.{text_type, bytes_type, is_nullable}
 use Rattle.vortex_types.specs.Typing.{least_of, greatest_of}
 use Rattle.vortex_types.specs.Values.{Value, truth, number, text, bytes}

@@ -1,9 +1,8 @@
-use Rattle.std.proofs.Common.{◌≡◌, true, false, sym, subst, map, List, Option}
+use Rattle.std.proofs.Common.{true, false, sym, subst, map, List}
 use Rattle.vortex_types.specs.LogicalTypes.{LogicalType}
 use Rattle.vortex_types.specs.TypeOf.{type_of}
 use Rattle.vortex_interface.specs.Shipped.{Shipped, Binary, NullTest, Between}
 use Rattle.vortex_interface.specs.Shipped.{shipped_type, shipped_means}
-use Rattle.vortex_functions.specs.declared.erased.ScalarFnRef.{ScalarFnRef}
 use Rattle.vortex_functions.specs.Words.{function_of, function_type, function_means}
 use Rattle.vortex_ranges.specs.BoundViews.{range_of}
 use Rattle.vortex_ranges.specs.Ranges.{RangeView}

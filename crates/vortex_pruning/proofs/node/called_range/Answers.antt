@@ -1,4 +1,4 @@
-use Rattle.std.proofs.Common.{◌≡◌, ◌∙◌, sym, ap, subst, map, List}
+use Rattle.std.proofs.Common.{◌∙◌, sym, ap, subst, map, List}
 use Rattle.std.specs.List.{list_any}
 use Rattle.vortex_types.specs.TypeOf.{type_of}
 use Rattle.vortex_functions.specs.Words.{function_of, function_type, function_means}

@@ -1,4 +1,4 @@
-use Rattle.std.proofs.Common.{◌≡◌, sym, subst}
+use Rattle.std.proofs.Common.{sym, subst}
 use Rattle.vortex_pruning.specs.Knowing.{Knows}
 use Rattle.vortex_pruning.proofs.TreesKnown.{literal_node}
 use Rattle.vortex_pruning.proofs.node.leaf_range.Goals as goal

@@ -1,4 +1,4 @@
-use Rattle.std.proofs.Common.{◌≡◌, ◌∙◌, sym, subst, refl}
+use Rattle.std.proofs.Common.{◌∙◌, sym, subst, refl}
 use Rattle.vortex_types.specs.TypeOf.{type_of}
 use Rattle.vortex_ranges.specs.BoundViews.{range_of}
 use Rattle.vortex_pruning.specs.Pruning.{Prunes, uncondition}

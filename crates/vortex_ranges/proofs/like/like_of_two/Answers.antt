@@ -1,0 +1,15 @@
+use Rattle.std.proofs.Common.{sym, subst, [], ◌∷◌}
+use Rattle.vortex_interface.specs.Shipped.{Like, shipped_type, shipped_means}
+use Rattle.vortex_ranges.specs.BoundViews.{range_of}
+use Rattle.vortex_ranges.specs.Calls.{AdmitsCalls}
+use Rattle.vortex_ranges.proofs.LikeAdmits.{like-admits}
+use Rattle.vortex_ranges.proofs.like.like_of_two.Goals as goal
+
+pub returns : goal.returns
+returns c = λ t.
+    let s = Like c.args.options in
+    let x = range_of c.args.text.now in
+    let y = range_of c.args.pattern.now in
+    subst (λ r. AdmitsCalls (shipped_type s) (shipped_means s) t (x ∷ y ∷ []) r)
+    (sym c.likeness.ensures)
+    (like-admits c.args.options c.in_ok-possible.possible x y c.in_ok-possible.ensures t)

@@ -1,0 +1,14 @@
+use Rattle.std.proofs.Common.{◌≡◌, ◌∙◌, sym, ap, ℕ, List}
+use Rattle.vortex_ranges.specs.BoundViews.{range_of}
+use Rattle.vortex_ranges.specs.Prefixes.{excludes_prefix}
+use Rattle.vortex_ranges.proofs.LikeAdmits.{none_begins, sure}
+use Rattle.vortex_ranges.proofs.like.may_begin.Goals as goal
+
+pub returns : goal.returns
+returns c = λ e.
+    let r = range_of c.args.text.now in
+    let p = c.args.prefix.now in
+    let is : c.excludes_prefix.result ≡ excludes_prefix r p =
+    c.excludes_prefix.ensures
+    ∙ ap (λ (bs : List ℕ). excludes_prefix r bs) c.as_bytes.ensures.value in
+    none_begins r p c.utf8.prefix (sym is ∙ sure c.excludes_prefix.result e)

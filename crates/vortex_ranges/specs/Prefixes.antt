@@ -1,0 +1,75 @@
+-- Whether texts between two ends can begin with a prefix, or match a pattern.
+use Rattle.std.specs.Prelude.{◌≡◌, ◌&&◌, ◌||◌, ◌++◌, ℕ, List, [], ◌∷◌, Bool, false, not, Option, Some}
+use Rattle.std.specs.Prelude.{IsUtf8, nat_eq}
+use Rattle.std.specs.List.{starts_with}
+use Rattle.std.specs.Cow.{cow_str_bytes}
+use Rattle.std.specs.Str.{chars}
+use Rattle.vortex_types.specs.LogicalTypes.{LogicalType}
+use Rattle.vortex_types.specs.Values.{Value, text}
+use Rattle.vortex_like.specs.declared.options.LikeOptions.{LikeOptions}
+use Rattle.vortex_like.specs.Tokens.{tokens_of, is_match, Match}
+use Rattle.vortex_like.specs.declared.variant.LikeVariant.{LikeVariant}
+use Rattle.vortex_like.specs.declared.variant.LikeVariant.TheVariants.{Exact, Prefix}
+use Rattle.vortex_ranges.specs.Ranges.{RangeView, Admits, is_above, is_over}
+use Rattle.vortex_interface.specs.Shipped.{Like, shipped_type, shipped_means}
+use Rattle.vortex_ranges.specs.Calls.{AdmitsCalls}
+use Rattle.vortex_ranges.specs.Truths.{truths}
+
+-- a low end above each text that begins with the prefix
+abbrev pub is_past : List ℕ → Option Value → Bool
+is_past prefix (Some (text low)) =
+    is_above (text low) (text prefix) && not (starts_with nat_eq low prefix)
+is_past prefix low = false
+
+-- no text between the ends begins with the prefix
+abbrev pub excludes_prefix : RangeView → List ℕ → Bool
+excludes_prefix r prefix = is_over r.high (text prefix) || is_past prefix r.low
+
+-- the text matches the pattern, negated or not
+abbrev pub matches : LikeOptions → List ℕ → List ℕ → Bool
+matches options bytes pattern =
+    is_match options.case_insensitive (tokens_of options.escape (chars pattern)) (chars bytes)
+
+-- no admitted text matches an admitted pattern
+abbrev pub NoneMatch : LikeOptions → RangeView → RangeView → Type 0
+NoneMatch options r s =
+    (bytes pattern : List ℕ) → IsUtf8 bytes → IsUtf8 pattern → Admits r (text bytes)
+    → Admits s (text pattern) → matches options bytes pattern ≡ false
+
+-- the range of Like where a text may match, or none does
+abbrev pub likeness : LikeOptions → Bool → RangeView → RangeView → RangeView
+likeness options possible r s =
+    truths (r.may_be_null || s.may_be_null) (possible || not options.negated)
+    (possible || options.negated)
+
+-- the only text that is admitted
+abbrev pub IsOnlyText : RangeView → List ℕ → Type 0
+IsOnlyText r known = (bytes : List ℕ) → Admits r (text bytes) → bytes ≡ known
+
+-- no admitted text begins with the prefix, or is the other text, by their characters
+abbrev pub NoneBegins : RangeView → List ℕ → Type 0
+NoneBegins r prefix =
+    (bytes rest : List ℕ) → IsUtf8 bytes → Admits r (text bytes)
+    → ¬ (chars bytes ≡ chars prefix ++ rest)
+
+abbrev pub NoneEquals : RangeView → List ℕ → Type 0
+NoneEquals r exact =
+    (bytes : List ℕ) → IsUtf8 bytes → Admits r (text bytes) → ¬ (chars bytes ≡ chars exact)
+
+-- no admitted text is the one that a pattern stands for, or begins with its prefix
+abbrev pub NoneIs : RangeView → LikeVariant → Type 0
+NoneIs r (Exact exact) = NoneEquals r (cow_str_bytes exact)
+NoneIs r (Prefix prefix) = NoneBegins r (cow_str_bytes prefix)
+
+-- no admitted text matches the pattern of that case
+abbrev pub NoneIsLike : Option ℕ → RangeView → List ℕ → Type 0
+NoneIsLike escape r pattern =
+    (bytes : List ℕ) → IsUtf8 bytes → Admits r (text bytes)
+    → ¬ Match false (tokens_of escape (chars pattern)) (chars bytes)
+
+-- the range admits the outcome of each call of Like on what the two admit
+abbrev pub AdmitsLike : LikeOptions → RangeView → RangeView → RangeView → Type 0
+AdmitsLike options r s result =
+    (t : LogicalType)
+    → AdmitsCalls (shipped_type (Like options)) (shipped_means (Like options)) t (r ∷ s ∷ [])
+    result

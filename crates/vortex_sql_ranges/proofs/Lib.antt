@@ -1,0 +1,6 @@
+pub mod ListedAdmits
+pub mod DistinctAdmits
+pub mod TestsAdmit
+pub mod EitherEnds
+pub mod ChoicesAdmit
+pub mod Admitted

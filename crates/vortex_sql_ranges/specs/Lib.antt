@@ -1,0 +1,5 @@
+pub mod Listed
+pub mod Distinct
+pub mod TruthTests
+pub mod Choices
+pub mod Sound
