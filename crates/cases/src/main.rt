@@ -35,36 +35,30 @@
 
 mod expressions;
 
+use case_files::{Cases, Form, differs, run_files};
 use expressions::{expression_case, expression_text};
 use rowfn_scripts::{End, fault_line, interpret};
 use std::alloc::Global;
+use std::io;
 use std::process::ExitCode;
-use std::rt::{Env, Files};
-use std::{env, fs, io};
+use std::rt::Files;
 
 /// A script, and its output.
 #[derive(Clone, Copy)]
 struct Case<'a> {
     name: &'a str,
     script: &'a str,
-    wanted: &'a str,
-}
-
-/// How many cases ran, and how many differed.
-#[derive(Clone, Copy)]
-struct Counts {
-    cases: u64,
-    differ: u64,
+    expected: &'a str,
 }
 
 /// The case in the text after a `== `; none if no line ends its script.
 fn case_of(text: &str) -> Option<Case<'_>> {
     let (name, body) = text.split_once('\n')?;
-    let (script, wanted) = body.split_once("\n--\n")?;
+    let (script, expected) = body.split_once("\n--\n")?;
     Some(Case {
         name,
         script,
-        wanted: wanted.trim_end_matches('\n'),
+        expected: expected.trim_end_matches('\n'),
     })
 }
 
@@ -97,65 +91,27 @@ fn holds(rt: &(impl Print + AllocGlobal), case: Case<'_>) -> io::Result<bool> {
         return Err(io::Error::from(io::ErrorKind::InvalidData));
     };
     let got = got.trim_end_matches('\n');
-    if got == case.wanted {
+    if got == case.expected {
         return Ok(true);
     }
-    let Case { name, wanted, .. } = case;
-    println!(rt; "== {name}\nexpected:\n{wanted}\ngot:\n{got}")?;
-    Ok(false)
+    differs(rt, case.name, case.expected, got)
 }
 
-/// Runs the cases of a file. One with a syntax error counts as different.
-fn run_file(
-    rt: &(impl Print + Files + AllocGlobal),
-    name: &str,
-    counts: &mut Counts,
-) -> io::Result<()> {
-    let text = fs::read_to_string(rt, name)?;
-    for part in text.split("\n== ").skip(1) {
-        counts.cases = counts.cases.saturating_add(1);
-        let is_good = match case_of(part) {
-            Some(case) => holds(rt, case)?,
+/// Runs scripts and expressions.
+struct Scripts;
+
+impl Cases for Scripts {
+    fn holds(&self, rt: &(impl Print + Files + AllocGlobal), text: &str) -> io::Result<bool> {
+        match case_of(text) {
+            Some(case) => holds(rt, case),
             None => {
-                println!(rt; "== {part}\nhas no line -- after its script")?;
-                false
+                println!(rt; "== {text}\nhas no line -- after its script")?;
+                Ok(false)
             }
-        };
-        if !is_good {
-            counts.differ = counts.differ.saturating_add(1);
         }
     }
-    Ok(())
 }
 
-/// Runs the cases of the files that the arguments name. Returns how many differ.
-fn run(rt: &(impl Print + Env + Files + AllocGlobal)) -> io::Result<u64> {
-    let words: Vec<String> = env::args(rt)?.collect(rt.alloc())?;
-    let mut counts = Counts {
-        cases: 0,
-        differ: 0,
-    };
-    for name in words.iter().skip(1) {
-        run_file(rt, name.as_str(), &mut counts)?;
-    }
-    let Counts { cases, differ } = counts;
-    if differ == 0 {
-        println!(rt; "{cases} cases print what is expected")?;
-    } else {
-        println!(rt; "{differ} of {cases} cases print something else")?;
-    }
-    Ok(differ)
-}
-
-/// Ends with 0 if each case prints the expected output, with 1 if one does not, and with 3 if a
-/// file cannot be read or memory runs out.
 fn main(rt: HostRuntime) -> ExitCode {
-    match run(&rt) {
-        Ok(0) => ExitCode::SUCCESS,
-        Ok(_) => ExitCode::from(1),
-        Err(error) => {
-            let _ = eprintln!(rt; "cases: {error}");
-            ExitCode::from(3)
-        }
-    }
+    ExitCode::from(run_files(&rt, Form::Blocks, &Scripts))
 }

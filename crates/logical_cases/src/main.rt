@@ -20,17 +20,11 @@
 
 mod questions;
 
+use case_files::{Cases, Form, run_files};
 use questions::answer;
+use std::io;
 use std::process::ExitCode;
-use std::rt::{Env, Files};
-use std::{env, fs, io};
-
-/// How many cases ran, and how many differed.
-#[derive(Clone, Copy)]
-struct Counts {
-    cases: u64,
-    differ: u64,
-}
+use std::rt::Files;
 
 /// Whether a line answers what it expects. If not, both are printed.
 fn holds(rt: &(impl Print + AllocGlobal), line: &str) -> io::Result<bool> {
@@ -50,53 +44,15 @@ fn holds(rt: &(impl Print + AllocGlobal), line: &str) -> io::Result<bool> {
     Ok(false)
 }
 
-/// Runs the cases of a file.
-fn run_file(
-    rt: &(impl Print + Files + AllocGlobal),
-    name: &str,
-    counts: &mut Counts,
-) -> io::Result<()> {
-    let text = fs::read_to_string(rt, name)?;
-    for line in text.split('\n') {
-        if line.is_empty() || line.starts_with('#') {
-            continue;
-        }
-        counts.cases = counts.cases.saturating_add(1);
-        if !holds(rt, line)? {
-            counts.differ = counts.differ.saturating_add(1);
-        }
+/// Asks the question of each line.
+struct LogicalCases;
+
+impl Cases for LogicalCases {
+    fn holds(&self, rt: &(impl Print + Files + AllocGlobal), text: &str) -> io::Result<bool> {
+        holds(rt, text)
     }
-    Ok(())
 }
 
-/// Runs the cases of the files that the arguments name. Returns how many differ.
-fn run(rt: &(impl Print + Env + Files + AllocGlobal)) -> io::Result<u64> {
-    let words: Vec<String> = env::args(rt)?.collect(rt.alloc())?;
-    let mut counts = Counts {
-        cases: 0,
-        differ: 0,
-    };
-    for name in words.iter().skip(1) {
-        run_file(rt, name.as_str(), &mut counts)?;
-    }
-    let Counts { cases, differ } = counts;
-    if differ == 0 {
-        println!(rt; "{cases} cases answer what is expected")?;
-    } else {
-        println!(rt; "{differ} of {cases} cases answer something else")?;
-    }
-    Ok(differ)
-}
-
-/// Ends with 0 if each case answers what is expected, with 1 if one does not, and with 3 if a file
-/// cannot be read or memory runs out.
 fn main(rt: HostRuntime) -> ExitCode {
-    match run(&rt) {
-        Ok(0) => ExitCode::SUCCESS,
-        Ok(_) => ExitCode::from(1),
-        Err(error) => {
-            let _ = eprintln!(rt; "logical_cases: {error}");
-            ExitCode::from(3)
-        }
-    }
+    ExitCode::from(run_files(&rt, Form::Lines, &LogicalCases))
 }
