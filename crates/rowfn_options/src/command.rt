@@ -8,7 +8,8 @@ const AFTER_HELP: &str = "Rows are CSV. EXPRESSION is one answer or more:
   price * stock as worth, price      answers, each with a name if it has one
   price, \"unit price\"                columns; in double quotes any name
   7  -7  7::u8  'it''s'  true  null  literals; null::utf8? is a null of a type
-  + - * / %  -a                      whole numbers of one type
+  + - * / %  -a                      whole numbers; of two types in the wider one
+  a & b, a | b, a # b, ~a, a << n    operations on bits; a >> n
   s || t                             one text after the other
   = <> != < <= > >=                  two values of one type; texts by their bytes
   a between x and y                  both ends count; not between

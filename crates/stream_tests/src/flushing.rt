@@ -1,9 +1,7 @@
-//! Streams whose reader gives more only behind what it has heard.
+//! Streams whose reader gives more only after what it has heard.
 
-use crate::cases::{Case, plain, settings_of};
-use crate::pipes::Sink;
-use crate::programs::{asked, read_asked};
-use rowfn_batches::{RefusedRows, run};
+use crate::programs::{asked, read_asked, settings};
+use rowfn_batches::{RefusedRows, Settings, run};
 use std::alloc::Global;
 use std::cell::Cell;
 use std::io::{self, Read, Write};
@@ -21,10 +19,10 @@ struct Asker<'a> {
 
 impl Read for Asker<'_> {
     fn read(&mut self, buf: &mut [u8]) -> io::Result<usize> {
-        let Some((part, wanted)) = self.parts.get(self.place) else {
+        let Some((part, expected)) = self.parts.get(self.place) else {
             return Ok(0);
         };
-        if self.given == 0 && self.written.get() != *wanted {
+        if self.given == 0 && self.written.get() != *expected {
             return Err(io::Error::from(io::ErrorKind::ConnectionReset));
         }
         let Some(left) = part.as_bytes().get(self.given..) else {
@@ -59,8 +57,8 @@ impl Write for Listener<'_> {
     }
 }
 
-/// Whether a stream is read to its end by an asker.
-fn is_heard(alloc: Global, case: &Case<'_>, parts: &[(&str, usize)]) -> bool {
+/// Whether a stream is read to its end by an asker, and written whenever the input pauses or not.
+fn is_heard(alloc: Global, flushes: bool, parts: &[(&str, usize)]) -> bool {
     let written = Cell::new(0);
     let reader = Asker {
         parts,
@@ -69,11 +67,14 @@ fn is_heard(alloc: Global, case: &Case<'_>, parts: &[(&str, usize)]) -> bool {
         written: &written,
     };
     let mut listener = Listener { written: &written };
-    let Some(answers) = read_asked(alloc, case.expression) else {
+    let Some(answers) = read_asked(alloc, "a i64, b i64: a + b as sum") else {
         return false;
     };
-    let settings = settings_of(case, (1000, 1000));
-    let mut refused = RefusedRows::<Sink>::End;
+    let settings = Settings {
+        flushes,
+        ..settings(1000, 1000)
+    };
+    let mut refused = RefusedRows::<Vec<u8>>::End;
     run(
         alloc,
         &settings,
@@ -86,8 +87,6 @@ fn is_heard(alloc: Global, case: &Case<'_>, parts: &[(&str, usize)]) -> bool {
     .is_ok()
 }
 
-const SUM: &str = "a i64, b i64: a + b as sum";
-
 #[test]
 fn what_is_there_is_answered_before_more_is_read(rt: HostRuntime) {
     let parts = [
@@ -96,10 +95,6 @@ fn what_is_there_is_answered_before_more_is_read(rt: HostRuntime) {
         (",6\r\n\r\n", 8),
         ("", 11),
     ];
-    let flushes = Case {
-        flushes: true,
-        ..plain(SUM, "")
-    };
-    assert!(rt; is_heard(rt.alloc(), &flushes, &parts));
-    assert!(rt; !is_heard(rt.alloc(), &plain(SUM, ""), &parts));
+    assert!(rt; is_heard(rt.alloc(), true, &parts));
+    assert!(rt; !is_heard(rt.alloc(), false, &parts));
 }

@@ -1,37 +1,48 @@
-//! Questions of texts: `price i32, 3 as stock i32?: price * stock as worth`.
+//! Questions of texts, as `price i32, 3 as stock i32?: price * stock as worth`, and how their rows are
+//! read.
 
-use rowfn_batches::Request;
+use rowfn_batches::{Format, Request, Settings};
 use rowfn_queries::{Declared, Question, read_scope};
 use std::alloc::Global;
 use vortex_program::Program;
 
 /// A question, as a stream takes it.
-pub fn asked(question: &Question) -> Request<'_> {
+pub(crate) fn asked(question: &Question) -> Request<'_> {
     Request {
         program: &question.program,
         places: &question.places,
     }
 }
 
-/// The columns that a text declares; none for an empty text.
-fn declared_in(alloc: Global, text: &str) -> Option<Declared> {
-    if text.is_empty() {
-        return Some(Declared::none(alloc));
-    }
-    read_scope(alloc, text).ok()
-}
-
-/// The question of a text over the columns that another text declares.
-pub fn read_over(alloc: Global, columns: &str, text: &str) -> Option<Question> {
-    let Declared { columns, places } = declared_in(alloc, columns)?;
-    match Program::read(alloc, columns, text) {
-        Ok(program) => Some(Question { program, places }),
-        Err(_) => None,
-    }
-}
-
 /// The question of columns and an expression, with a colon and a blank between.
-pub fn read_asked(alloc: Global, text: &str) -> Option<Question> {
+pub(crate) fn read_asked(alloc: Global, text: &str) -> Option<Question> {
     let (columns, expression) = text.split_once(": ")?;
-    read_over(alloc, columns, expression)
+    let Declared { columns, places } = read_scope(alloc, columns).ok()?;
+    let program = Program::read(alloc, columns, expression).ok()?;
+    Some(Question { program, places })
+}
+
+/// Rows with a header and commas, by batches of so many, or so many bytes.
+pub(crate) fn settings(batch: usize, batch_bytes: u64) -> Settings<'static> {
+    Settings {
+        format: Format {
+            delimiter: b',',
+            output_delimiter: b',',
+            null: b"",
+            more_nulls: &[],
+            comment: None,
+            fits: false,
+            blank_rows: false,
+            any_truths: false,
+        },
+        header: true,
+        batch,
+        batch_bytes,
+        flushes: false,
+        max_field: usize::MAX,
+        picks_rows: false,
+        appends: false,
+        rows_before: 0,
+        rows_passed: None,
+    }
 }

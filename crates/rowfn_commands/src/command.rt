@@ -1,0 +1,117 @@
+//! A command line, from its words to its status.
+
+use crate::failure::ProgramError;
+use crate::queries::query_of;
+use crate::standard_error::StandardError;
+use crate::streams::run_counted;
+use rowfn_batches::{Refusals, StreamError, check_names, explain, refusals_in};
+use rowfn_options::{Action, Options, read_options, status};
+use rowfn_queries::{Again, Query, Question};
+use std::fs;
+use std::io::Read;
+use std::rt::Files;
+
+/// Prints a program on standard output: each tree as it is written, and as rules make it.
+fn print_program(
+    console: &(impl Print + AllocGlobal),
+    question: &Question,
+) -> Result<(), StreamError> {
+    match explain(console.alloc(), &question.program) {
+        Ok(text) => match print!(console; "{text}") {
+            Ok(()) => Ok(()),
+            Err(error) => Err(StreamError::Writing(error)),
+        },
+        Err(_) => Err(StreamError::OutOfMemory),
+    }
+}
+
+/// Prints what is asked: the answers, and after them the condition.
+fn print_query(console: &(impl Print + AllocGlobal), query: &Query) -> Result<(), StreamError> {
+    if let Some(answers) = &query.answers {
+        check_names(console.alloc(), &answers.program)?;
+        print_program(console, answers)?;
+    }
+    if let Some(condition) = &query.condition {
+        print_program(console, condition)?;
+    }
+    Ok(())
+}
+
+/// Does what the options ask for with the rows of a reader.
+fn perform_on<R: Read + Drop>(
+    files: &(impl Files + AllocGlobal),
+    console: &(impl Print + Eprint + AllocGlobal),
+    options: &Options<'_>,
+    reader: R,
+) -> Result<(), ProgramError> {
+    let mut reader = Again::new(files.alloc(), reader);
+    let query = query_of(files, options, &mut reader)?;
+    if options.action == Action::Explain {
+        return Ok(print_query(console, &query)?);
+    }
+    match options.errors_to {
+        Some(name) => {
+            let refusals = refusals_in(files, name)?;
+            run_counted(console, options, &query, reader, refusals)
+        }
+        None => {
+            let refusals = Refusals::new(console.alloc(), StandardError { console });
+            run_counted(console, options, &query, reader, refusals)
+        }
+    }
+}
+
+/// Does what the options ask for with the rows of the file that they name, or of standard input.
+fn perform<R: Read + Drop>(
+    files: &(impl Files + AllocGlobal),
+    console: &(impl Print + Eprint + AllocGlobal),
+    options: &Options<'_>,
+    input: R,
+) -> Result<(), ProgramError> {
+    let Some(name) = options.input else {
+        return perform_on(files, console, options, input);
+    };
+    match fs::open(files, name) {
+        Ok(file) => perform_on(files, console, options, file),
+        Err(error) => Err(ProgramError::Input(String::from_str(files.alloc(), name)?, error)),
+    }
+}
+
+/// Prints why there are no options: help, the version, or what is wrong with the words. Returns the
+/// status.
+fn print_no_options(console: &(impl Print + Eprint), error: &clap::Error) -> u8 {
+    match error.print(console) {
+        Ok(()) => status(error),
+        Err(failed) => {
+            let _ = eprintln!(console; "rowfn_stream: writing: {failed}");
+            3
+        }
+    }
+}
+
+/// The status where nobody reads the output any more, as with `| head`: the one that a shell
+/// reports of a program that this signal ends. Nothing is printed then.
+const PIPE_CLOSED: u8 = 141;
+
+/// Runs a command line of `rowfn_stream`, whose first word is the program's name: with these files,
+/// this standard input, and this standard output and error. Prints what went wrong on standard
+/// error. Returns the status, which is 0 where nothing did.
+pub fn run_command<R: Read + Drop>(
+    files: &(impl Files + AllocGlobal),
+    console: &(impl Print + Eprint + AllocGlobal),
+    words: &[String],
+    input: R,
+) -> u8 {
+    let options = match read_options(console.alloc(), words) {
+        Ok(options) => options,
+        Err(error) => return print_no_options(console, &error),
+    };
+    match perform(files, console, &options, input) {
+        Ok(()) => 0,
+        Err(error) if error.is_closed_pipe() => PIPE_CLOSED,
+        Err(error) => {
+            let _ = eprintln!(console; "rowfn_stream: {error}");
+            error.status()
+        }
+    }
+}

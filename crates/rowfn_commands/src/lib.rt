@@ -1,0 +1,11 @@
+//! What a command line of `rowfn_stream` does, over any files, standard input, output and error.
+#![tactic(auto)]
+
+mod command;
+mod failure;
+mod progress;
+mod queries;
+mod standard_error;
+mod streams;
+
+pub use command::run_command;

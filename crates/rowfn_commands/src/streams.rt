@@ -1,0 +1,217 @@
+//! The stream that options ask for, over any reader, with what it says of rows and how it ends.
+
+use crate::failure::ProgramError;
+use crate::progress::{PRINTED_BYTES, Progress};
+use crate::queries::format_with;
+use rowfn_batches::{Refusals, RefusedRows, Request, Settings, StreamError, Summary, Watched, run};
+use rowfn_csv::Format;
+use rowfn_options::Options;
+use rowfn_queries::{Query, Question};
+use std::cell::Cell;
+use std::io::{self, Read, Write};
+use vortex_columns::StructFields;
+
+/// How rows are read and written; those that were passed on are counted in a cell.
+fn settings_of<'a>(options: &Options<'_>, format: Format<'a>, rows: &'a Cell<u64>) -> Settings<'a> {
+    Settings {
+        format,
+        header: options.header,
+        batch: options.batch as usize,
+        batch_bytes: options.batch_bytes,
+        flushes: options.flushes,
+        max_field: options.max_field as usize,
+        picks_rows: false,
+        appends: options.appends,
+        rows_before: options.first_row.saturating_sub(1),
+        rows_passed: Some(rows),
+    }
+}
+
+/// A question, as a stream takes it.
+fn asked(question: &Question) -> Request<'_> {
+    Request {
+        program: &question.program,
+        places: &question.places,
+    }
+}
+
+/// Runs the stream of a query, and returns how many rows it read and wrote.
+fn run_query<R: Read + Drop, E: Write + Drop>(
+    console: &(impl Print + AllocGlobal),
+    settings: Settings<'_>,
+    query: &Query,
+    reader: R,
+    refused: &mut RefusedRows<E>,
+) -> Result<Summary, StreamError> {
+    let alloc = console.alloc();
+    let picking = Settings {
+        picks_rows: true,
+        ..settings
+    };
+    let mut out = io::writer(console);
+    let (settings, answers, condition) = match (&query.answers, &query.condition) {
+        (Some(answers), Some(condition)) => (settings, asked(answers), Some(asked(condition))),
+        (Some(answers), None) => (settings, asked(answers), None),
+        (None, Some(condition)) => (picking, asked(condition), None),
+        (None, None) => {
+            return Ok(Summary {
+                rows_read: 0,
+                rows_written: 0,
+            });
+        }
+    };
+    run(
+        alloc,
+        &settings,
+        &answers,
+        condition.as_ref(),
+        reader,
+        &mut out,
+        refused,
+    )
+}
+
+/// The same, with the rows counted on standard error while they are read, where that is asked.
+/// `rows` and `null` must outlive `settings`, so they are locals here.
+fn run_watched<R: Read + Drop, E: Write + Drop>(
+    console: &(impl Print + Eprint + AllocGlobal),
+    options: &Options<'_>,
+    query: &Query,
+    reader: R,
+    refused: &mut RefusedRows<E>,
+) -> Result<Summary, StreamError> {
+    let null = String::from_str(console.alloc(), options.null)?;
+    let rows = Cell::new(0);
+    let format = format_with(options, null.as_bytes(), &options.more_nulls);
+    let settings = settings_of(options, format, &rows);
+    if !options.progress {
+        return run_query(console, settings, query, reader, refused);
+    }
+    let watched = Watched::new(reader, Progress { console }, &rows, PRINTED_BYTES);
+    let passed = run_query(console, settings, query, watched, refused);
+    let _ = eprintln!(console; "\rrows {}", rows.get());
+    passed
+}
+
+/// The error, with advice where the type that a field has not was taken from the first rows.
+fn advised(inferred: &StructFields, error: StreamError) -> ProgramError {
+    let is_inferred = match &error {
+        StreamError::Misfit { column, .. } => inferred.find(column.as_str()).is_some(),
+        _ => false,
+    };
+    if is_inferred {
+        ProgramError::Inferred(error)
+    } else {
+        ProgramError::Stream(error)
+    }
+}
+
+/// Writes the reports that were not yet written, and before them that of the row whose error ended
+/// the stream, where a file has the reports.
+fn report_last<E: Write + Drop>(
+    options: &Options<'_>,
+    passed: &Result<Summary, StreamError>,
+    refusals: &mut Refusals<E>,
+) -> Result<(), StreamError> {
+    if let Err(error) = passed {
+        if options.errors_to.is_some() && error.row().is_some() {
+            refusals.tell(error)?;
+        }
+    }
+    refusals.flush()
+}
+
+/// The error, where reports of bad rows could not be written.
+fn unreported(
+    console: &impl AllocGlobal,
+    options: &Options<'_>,
+    error: StreamError,
+) -> ProgramError {
+    let name = options.errors_to.unwrap_or("standard error");
+    match (error, String::from_str(console.alloc(), name)) {
+        (StreamError::Writing(error), Ok(name)) => ProgramError::Reporting(name, error),
+        (error, _) => ProgramError::Stream(error),
+    }
+}
+
+/// How a stream ended, with its last reports written.
+fn ended<E: Write + Drop>(
+    console: &impl AllocGlobal,
+    options: &Options<'_>,
+    query: &Query,
+    passed: Result<Summary, StreamError>,
+    refusals: &mut Refusals<E>,
+) -> Result<Summary, ProgramError> {
+    let passed = match report_last(options, &passed, refusals) {
+        Ok(()) => passed,
+        Err(error) => Err(error),
+    };
+    match passed {
+        Ok(summary) => Ok(summary),
+        Err(error) if refusals.has_failed() => Err(unreported(console, options, error)),
+        Err(error) => Err(advised(&query.inferred, error)),
+    }
+}
+
+/// Runs the stream, with bad rows reported and skipped or up to the first, as the options say.
+/// Returns how many were skipped, and how it ended.
+fn run_reported<R: Read + Drop, E: Write + Drop>(
+    console: &(impl Print + Eprint + AllocGlobal),
+    options: &Options<'_>,
+    query: &Query,
+    reader: R,
+    refusals: Refusals<E>,
+) -> (u64, Result<Summary, ProgramError>) {
+    if !options.skips {
+        let mut refused: RefusedRows<E> = RefusedRows::End;
+        let passed = run_watched(console, options, query, reader, &mut refused);
+        let mut refusals = refusals;
+        return (0, ended(console, options, query, passed, &mut refusals));
+    }
+    let mut refused = RefusedRows::Skip(refusals);
+    let passed = run_watched(console, options, query, reader, &mut refused);
+    match &mut refused {
+        RefusedRows::Skip(refusals) => {
+            let skipped = refusals.count();
+            (skipped, ended(console, options, query, passed, refusals))
+        }
+        RefusedRows::End => match passed {
+            Ok(summary) => (0, Ok(summary)),
+            Err(error) => (0, Err(ProgramError::Stream(error))),
+        },
+    }
+}
+
+/// Runs the stream, and prints its counts, where they are asked. Fails where rows were skipped.
+pub(crate) fn run_counted<R: Read + Drop, E: Write + Drop>(
+    console: &(impl Print + Eprint + AllocGlobal),
+    options: &Options<'_>,
+    query: &Query,
+    reader: R,
+    refusals: Refusals<E>,
+) -> Result<(), ProgramError> {
+    let (skipped, passed) = run_reported(console, options, query, reader, refusals);
+    match passed {
+        Ok(
+            Summary {
+                rows_read,
+                rows_written,
+            },
+        ) => {
+            if options.summary {
+                let _ = eprintln!(console; "rows read {rows_read}, rows written {rows_written}");
+            }
+            if skipped == 0 {
+                Ok(())
+            } else {
+                Err(ProgramError::LeftOut(skipped))
+            }
+        }
+        Err(failure) => {
+            if skipped != 0 && !failure.is_closed_pipe() {
+                let _ = eprintln!(console; "rowfn_stream: {}", ProgramError::LeftOut(skipped));
+            }
+            Err(failure)
+        }
+    }
+}
