@@ -19,8 +19,8 @@ fn word(alloc: Global, from: usize, len: usize) -> VortexResult<u64> {
     Ok(bits.slice(from, len).word(0))
 }
 
-fn is_word(rt: HostRuntime, word: VortexResult<u64>, wanted: u64) -> VortexResult<bool> {
-    Ok(same(rt, word?, wanted))
+fn is_word(rt: HostRuntime, word: VortexResult<u64>, expected: u64) -> VortexResult<bool> {
+    Ok(same(rt, word?, expected))
 }
 
 #[test]
@@ -54,18 +54,18 @@ fn validity_is_read(rt: HostRuntime) {
 }
 
 /// Whether integers are only of i16, and are those.
-fn are_shorts(rt: HostRuntime, ints: &Ints, wanted: &[i16]) -> bool {
+fn are_shorts(rt: HostRuntime, ints: &Ints, expected: &[i16]) -> bool {
     let same = match i16::of(ints) {
-        Some(values) => same(rt, values, wanted),
+        Some(values) => same(rt, values, expected),
         None => false,
     };
     same && ints.ptype() == PType::I16 && u16::of(ints).is_none()
 }
 
-fn has_shorts(rt: HostRuntime, wanted: &[i16]) -> VortexResult<bool> {
+fn has_shorts(rt: HostRuntime, expected: &[i16]) -> VortexResult<bool> {
     let alloc = rt.alloc();
-    let ints = i16::wrap(wanted.to_vec(alloc)?);
-    Ok(are_shorts(rt, &ints.try_clone(alloc)?, wanted))
+    let ints = i16::wrap(expected.to_vec(alloc)?);
+    Ok(are_shorts(rt, &ints.try_clone(alloc)?, expected))
 }
 
 #[test]

@@ -91,7 +91,7 @@ fn has_bits(rt: HostRuntime, column: Made) -> VortexResult<bool> {
 }
 
 /// Whether these of two rows are valid on both sides.
-fn joins(rt: HostRuntime, left: Made, right: Made, wanted: [bool; 2]) -> VortexResult<bool> {
+fn joins(rt: HostRuntime, left: Made, right: Made, expected: [bool; 2]) -> VortexResult<bool> {
     let (left, right) = (left?, right?);
     if left.len() != 2 || right.len() != 2 {
         return Ok(false);
@@ -100,7 +100,7 @@ fn joins(rt: HostRuntime, left: Made, right: Made, wanted: [bool; 2]) -> VortexR
     if !valid.fits(2) {
         return Ok(false);
     }
-    Ok(same(rt, [valid.is_valid(0), valid.is_valid(1)], wanted))
+    Ok(same(rt, [valid.is_valid(0), valid.is_valid(1)], expected))
 }
 
 #[test]

@@ -48,11 +48,11 @@ fn rows_read(alloc: Global, copy: &Column, column: &Column) -> VortexResult<bool
 }
 
 /// Whether the column's copy reads the same, and has only these parts.
-fn has_parts(rt: HostRuntime, column: Made, wanted: [bool; 8]) -> VortexResult<bool> {
+fn has_parts(rt: HostRuntime, column: Made, expected: [bool; 8]) -> VortexResult<bool> {
     let alloc = rt.alloc();
     let column = column?;
     let copy = kept(alloc, column.try_clone(alloc))?;
-    Ok(same(rt, parts(&column), wanted) && rows_read(alloc, &copy, &column)?)
+    Ok(same(rt, parts(&column), expected) && rows_read(alloc, &copy, &column)?)
 }
 
 /// Only the part of that number.

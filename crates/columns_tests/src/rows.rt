@@ -64,7 +64,7 @@ fn rows_are_read_in_their_order(rt: HostRuntime) {
 }
 
 /// Whether the true rows of a column have these numbers, and are taken by them.
-fn true_in(rt: HostRuntime, column: Made, wanted: &[u32]) -> VortexResult<bool> {
+fn true_in(rt: HostRuntime, column: Made, expected: &[u32]) -> VortexResult<bool> {
     let alloc = rt.alloc();
     let column = column?;
     if !column.dtype().is_boolean() {
@@ -72,7 +72,7 @@ fn true_in(rt: HostRuntime, column: Made, wanted: &[u32]) -> VortexResult<bool> 
     }
     let codes = column.true_rows(alloc)?;
     let taken = kept(alloc, column.take(&codes, &mut ExecutionCtx::new(alloc)))?;
-    Ok(same(rt, codes.as_slice(), wanted) && same(rt, taken.len(), wanted.len()))
+    Ok(same(rt, codes.as_slice(), expected) && same(rt, taken.len(), expected.len()))
 }
 
 #[test]
@@ -86,9 +86,9 @@ fn true_rows_are_numbered(rt: HostRuntime) {
 }
 
 /// Whether two columns are equal or not, as expected.
-fn are_equal(rt: HostRuntime, left: Made, right: Made, wanted: bool) -> VortexResult<bool> {
+fn are_equal(rt: HostRuntime, left: Made, right: Made, expected: bool) -> VortexResult<bool> {
     let (left, right) = (left?, right?);
-    Ok(same(rt, *left == *right, wanted))
+    Ok(same(rt, *left == *right, expected))
 }
 
 #[test]

@@ -12,16 +12,16 @@ const NO: Nullability = Nullability::NonNullable;
 const YES: Nullability = Nullability::Nullable;
 
 /// Whether two scalars are in that order, and are equal exactly if it is Equal.
-fn stand(left: &Scalar, order: Ordering, right: &Scalar) -> bool {
+fn are_ordered(left: &Scalar, order: Ordering, right: &Scalar) -> bool {
     left.partial_cmp(right) == Some(order) && (left == right) == order.is_eq()
 }
 
 #[test]
 fn scalars_are_ordered_within_a_type(rt: HostRuntime) {
     let null = Scalar::null(DType::Bool(YES));
-    assert!(rt; stand(&null, Ordering::Less, &Scalar::from(false)));
+    assert!(rt; are_ordered(&null, Ordering::Less, &Scalar::from(false)));
     assert!(rt;
-        stand(
+        are_ordered(
             &Scalar::bool(true, YES),
             Ordering::Equal,
             &Scalar::from(true)
@@ -92,13 +92,13 @@ fn no_map(alloc: Global) -> VortexResult<Scalar> {
 }
 
 /// Whether a scalar has this debug text, and this text as a literal.
-fn prints(rt: HostRuntime, scalar: VortexResult<Scalar>, wanted: &str) -> VortexResult<bool> {
+fn prints(rt: HostRuntime, scalar: VortexResult<Scalar>, expected: &str) -> VortexResult<bool> {
     let alloc = rt.alloc();
     let scalar = scalar?;
     let printed = format!(in alloc; "{scalar:?}")?;
     let mut literal = String::new(alloc);
     scalar.write_literal(&mut literal)?;
-    Ok(same(rt, printed.as_str(), wanted) && same(rt, literal.as_str(), wanted))
+    Ok(same(rt, printed.as_str(), expected) && same(rt, literal.as_str(), expected))
 }
 
 #[test]

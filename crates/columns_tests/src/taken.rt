@@ -21,15 +21,15 @@ pub fn are_below(codes: &[u32], count: usize) -> bool
 
 /// Whether the rows of these numbers are those of another column, which is constant if the first
 /// is.
-fn gives(rt: HostRuntime, column: Made, codes: &[u32], wanted: Made) -> VortexResult<bool> {
+fn gives(rt: HostRuntime, column: Made, codes: &[u32], expected: Made) -> VortexResult<bool> {
     let alloc = rt.alloc();
-    let (column, wanted) = (column?, wanted?);
+    let (column, expected) = (column?, expected?);
     if !are_below(codes, column.len()) {
         return Ok(false);
     }
     let taken = kept(alloc, column.take(codes, &mut ExecutionCtx::new(alloc)))?;
     let constant = taken.as_constant().is_some() == column.as_constant().is_some();
-    Ok(constant && same(rt, &*taken, &*wanted))
+    Ok(constant && same(rt, &*taken, &*expected))
 }
 
 /// The codes 0, 1 and 2 in turn, that many of them, and their truth values.
@@ -81,9 +81,9 @@ fn pairs(alloc: Global, values: &[i32], len: usize) -> Made {
 fn rows_are_taken(rt: HostRuntime) {
     let alloc = rt.alloc();
     sure(&rt, takes_in_turn(rt, 131));
-    let wanted = people(alloc, &[8, 9, 8], &["bo", "hello, world, again", "bo"]);
+    let expected = people(alloc, &[8, 9, 8], &["bo", "hello, world, again", "bo"]);
     let column = people(alloc, &[9, 8], &["hello, world, again", "bo"]);
-    sure(&rt, gives(rt, column, &[1, 0, 1], wanted));
+    sure(&rt, gives(rt, column, &[1, 0, 1], expected));
     sure(
         &rt,
         gives(
@@ -93,26 +93,29 @@ fn rows_are_taken(rt: HostRuntime) {
             people(alloc, &[], &[]),
         ),
     );
-    let wanted = constant(alloc, PType::I32, 1, 3);
+    let expected = constant(alloc, PType::I32, 1, 3);
     sure(
         &rt,
-        gives(rt, constant(alloc, PType::I32, 1, 2), &[0, 1, 1], wanted),
+        gives(rt, constant(alloc, PType::I32, 1, 2), &[0, 1, 1], expected),
     );
 }
 
 #[test]
 fn nested_rows_are_taken(rt: HostRuntime) {
     let alloc = rt.alloc();
-    let wanted = lists(alloc, [1, 0], [1, 2]);
+    let expected = lists(alloc, [1, 0], [1, 2]);
     sure(
         &rt,
-        gives(rt, lists(alloc, [0, 1], [2, 1]), &[1, 0], wanted),
+        gives(rt, lists(alloc, [0, 1], [2, 1]), &[1, 0], expected),
     );
-    let wanted = maps(alloc, [0, 1], [0, 1]);
-    sure(&rt, gives(rt, maps(alloc, [1, 0], [1, 0]), &[1, 0], wanted));
-    let wanted = pairs(alloc, &[5, 6, 1, 2], 2);
+    let expected = maps(alloc, [0, 1], [0, 1]);
     sure(
         &rt,
-        gives(rt, pairs(alloc, &[1, 2, 3, 4, 5, 6], 3), &[2, 0], wanted),
+        gives(rt, maps(alloc, [1, 0], [1, 0]), &[1, 0], expected),
+    );
+    let expected = pairs(alloc, &[5, 6, 1, 2], 2);
+    sure(
+        &rt,
+        gives(rt, pairs(alloc, &[1, 2, 3, 4, 5, 6], 3), &[2, 0], expected),
     );
 }

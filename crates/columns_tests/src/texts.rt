@@ -9,12 +9,12 @@ use vortex_columns::{
 };
 
 /// Whether the column's text is this one, also for debugging.
-fn reads(rt: HostRuntime, column: Made, wanted: &str) -> VortexResult<bool> {
+fn reads(rt: HostRuntime, column: Made, expected: &str) -> VortexResult<bool> {
     let alloc = rt.alloc();
     let column = column?;
     let text = column.text(alloc)?;
     let printed = format!(in alloc; "{:?}", *column)?;
-    Ok(same(rt, text.as_str(), wanted) && same(rt, printed.as_str(), wanted))
+    Ok(same(rt, text.as_str(), expected) && same(rt, printed.as_str(), expected))
 }
 
 #[test]

@@ -19,9 +19,9 @@ fn held(alloc: Global, answer: VortexResult<Option<Column>>) -> Answer {
 }
 
 /// Whether there is an answer, and it has this text.
-fn says(rt: HostRuntime, answer: Answer, wanted: &str) -> VortexResult<bool> {
+fn says(rt: HostRuntime, answer: Answer, expected: &str) -> VortexResult<bool> {
     match answer? {
-        Some(column) => reads(rt, Ok(column), wanted),
+        Some(column) => reads(rt, Ok(column), expected),
         None => Ok(false),
     }
 }

@@ -18,24 +18,24 @@ fn keeps<V: ScalarFnVTable>(
     rt: HostRuntime,
     function: V,
     options: V::Options,
-    wanted: &[u8],
+    expected: &[u8],
 ) -> VortexResult<bool> {
     let alloc = rt.alloc();
     let Some(bytes) = function.serialize(alloc, &options)? else {
         return Ok(false);
     };
-    Ok(same(rt, bytes.as_slice(), wanted) && function.deserialize(alloc, &bytes)? == options)
+    Ok(same(rt, bytes.as_slice(), expected) && function.deserialize(alloc, &bytes)? == options)
 }
 
 /// Whether a function writes those bytes of its options.
 fn writes<C: ScalarFnVTable>(
     rt: HostRuntime,
     function: ScalarFnRef<C>,
-    wanted: &[u8],
+    expected: &[u8],
 ) -> VortexResult<bool> {
     let alloc = rt.alloc();
     match function.options().serialize(alloc)? {
-        Some(bytes) => Ok(same(rt, bytes.as_slice(), wanted)),
+        Some(bytes) => Ok(same(rt, bytes.as_slice(), expected)),
         None => Ok(false),
     }
 }
@@ -44,11 +44,11 @@ fn writes<C: ScalarFnVTable>(
 fn is_shown(rt: HostRuntime, function: Function, text: &str, options: &str) -> VortexResult<bool> {
     let alloc = rt.alloc();
     let shown = function.to_string(alloc)?;
-    let told = function.options().to_string(alloc)?;
-    Ok(same(rt, shown.as_str(), text) && same(rt, told.as_str(), options))
+    let options_text = function.options().to_string(alloc)?;
+    Ok(same(rt, shown.as_str(), text) && same(rt, options_text.as_str(), options))
 }
 
-/// Whether what stands for a debugger is the same of both.
+/// Whether the debug text is the same of both.
 fn debugs_alike(rt: HostRuntime, one: Function, other: Function) -> VortexResult<bool> {
     let alloc = rt.alloc();
     let shown = format!(in alloc; "{one:?}")?;

@@ -20,7 +20,7 @@ const HALF_OPEN: BetweenOptions = BetweenOptions {
 
 /// Whether a function has that name, names its first argument so, is infallible, and is strict or
 /// not.
-fn is_told<C: ScalarFnVTable>(
+fn is_described<C: ScalarFnVTable>(
     function: ScalarFnRef<C>,
     name: &str,
     child: &str,
@@ -36,22 +36,22 @@ fn is_told<C: ScalarFnVTable>(
 #[test]
 fn shipped_functions_have_names_and_marks(rt: HostRuntime) {
     let and = TypedScalarFnInstance::new(Binary, Operator::And).erased();
-    assert!(rt; is_told::<NoCustom>(and, "vortex.binary", "lhs", false));
-    assert!(rt; is_told::<NoCustom>(ScalarFnRef::Not, "vortex.not", "input", true));
-    assert!(rt; is_told::<NoCustom>(ScalarFnRef::Cast, "vortex.cast", "input", true));
+    assert!(rt; is_described::<NoCustom>(and, "vortex.binary", "lhs", false));
+    assert!(rt; is_described::<NoCustom>(ScalarFnRef::Not, "vortex.not", "input", true));
+    assert!(rt; is_described::<NoCustom>(ScalarFnRef::Cast, "vortex.cast", "input", true));
     let between = Between.bind(HALF_OPEN);
-    assert!(rt; is_told::<NoCustom>(between, "vortex.between", "array", false));
-    assert!(rt; is_told::<NoCustom>(Like.bind(LIKE), "vortex.like", "child", true));
+    assert!(rt; is_described::<NoCustom>(between, "vortex.between", "array", false));
+    assert!(rt; is_described::<NoCustom>(Like.bind(LIKE), "vortex.like", "child", true));
 }
 
 /// Whether a copy of a function is Between with these options.
 fn is_copied<C: ScalarFnVTable>(
     alloc: Global,
     function: ScalarFnRef<C>,
-    wanted: BetweenOptions,
+    expected: BetweenOptions,
 ) -> VortexResult<bool> {
     let copy = function.try_clone(alloc)?;
-    Ok(copy.as_between() == Some(wanted) && copy.as_binary().is_none())
+    Ok(copy.as_between() == Some(expected) && copy.as_binary().is_none())
 }
 
 /// Whether a function has that name, and is a caller's of that name.

@@ -17,9 +17,9 @@ fn none(alloc: Global) -> Bound<NoCustom> {
 fn a_function_without_arguments_answers_every_row(rt: HostRuntime) {
     let alloc = rt.alloc();
     let columns = twice(alloc, &[Some(true), None]);
-    let wanted = [Some(true), Some(true)];
+    let expected = [Some(true), Some(true)];
     let turned = not_of(alloc, none(alloc));
-    sure(&rt, answers::<NoCustom>(rt, turned, columns, &wanted));
+    sure(&rt, answers::<NoCustom>(rt, turned, columns, &expected));
     sure(&rt, prints(rt, none(alloc), "rowfn.none()"));
 }
 
@@ -43,13 +43,13 @@ fn lends<C: ScalarFnVTable>(
     rt: HostRuntime,
     tree: &BoundExpression<C>,
     columns: &[Column],
-    wanted: &[Option<bool>],
+    expected: &[Option<bool>],
 ) -> VortexResult<bool> {
     let alloc = rt.alloc();
     let mut ctx = ExecutionCtx::new(alloc);
-    let answer = Box::new(alloc, tree.execute(columns, wanted.len(), &mut ctx)?)?;
+    let answer = Box::new(alloc, tree.execute(columns, expected.len(), &mut ctx)?)?;
     match &*answer {
-        Cow::Borrowed(column) => are_rows(rt, column, wanted),
+        Cow::Borrowed(column) => are_rows(rt, column, expected),
         Cow::Owned(_) => Ok(false),
     }
 }
@@ -59,10 +59,10 @@ fn is_borrowed<C: ScalarFnVTable>(
     rt: HostRuntime,
     tree: Bound<C>,
     columns: VortexResult<Vec<Column>>,
-    wanted: &[Option<bool>],
+    expected: &[Option<bool>],
 ) -> VortexResult<bool> {
     let (tree, columns) = (tree?, columns?);
-    lends(rt, &*tree, &columns, wanted)
+    lends(rt, &*tree, &columns, expected)
 }
 
 #[test]

@@ -1,4 +1,4 @@
-//! Truth values that begin anywhere in their bytes, whatever bits stand under nulls and around the
+//! Truth values that begin anywhere in their bytes, whatever bits are under nulls and around the
 //! rows, and words of bits: And, Or, Not and the comparisons answer each pair of true, false and
 //! null as Kleene's tables and the order of truth values say.
 
@@ -63,7 +63,7 @@ pub(crate) fn bits_from(
 }
 
 /// Truth values from that bit on, and from the same bit on which of them there are. Under a null
-/// stands what stands around the rows.
+/// is what is around the rows.
 pub(crate) fn truths_from(
     alloc: Global,
     rows: &[Option<bool>],
@@ -102,10 +102,10 @@ fn are_answered(rt: HostRuntime, places: (usize, usize), len: usize) -> VortexRe
     let alloc = rt.alloc();
     let (first, second) = places;
     let others = first % 2 == 0;
-    for (asked, wanted) in ANSWERS {
+    for (asked, expected) in ANSWERS {
         let left = side(alloc, LEFT, len, first, others);
         let right = side(alloc, RIGHT, len, second, !others);
-        if !says_in_turn(rt, answer(alloc, asked, left, right), wanted)? {
+        if !says_in_turn(rt, answer(alloc, asked, left, right), expected)? {
             return Ok(false);
         }
     }

@@ -31,8 +31,8 @@ fn divided<T: ConstantArithmetic>(number: T, divisor: T) -> Option<T> {
     Some(divisor.divide(number))
 }
 
-/// Whether the product is told as one that the type does not hold.
-fn is_told<T: ConstantArithmetic>(number: T, factor: T) -> bool {
+/// Whether the product is reported as one that the type does not hold.
+fn overflows<T: ConstantArithmetic>(number: T, factor: T) -> bool {
     let (least, greatest) = factor_ends(factor);
     bounded_product(number, factor, least, greatest).1
 }
@@ -40,6 +40,6 @@ fn is_told<T: ConstantArithmetic>(number: T, factor: T) -> bool {
 #[test]
 fn constants_are_looked_at_before_the_rows(rt: HostRuntime) {
     assert!(rt; divided(-9223372036854775808i64, 7) == Some(-1317624576693539401));
-    assert!(rt; !is_told(1317624576693539401i64, 7));
-    assert!(rt; is_told(1317624576693539402i64, 7));
+    assert!(rt; !overflows(1317624576693539401i64, 7));
+    assert!(rt; overflows(1317624576693539402i64, 7));
 }

@@ -80,9 +80,9 @@ fn zero_bytes_are_no_padding(rt: HostRuntime) {
 }
 
 /// Whether a pattern, which looks past case or not, has this form for texts that are ASCII.
-fn has_form(rt: HostRuntime, pattern: &str, folds: bool, wanted: LikeForm) -> VortexResult<bool> {
+fn has_form(rt: HostRuntime, pattern: &str, folds: bool, expected: LikeForm) -> VortexResult<bool> {
     let pattern = LikePattern::compile(rt.alloc(), pattern, folds, true)?;
-    Ok(same(rt, pattern.form(), wanted))
+    Ok(same(rt, pattern.form(), expected))
 }
 
 #[test]
@@ -113,9 +113,9 @@ fn counts_its_looks(rt: HostRuntime) {
 }
 
 /// Whether a pattern with the escape `%` is one text that is not its own.
-fn is_exact(rt: HostRuntime, pattern: &str, wanted: &str) -> VortexResult<bool> {
+fn is_exact(rt: HostRuntime, pattern: &str, expected: &str) -> VortexResult<bool> {
     match LikeVariant::from_str_with(rt.alloc(), pattern, Some('%'))? {
-        Some(LikeVariant::Exact(CowStr::Owned(text))) => Ok(same(rt, text.as_str(), wanted)),
+        Some(LikeVariant::Exact(CowStr::Owned(text))) => Ok(same(rt, text.as_str(), expected)),
         _ => Ok(false),
     }
 }

@@ -89,10 +89,17 @@ pub(crate) fn in_turn(alloc: Global, letters: &str, len: usize) -> VortexResult<
 pub(crate) fn says_in_turn(rt: HostRuntime, answer: Made, letters: &str) -> VortexResult<bool> {
     let alloc = rt.alloc();
     let answer = answer?;
-    let wanted = in_turn(alloc, letters, answer.len())?;
+    let expected = in_turn(alloc, letters, answer.len())?;
     let dtype = answer.dtype();
     let is_typed = dtype.is_boolean() && dtype.is_nullable();
-    Ok(is_typed && same(rt, rows_of(alloc, &*answer)?.as_slice(), wanted.as_slice()))
+    Ok(
+        is_typed
+            && same(
+                rt,
+                rows_of(alloc, &*answer)?.as_slice(),
+                expected.as_slice(),
+            ),
+    )
 }
 
 /// The rows that are not null, as a list of bits.

@@ -49,13 +49,13 @@ fn optimizes<C: ScalarFnRules>(
     rt: HostRuntime,
     array: Held<C>,
     steps: u64,
-    wanted: &[Option<bool>],
+    expected: &[Option<bool>],
 ) -> VortexResult<bool> {
     let alloc = rt.alloc();
     let made = Box::new(alloc, array?.optimize_recursive(alloc, 5)?)?;
     let mut ctx = ExecutionCtx::new(alloc);
     let answer = Box::new(alloc, made.tree.execute(&mut ctx)?)?;
-    Ok(are_rows(rt, &**answer, wanted)? && made.done && made.steps == steps)
+    Ok(are_rows(rt, &**answer, expected)? && made.done && made.steps == steps)
 }
 
 #[test]
@@ -81,10 +81,10 @@ fn array_at<C: ScalarFnRules>(
 fn reduces_to<C: ScalarFnRules>(
     rt: HostRuntime,
     array: Held<C>,
-    wanted: &[Option<bool>],
+    expected: &[Option<bool>],
 ) -> VortexResult<bool> {
     match array_at(rt.alloc(), array, &[], Rule::Reduce)? {
-        Some(made) => array_answers(rt, Ok(made), wanted),
+        Some(made) => array_answers(rt, Ok(made), expected),
         None => Ok(false),
     }
 }
@@ -112,14 +112,14 @@ fn lists_to<C: ScalarFnRules>(
     rt: HostRuntime,
     array: Held<C>,
     steps: &[(&[usize], Rule)],
-    wanted: &[Option<bool>],
+    expected: &[Option<bool>],
     applied: usize,
 ) -> VortexResult<bool> {
     let alloc = rt.alloc();
     let made = Box::new(alloc, array?.rewrite_list(alloc, steps)?)?;
     let mut ctx = ExecutionCtx::new(alloc);
     let answer = Box::new(alloc, made.tree.execute(&mut ctx)?)?;
-    Ok(are_rows(rt, &**answer, wanted)? && made.applied == applied)
+    Ok(are_rows(rt, &**answer, expected)? && made.applied == applied)
 }
 
 #[test]

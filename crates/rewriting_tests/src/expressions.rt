@@ -36,10 +36,10 @@ fn reduces_to<C: ScalarFnRules>(
     rt: HostRuntime,
     tree: Bound<C>,
     path: &[usize],
-    wanted: &str,
+    expected: &str,
 ) -> VortexResult<bool> {
     match reduced_at(rt.alloc(), tree, path)? {
-        Some(made) => has_text(rt, &*made, wanted),
+        Some(made) => has_text(rt, &*made, expected),
         None => Ok(false),
     }
 }
@@ -57,13 +57,13 @@ fn a_rule_applies_at_a_place(rt: HostRuntime) {
 fn weighs<C: ScalarFnRules>(
     rt: HostRuntime,
     tree: Bound<C>,
-    wanted: (u64, u64),
+    expected: (u64, u64),
 ) -> VortexResult<bool> {
     let alloc = rt.alloc();
     let tree = tree?;
     let once = Box::new(alloc, tree.optimize_recursive(alloc, 1)?)?;
     let weights = (tree.weight(), once.tree.weight());
-    Ok(same(rt, weights, wanted) && same(rt, (once.steps, once.done), (1, false)))
+    Ok(same(rt, weights, expected) && same(rt, (once.steps, once.done), (1, false)))
 }
 
 #[test]
@@ -76,11 +76,11 @@ fn a_rewrite_makes_a_tree_lighter(rt: HostRuntime) {
 fn is_borrowed(
     rt: HostRuntime,
     answer: VortexResult<Cow<'_, Column>>,
-    wanted: &[Option<bool>],
+    expected: &[Option<bool>],
 ) -> VortexResult<bool> {
     let alloc = rt.alloc();
     let answer = Box::new(alloc, answer?)?;
-    Ok(matches!(&*answer, Cow::Borrowed(_)) && are_rows(rt, &**answer, wanted)?)
+    Ok(matches!(&*answer, Cow::Borrowed(_)) && are_rows(rt, &**answer, expected)?)
 }
 
 /// Whether a tree answers a borrowed column of these rows after a run of at most ten steps.
@@ -88,13 +88,13 @@ fn lends<C: ScalarFnRules>(
     rt: HostRuntime,
     tree: Bound<C>,
     columns: VortexResult<Vec<Column>>,
-    wanted: &[Option<bool>],
+    expected: &[Option<bool>],
 ) -> VortexResult<bool> {
     let alloc = rt.alloc();
     let (tree, columns) = (tree?, columns?);
     let mut ctx = ExecutionCtx::new(alloc);
-    let answer = run(&*tree, &columns, wanted.len(), 10, &mut ctx);
-    is_borrowed(rt, answer, wanted)
+    let answer = run(&*tree, &columns, expected.len(), 10, &mut ctx);
+    is_borrowed(rt, answer, expected)
 }
 
 #[test]

@@ -22,15 +22,15 @@ fn answers_below_ten<C: ScalarFnVTable>(
     rt: HostRuntime,
     scope: &StructFields,
     columns: &[Column],
-    wanted: &[Option<bool>],
+    expected: &[Option<bool>],
 ) -> VortexResult<bool> {
     let alloc = rt.alloc();
     let tree = Box::new(alloc, below_ten::<C>(alloc, scope)?)?;
     let mut ctx = ExecutionCtx::new(alloc);
-    let answer = Box::new(alloc, tree.execute(columns, wanted.len(), &mut ctx)?)?;
+    let answer = Box::new(alloc, tree.execute(columns, expected.len(), &mut ctx)?)?;
     Ok(
         same(rt, answer.text(alloc)?.as_str(), "bool: true false")
-            && are_rows(rt, &**answer, wanted)?,
+            && are_rows(rt, &**answer, expected)?,
     )
 }
 

@@ -31,8 +31,8 @@ fn levelled_a(alloc: Global) -> Bound<Levelled> {
 fn a_callers_function_answers_and_has_a_text(rt: HostRuntime) {
     let alloc = rt.alloc();
     let columns = twice(alloc, &[Some(true), None]);
-    let wanted = [Some(false), None];
-    sure(&rt, answers(rt, levelled_a(alloc), columns, &wanted));
+    let expected = [Some(false), None];
+    sure(&rt, answers(rt, levelled_a(alloc), columns, &expected));
     let text = "test.levelled($.a, opts=level 3)";
     sure(&rt, prints(rt, levelled_a(alloc), text));
 }

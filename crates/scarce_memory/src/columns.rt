@@ -14,51 +14,51 @@ fn first_is_valid(alloc: Global) -> VortexResult<Validity> {
 }
 
 /// Whether a cell is that number, or null for none.
-fn is_number(cell: Cell<'_>, wanted: Option<i128>) -> bool {
-    match (cell, wanted) {
-        (Cell::Int(number), Some(wanted)) => number == wanted,
+fn is_number(cell: Cell<'_>, expected: Option<i128>) -> bool {
+    match (cell, expected) {
+        (Cell::Int(number), Some(expected)) => number == expected,
         (Cell::Null, None) => true,
         _ => false,
     }
 }
 
-fn is_truth(cell: Cell<'_>, wanted: Option<bool>) -> bool {
-    match (cell, wanted) {
-        (Cell::Bool(truth), Some(wanted)) => truth == wanted,
+fn is_truth(cell: Cell<'_>, expected: Option<bool>) -> bool {
+    match (cell, expected) {
+        (Cell::Bool(truth), Some(expected)) => truth == expected,
         (Cell::Null, None) => true,
         _ => false,
     }
 }
 
 /// Whether a cell is that text, or its bytes.
-fn is_text(cell: Cell<'_>, wanted: Option<&str>) -> bool {
-    match (cell, wanted) {
-        (Cell::Text(text), Some(wanted)) => text == wanted,
-        (Cell::Bytes(bytes), Some(wanted)) => bytes == wanted.as_bytes(),
+fn is_text(cell: Cell<'_>, expected: Option<&str>) -> bool {
+    match (cell, expected) {
+        (Cell::Text(text), Some(expected)) => text == expected,
+        (Cell::Bytes(bytes), Some(expected)) => bytes == expected.as_bytes(),
         (Cell::Null, None) => true,
         _ => false,
     }
 }
 
 /// Whether a column has these two numbers.
-fn are_two(column: &Column, wanted: [Option<i128>; 2]) -> bool {
-    let [first, second] = wanted;
+fn are_two(column: &Column, expected: [Option<i128>; 2]) -> bool {
+    let [first, second] = expected;
     column.len() == 2 && is_number(column.cell(0), first) && is_number(column.cell(1), second)
 }
 
-fn are_numbers(column: Made, wanted: [Option<i128>; 2]) -> VortexResult<bool> {
-    Ok(are_two(&*column?, wanted))
+fn are_numbers(column: Made, expected: [Option<i128>; 2]) -> VortexResult<bool> {
+    Ok(are_two(&*column?, expected))
 }
 
-fn are_truths(column: Made, wanted: [Option<bool>; 2]) -> VortexResult<bool> {
+fn are_truths(column: Made, expected: [Option<bool>; 2]) -> VortexResult<bool> {
     let column = column?;
-    let [first, second] = wanted;
+    let [first, second] = expected;
     Ok(column.len() == 2 && is_truth(column.cell(0), first) && is_truth(column.cell(1), second))
 }
 
-fn are_texts(column: Made, wanted: [Option<&str>; 2]) -> VortexResult<bool> {
+fn are_texts(column: Made, expected: [Option<&str>; 2]) -> VortexResult<bool> {
     let column = column?;
-    let [first, second] = wanted;
+    let [first, second] = expected;
     Ok(column.len() == 2 && is_text(column.cell(0), first) && is_text(column.cell(1), second))
 }
 

@@ -69,11 +69,11 @@ impl Sides {
     }
 
     /// Whether both are unchanged, and a call that borrowed them returns this column.
-    pub fn answer(&self, answer: Made, wanted: &Column) -> VortexResult<bool> {
+    pub fn answer(&self, answer: Made, expected: &Column) -> VortexResult<bool> {
         if !self.stay() {
             return Ok(false);
         }
-        Ok(are_same(&*answer?, wanted))
+        Ok(are_same(&*answer?, expected))
     }
 }
 
@@ -101,13 +101,13 @@ impl Table {
         &self,
         alloc: Global,
         answer: VortexResult<Cow<'_, Column>>,
-        wanted: &Column,
+        expected: &Column,
     ) -> VortexResult<bool> {
         if !are_all_same(&self.columns, &self.copies) {
             return Ok(false);
         }
         let answer = Box::new(alloc, answer?)?;
-        Ok(are_same(&**answer, wanted))
+        Ok(are_same(&**answer, expected))
     }
 }
 

@@ -28,12 +28,12 @@ fn boolean(alloc: Global, sides: &Sides, operator: Operator) -> Made {
     )
 }
 
-fn combines(alloc: Global, operator: Operator, wanted: Made) -> VortexResult<bool> {
-    let wanted = wanted?;
+fn combines(alloc: Global, operator: Operator, expected: Made) -> VortexResult<bool> {
+    let expected = expected?;
     let (left, right) = (truths(alloc, LEFT), truths(alloc, RIGHT));
     let sides = Sides::new(alloc, left, right)?;
     let answer = boolean(alloc, &sides, operator);
-    sides.answer(answer, &*wanted)
+    sides.answer(answer, &*expected)
 }
 
 /// The same with one truth value in each row.
@@ -41,15 +41,15 @@ fn combines_with(
     alloc: Global,
     operator: Operator,
     right: bool,
-    wanted: Made,
+    expected: Made,
 ) -> VortexResult<bool> {
-    let wanted = wanted?;
+    let expected = expected?;
     let left = truths(alloc, LEFT);
     let scalar = Scalar::bool(right, Nullability::NonNullable);
     let right = kept(alloc, Column::constant(alloc, scalar, LEFT.len()));
     let sides = Sides::new(alloc, left, right)?;
     let answer = boolean(alloc, &sides, operator);
-    sides.answer(answer, &*wanted)
+    sides.answer(answer, &*expected)
 }
 
 /// 1, null, 3 with 3, 3, 3.
@@ -59,34 +59,34 @@ fn numbers(alloc: Global) -> VortexResult<Sides> {
     Sides::new(alloc, left, right)
 }
 
-fn compares(alloc: Global, operator: CompareOperator, wanted: Made) -> VortexResult<bool> {
-    let wanted = wanted?;
+fn compares(alloc: Global, operator: CompareOperator, expected: Made) -> VortexResult<bool> {
+    let expected = expected?;
     let sides = numbers(alloc)?;
     let mut ctx = ExecutionCtx::new(alloc);
     let answer = execute_compare(&*sides.left, &*sides.right, operator, &mut ctx);
-    sides.answer(kept(alloc, answer), &*wanted)
+    sides.answer(kept(alloc, answer), &*expected)
 }
 
-fn calculates(alloc: Global, operator: NumericOperator, wanted: Made) -> VortexResult<bool> {
-    let wanted = wanted?;
+fn calculates(alloc: Global, operator: NumericOperator, expected: Made) -> VortexResult<bool> {
+    let expected = expected?;
     let sides = numbers(alloc)?;
     let mut ctx = ExecutionCtx::new(alloc);
     let answer = execute_numeric(&*sides.left, &*sides.right, operator, &mut ctx);
-    sides.answer(kept(alloc, answer), &*wanted)
+    sides.answer(kept(alloc, answer), &*expected)
 }
 
 /// The same with the number 3 in each row.
 fn calculates_with_three(
     alloc: Global,
     operator: NumericOperator,
-    wanted: Made,
+    expected: Made,
 ) -> VortexResult<bool> {
-    let wanted = wanted?;
+    let expected = expected?;
     let left = nullable_ints(alloc, &[Some(1), None, Some(3)]);
     let sides = Sides::new(alloc, left, constant(alloc, PType::I32, 3, 3))?;
     let mut ctx = ExecutionCtx::new(alloc);
     let answer = execute_numeric(&*sides.left, &*sides.right, operator, &mut ctx);
-    sides.answer(kept(alloc, answer), &*wanted)
+    sides.answer(kept(alloc, answer), &*expected)
 }
 
 /// A truth value and a null, as bits with the rows that are not null.
@@ -120,8 +120,8 @@ fn over_bits(alloc: Global, operator: Operator) -> Made {
     )
 }
 
-fn is_over_bits(answer: Made, wanted: Made) -> VortexResult<bool> {
-    Ok(are_same(&*answer?, &*wanted?))
+fn is_over_bits(answer: Made, expected: Made) -> VortexResult<bool> {
+    Ok(are_same(&*answer?, &*expected?))
 }
 
 pub fn ask(alloc: Global, tally: &mut Tally) {

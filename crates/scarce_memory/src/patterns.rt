@@ -21,9 +21,9 @@ fn matches(
 }
 
 /// Whether the simple shape of a pattern is that it begins with that text, which has its own form.
-fn begins_with(alloc: Global, pattern: &str, wanted: &str) -> VortexResult<bool> {
+fn begins_with(alloc: Global, pattern: &str, expected: &str) -> VortexResult<bool> {
     match LikeVariant::from_str(alloc, pattern)? {
-        Some(LikeVariant::Prefix(CowStr::Owned(text))) => Ok(text.as_str() == wanted),
+        Some(LikeVariant::Prefix(CowStr::Owned(text))) => Ok(text.as_str() == expected),
         _ => Ok(false),
     }
 }
@@ -42,11 +42,11 @@ fn like_of(alloc: Global, sides: &Sides, options: LikeOptions) -> Made {
 
 /// Whether LIKE of three texts and their patterns is true, false, true.
 fn likes(alloc: Global, patterns: Made) -> VortexResult<bool> {
-    let wanted = bools(alloc, &[true, false, true])?;
+    let expected = bools(alloc, &[true, false, true])?;
     let words = texts(alloc, &["hello", "world", "help"], Validity::NonNullable);
     let sides = Sides::new(alloc, words, patterns)?;
     let answer = like_of(alloc, &sides, LikeOptions::default());
-    sides.answer(answer, &*wanted)
+    sides.answer(answer, &*expected)
 }
 
 /// A pattern for each of three rows.

@@ -22,11 +22,11 @@ const SPLIT: &str = "vortex.not(((is_not_null($.a) and is_not_null($.b)) and is_
 const ROWS: [Option<bool>; 3] = [Some(true), Some(false), Some(true)];
 
 /// Whether a run gives this column over those of a table, and neither tree nor columns are changed.
-fn runs<C: ScalarFnRules>(alloc: Global, tree: Bound<C>, wanted: Made) -> VortexResult<bool> {
-    let (tree, wanted, table) = (tree?, wanted?, two_rows(alloc)?);
+fn runs<C: ScalarFnRules>(alloc: Global, tree: Bound<C>, expected: Made) -> VortexResult<bool> {
+    let (tree, expected, table) = (tree?, expected?, two_rows(alloc)?);
     let mut ctx = ExecutionCtx::new(alloc);
     let answer = run(&*tree, table.columns(), 2, 10, &mut ctx);
-    let answer = table.answer(alloc, answer, &*wanted);
+    let answer = table.answer(alloc, answer, &*expected);
     unless_changed(has_text(alloc, &*tree, UNKNOWN), answer)
 }
 
@@ -39,16 +39,20 @@ fn true_and_rows<C: ScalarFnVTable>(alloc: Global) -> Held<C> {
 }
 
 /// Whether a column is this one.
-fn is_column(column: Made, wanted: Made) -> VortexResult<bool> {
-    Ok(are_same(&*column?, &*wanted?))
+fn is_column(column: Made, expected: Made) -> VortexResult<bool> {
+    Ok(are_same(&*column?, &*expected?))
 }
 
 /// Whether a run over an array gives this column, and the array still has its rows.
-fn runs_array<C: ScalarFnRules>(alloc: Global, array: Held<C>, wanted: Made) -> VortexResult<bool> {
+fn runs_array<C: ScalarFnRules>(
+    alloc: Global,
+    array: Held<C>,
+    expected: Made,
+) -> VortexResult<bool> {
     let array = array?;
     let mut ctx = ExecutionCtx::new(alloc);
     let answer = kept(alloc, run_array(&*array, 10, &mut ctx));
-    let answer = is_column(answer, wanted);
+    let answer = is_column(answer, expected);
     unless_changed(array_answers(alloc, Ok(array), &ROWS), answer)
 }
 
@@ -78,9 +82,9 @@ const TURNED: &str = "vortex.not($.a)";
 fn stands_for<C: ScalarFnRules>(
     alloc: Global,
     node: &ExpressionReduceNode<'_, C>,
-    wanted: &str,
+    expected: &str,
 ) -> VortexResult<bool> {
-    has_text(alloc, node.expression(), wanted)
+    has_text(alloc, node.expression(), expected)
 }
 
 /// Whether the child of a node is the leaf of column `a`.

@@ -25,18 +25,18 @@ pub const UNKNOWN: &str = "vortex.is_null((($.a + $.b) = $.c))";
 pub fn has_text<C: ScalarFnVTable>(
     alloc: Global,
     tree: &BoundExpression<C>,
-    wanted: &str,
+    expected: &str,
 ) -> VortexResult<bool> {
-    Ok(tree.sql_text(alloc)?.as_str() == wanted)
+    Ok(tree.sql_text(alloc)?.as_str() == expected)
 }
 
 /// Whether an array's copy has these rows.
 pub fn array_answers<C: ScalarFnVTable>(
     alloc: Global,
     array: Held<C>,
-    wanted: &[Option<bool>],
+    expected: &[Option<bool>],
 ) -> VortexResult<bool> {
-    Ok(array_rows(alloc, array)?.as_slice() == wanted)
+    Ok(array_rows(alloc, array)?.as_slice() == expected)
 }
 
 /// Two rows: 1, 2, 3 and null, 3, 3.
@@ -56,17 +56,25 @@ pub fn missing(alloc: Global) -> Made {
 }
 
 /// Whether a tree gives this column over those of a table, and neither is changed.
-fn executes<C: ScalarFnVTable>(alloc: Global, tree: Bound<C>, wanted: Made) -> VortexResult<bool> {
-    let (tree, wanted, table) = (tree?, wanted?, two_rows(alloc)?);
+fn executes<C: ScalarFnVTable>(
+    alloc: Global,
+    tree: Bound<C>,
+    expected: Made,
+) -> VortexResult<bool> {
+    let (tree, expected, table) = (tree?, expected?, two_rows(alloc)?);
     let mut ctx = ExecutionCtx::new(alloc);
     let answer = tree.execute(table.columns(), 2, &mut ctx);
-    let answer = table.answer(alloc, answer, &*wanted);
+    let answer = table.answer(alloc, answer, &*expected);
     unless_changed(has_text(alloc, &*tree, UNKNOWN), answer)
 }
 
 /// Whether a tree has that text.
-fn is_told<C: ScalarFnVTable>(alloc: Global, tree: Bound<C>, wanted: &str) -> VortexResult<bool> {
-    has_text(alloc, &*tree?, wanted)
+fn is_written<C: ScalarFnVTable>(
+    alloc: Global,
+    tree: Bound<C>,
+    expected: &str,
+) -> VortexResult<bool> {
+    has_text(alloc, &*tree?, expected)
 }
 
 fn is_null<C: ScalarFnVTable>(alloc: Global) -> Bound<C> {
@@ -113,22 +121,25 @@ fn bounded<C: ScalarFnVTable>(alloc: Global) -> Bound<C> {
 /// How calls of trees are bound.
 fn ask_bound<C: ScalarFnVTable>(alloc: Global, tally: &mut Tally) {
     let both = between::<C>(alloc, leaf(alloc, "a"), Operator::And, leaf(alloc, "b"));
-    tally.note("bound Binary", is_told(alloc, both, "($.a and $.b)"));
+    tally.note("bound Binary", is_written(alloc, both, "($.a and $.b)"));
     let turned = not_of::<C>(alloc, leaf(alloc, "a"));
-    tally.note("bound Not", is_told(alloc, turned, "vortex.not($.a)"));
+    tally.note("bound Not", is_written(alloc, turned, "vortex.not($.a)"));
     let text = "vortex.is_null($.a)";
-    tally.note("bound IsNull", is_told(alloc, is_null::<C>(alloc), text));
+    tally.note("bound IsNull", is_written(alloc, is_null::<C>(alloc), text));
     let text = "is_not_null($.a)";
     tally.note(
         "bound IsNotNull",
-        is_told(alloc, is_not_null::<C>(alloc), text),
+        is_written(alloc, is_not_null::<C>(alloc), text),
     );
     let text = "vortex.cast($.a, opts=bool?)";
-    tally.note("bound Cast", is_told(alloc, cast::<C>(alloc), text));
+    tally.note("bound Cast", is_written(alloc, cast::<C>(alloc), text));
     let text = "$.a like $.a";
-    tally.note("bound Like", is_told(alloc, like::<C>(alloc), text));
+    tally.note("bound Like", is_written(alloc, like::<C>(alloc), text));
     let text = "($.b <= $.a <= $.a)";
-    tally.note("bound Between", is_told(alloc, bounded::<C>(alloc), text));
+    tally.note(
+        "bound Between",
+        is_written(alloc, bounded::<C>(alloc), text),
+    );
 }
 
 /// True, null.
@@ -212,7 +223,7 @@ pub fn ask(alloc: Global, tally: &mut Tally) {
     ask_bound::<NoCustom>(alloc, tally);
     ask_arrays::<NoCustom>(alloc, tally);
     let tree = unknown_sum::<NoCustom>(alloc);
-    tally.note("sql_text", is_told(alloc, tree, UNKNOWN));
+    tally.note("sql_text", is_written(alloc, tree, UNKNOWN));
     let tree = unknown_sum::<NoCustom>(alloc);
     tally.note(
         "BoundExpression::execute",

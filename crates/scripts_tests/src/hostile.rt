@@ -43,14 +43,14 @@ fn every_beginning_of_a_script_ends_by_its_lines(rt: HostRuntime) {
 }
 
 /// Whether a script prints `out`, and ends with that status and that line.
-fn ends(rt: HostRuntime, script: &[u8], out: &str, wanted: u8, line: &str) -> bool {
+fn ends(rt: HostRuntime, script: &[u8], out: &str, expected: u8, line: &str) -> bool {
     let alloc = rt.alloc();
     let outcome = interpret(alloc, script);
     let is_line = match fault_line(alloc, &outcome.ending) {
         Ok(fault) => same(rt, fault.as_str(), line),
         Err(_) => false,
     };
-    is_line && same_text(rt, &outcome.out, out) && same(rt, status(&outcome.ending), wanted)
+    is_line && same_text(rt, &outcome.out, out) && same(rt, status(&outcome.ending), expected)
 }
 
 #[test]

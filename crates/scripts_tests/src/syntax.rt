@@ -110,6 +110,9 @@ fn steps_have_places(rt: HostRuntime) {
         ("f(a, b + 1) = g()", &[2, 5, 9, 7, 0, 14, 12]),
         ("a || b % 2 is unknown", &[0, 5, 9, 7, 2, 11]),
         ("- a * b", &[2, 0, 6, 4]),
+        ("a & ~b << +c", &[0, 5, 4, 2, 11, 10, 7]),
+        ("f (a, g\n(b)) = unknown", &[3, 9, 6, 0, 15, 13]),
+        ("a + b isnull or c notnull", &[0, 4, 2, 6, 16, 18, 13]),
         ("a /* b /* c */ d */ / 2", &[0, 22, 20]),
         ("-(a + 1) - -7", &[2, 6, 4, 0, 11, 9]),
         ("a is not distinct from b = c", &[0, 23, 27, 25, 2]),
@@ -138,7 +141,12 @@ fn what_was_expected_is_told(rt: HostRuntime) {
         (
             "a between b < c and d",
             12,
-            "||, +, -, *, /, % or the and of between",
+            "an operator that binds tighter, or the and of between",
+        ),
+        (
+            "a + ~b",
+            4,
+            "a column, a literal, case, cast or ( (a ~ needs brackets here)",
         ),
         (
             "a is",

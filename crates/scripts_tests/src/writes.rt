@@ -28,9 +28,9 @@ fn written(alloc: Global) -> Result<String, AllocError> {
     Ok(writer.into_text())
 }
 
-fn writes(rt: HostRuntime, wanted: &str) -> bool {
+fn writes(rt: HostRuntime, expected: &str) -> bool {
     match written(rt.alloc()) {
-        Ok(text) => same(rt, text.as_str(), wanted),
+        Ok(text) => same(rt, text.as_str(), expected),
         Err(_) => false,
     }
 }

@@ -47,9 +47,9 @@ pub fn array_rows<C: ScalarFnVTable>(
 pub fn array_answers<C: ScalarFnVTable>(
     rt: HostRuntime,
     array: Held<C>,
-    wanted: &[Option<bool>],
+    expected: &[Option<bool>],
 ) -> VortexResult<bool> {
-    Ok(same(rt, array_rows(rt.alloc(), array)?.as_slice(), wanted))
+    Ok(same(rt, array_rows(rt.alloc(), array)?.as_slice(), expected))
 }
 
 /// True, true, null.

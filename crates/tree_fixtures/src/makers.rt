@@ -145,36 +145,36 @@ pub fn answers<C: ScalarFnVTable>(
     rt: HostRuntime,
     tree: Bound<C>,
     columns: VortexResult<Vec<Column>>,
-    wanted: &[Option<bool>],
+    expected: &[Option<bool>],
 ) -> VortexResult<bool> {
-    let rows = executed(rt.alloc(), tree, columns, wanted.len())?;
-    Ok(same(rt, rows.as_slice(), wanted))
+    let rows = executed(rt.alloc(), tree, columns, expected.len())?;
+    Ok(same(rt, rows.as_slice(), expected))
 }
 
 /// Whether `sql_text` gives that text.
 pub fn has_text<C: ScalarFnVTable>(
     rt: HostRuntime,
     tree: &BoundExpression<C>,
-    wanted: &str,
+    expected: &str,
 ) -> VortexResult<bool> {
-    Ok(same(rt, tree.sql_text(rt.alloc())?.as_str(), wanted))
+    Ok(same(rt, tree.sql_text(rt.alloc())?.as_str(), expected))
 }
 
 /// Whether a tree has that text, and Display writes the same bytes.
 pub fn prints<C: ScalarFnVTable>(
     rt: HostRuntime,
     tree: Bound<C>,
-    wanted: &str,
+    expected: &str,
 ) -> VortexResult<bool> {
     let tree = tree?;
     let shown = tree.to_string(rt.alloc())?;
-    Ok(has_text(rt, &*tree, wanted)? && same(rt, shown.as_str(), wanted))
+    Ok(has_text(rt, &*tree, expected)? && same(rt, shown.as_str(), expected))
 }
 
 /// Whether a caller's function faults with that number.
-pub fn is_fault<T: Drop>(rt: HostRuntime, answer: VortexResult<T>, wanted: u64) -> bool {
+pub fn is_fault<T: Drop>(rt: HostRuntime, answer: VortexResult<T>, expected: u64) -> bool {
     match answer {
-        Err(VortexError::Custom(number)) => same(rt, number, wanted),
+        Err(VortexError::Custom(number)) => same(rt, number, expected),
         other => rt.is_refused(other, "Custom"),
     }
 }

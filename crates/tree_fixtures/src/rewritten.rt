@@ -64,11 +64,11 @@ pub fn united<C: ScalarFnRules>(alloc: Global, tree: Bound<C>) -> Rewritten<C> {
 pub fn becomes<C: ScalarFnVTable>(
     rt: HostRuntime,
     made: Rewritten<C>,
-    wanted: &str,
+    expected: &str,
 ) -> VortexResult<bool> {
     match made? {
-        Some(made) => has_text(rt, &*made, wanted),
-        None => Ok(same(rt, "no tree", wanted)),
+        Some(made) => has_text(rt, &*made, expected),
+        None => Ok(same(rt, "no tree", expected)),
     }
 }
 

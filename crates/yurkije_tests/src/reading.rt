@@ -34,8 +34,13 @@ fn reads(rt: HostRuntime, text: &[u8], name: &str, optimized: &str) -> bool {
 
 /// Whether a refusal has that status, byte, line and character, and those words.
 fn is_refusal(rt: HostRuntime, error: ProgramError, place: [usize; 4], words: &str) -> bool {
-    let told = ErrorNumbers::of_program(&error);
-    let there = [told.status as usize, told.byte, told.line, told.character];
+    let codes = ErrorNumbers::of_program(&error);
+    let there = [
+        codes.status as usize,
+        codes.byte,
+        codes.line,
+        codes.character,
+    ];
     match program_words(rt.alloc(), &error) {
         Ok(said) => same(rt, there, place) && same(rt, said.as_str(), words),
         Err(_) => false,
@@ -58,13 +63,13 @@ fn texts_are_read_and_refused_with_their_place(rt: HostRuntime) {
 }
 
 /// Whether two fields of one name are refused so, in these words.
-fn refuses_twice(rt: HostRuntime, wanted: FieldError, words: &str) -> bool {
+fn refuses_twice(rt: HostRuntime, expected: FieldError, words: &str) -> bool {
     let [number, name] = fields();
     let Err(error) = read_fields(rt.alloc(), &[number, name, number]) else {
         return false;
     };
     match scope_words(rt.alloc(), error) {
-        Ok(said) => same(rt, error, wanted) && same(rt, said.as_str(), words),
+        Ok(said) => same(rt, error, expected) && same(rt, said.as_str(), words),
         Err(_) => false,
     }
 }

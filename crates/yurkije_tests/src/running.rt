@@ -33,10 +33,10 @@ pub fn answers_of(
 }
 
 /// Whether an answer's text is this one.
-fn is_text(rt: HostRuntime, answers: &[Column], answer: usize, wanted: &str) -> bool {
+fn is_text(rt: HostRuntime, answers: &[Column], answer: usize, expected: &str) -> bool {
     match answers.get(answer) {
         Some(column) => match column.text(rt.alloc()) {
-            Ok(text) => same(rt, text.as_str(), wanted),
+            Ok(text) => same(rt, text.as_str(), expected),
             Err(_) => false,
         },
         None => false,
@@ -44,10 +44,10 @@ fn is_text(rt: HostRuntime, answers: &[Column], answer: usize, wanted: &str) -> 
 }
 
 /// Whether the answers of a text are those.
-fn answers(rt: HostRuntime, text: &[u8], wanted: [&str; 2]) -> bool {
+fn answers(rt: HostRuntime, text: &[u8], expected: [&str; 2]) -> bool {
     match answers_of(rt.alloc(), text, &[numbers(), names()]) {
         Ok(columns) => {
-            is_text(rt, &columns, 0, wanted[0]) && is_text(rt, &columns, 1, wanted[1])
+            is_text(rt, &columns, 0, expected[0]) && is_text(rt, &columns, 1, expected[1])
         }
         Err(_) => false,
     }
@@ -55,8 +55,8 @@ fn answers(rt: HostRuntime, text: &[u8], wanted: [&str; 2]) -> bool {
 
 #[test]
 fn columns_are_answered(rt: HostRuntime) {
-    let wanted = ["i32?: 1 null 4 16 64", "bool?: true null null false false"];
-    assert!(rt; answers(rt, b"number * number, name like '%o%'", wanted));
+    let expected = ["i32?: 1 null 4 16 64", "bool?: true null null false false"];
+    assert!(rt; answers(rt, b"number * number, name like '%o%'", expected));
 }
 
 /// Whether the run of a text over the columns is refused with that status, column and row, in these
@@ -65,7 +65,7 @@ fn refuses(
     rt: HostRuntime,
     text: &[u8],
     columns: &[BorrowedColumn<'_>],
-    wanted: (u32, usize, usize),
+    expected: (u32, usize, usize),
     words: &str,
 ) -> bool {
     let alloc = rt.alloc();
@@ -78,10 +78,11 @@ fn refuses(
     let Err(error) = run_program(alloc, &expression.program, &columns, 5) else {
         return false;
     };
-    let told = ErrorNumbers::of_run(&error);
+    let codes = ErrorNumbers::of_run(&error);
     match run_words(alloc, &expression.program, &error, 5) {
         Ok(said) => {
-            same(rt, (told.status, told.column, told.row), wanted) && same(rt, said.as_str(), words)
+            same(rt, (codes.status, codes.column, codes.row), expected)
+                && same(rt, said.as_str(), words)
         }
         Err(_) => false,
     }
@@ -101,7 +102,7 @@ fn columns_and_faults_are_refused_with_their_rows(rt: HostRuntime) {
 }
 
 /// Whether the first answer of a text is this one, over the numbers and a column of no kind.
-fn answers_unread(rt: HostRuntime, text: &[u8], wanted: &str) -> bool {
+fn answers_unread(rt: HostRuntime, text: &[u8], expected: &str) -> bool {
     let unread = BorrowedColumn {
         kind: 99,
         rows: 7,
@@ -109,7 +110,7 @@ fn answers_unread(rt: HostRuntime, text: &[u8], wanted: &str) -> bool {
         ..names()
     };
     match answers_of(rt.alloc(), text, &[numbers(), unread]) {
-        Ok(columns) => is_text(rt, &columns, 0, wanted),
+        Ok(columns) => is_text(rt, &columns, 0, expected),
         Err(_) => false,
     }
 }
@@ -121,12 +122,12 @@ fn columns_that_are_not_read_are_not_looked_at(rt: HostRuntime) {
 }
 
 /// Whether the answers of a text read the fields of those numbers.
-fn reads(rt: HostRuntime, text: &[u8], wanted: &[usize]) -> bool {
+fn reads(rt: HostRuntime, text: &[u8], expected: &[usize]) -> bool {
     let Some(expression) = expression_of(rt.alloc(), text) else {
         return false;
     };
     match expression.fields_read(rt.alloc()) {
-        Ok(numbers) => numbers.as_slice() == wanted,
+        Ok(numbers) => numbers.as_slice() == expected,
         Err(_) => false,
     }
 }

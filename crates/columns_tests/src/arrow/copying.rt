@@ -17,19 +17,19 @@ fn five(alloc: Global) -> Made {
 
 /// Whether a column of 32-bit integers is copied as this validity and these values, and an item
 /// after them is kept.
-fn copies_ints(rt: HostRuntime, column: Made, valid: u8, wanted: [i32; 6]) -> VortexResult<bool> {
+fn copies_ints(rt: HostRuntime, column: Made, valid: u8, expected: [i32; 6]) -> VortexResult<bool> {
     let mut validity = [99, 99];
     let mut values = [7; 6];
     let copied = copy_integers(&*column?, &mut validity, &mut values);
-    Ok(copied.is_ok() && same(rt, validity, [valid, 99]) && same(rt, values, wanted))
+    Ok(copied.is_ok() && same(rt, validity, [valid, 99]) && same(rt, values, expected))
 }
 
 /// Whether a column of truth values is copied as these bits.
-fn copies_bools(rt: HostRuntime, column: Made, wanted: [u8; 2]) -> VortexResult<bool> {
+fn copies_bools(rt: HostRuntime, column: Made, expected: [u8; 2]) -> VortexResult<bool> {
     let mut validity = [99; 2];
     let mut values = [99; 2];
     let copied = copy_bools(&*column?, &mut validity, &mut values);
-    Ok(copied.is_ok() && same(rt, validity, [255, 1]) && same(rt, values, wanted))
+    Ok(copied.is_ok() && same(rt, validity, [255, 1]) && same(rt, values, expected))
 }
 
 /// "['joe', null, null, 'mark']".
@@ -39,14 +39,14 @@ fn names(alloc: Global) -> Made {
 }
 
 /// Whether a column of texts is copied as these offsets and this data.
-fn copies_texts(rt: HostRuntime, column: Made, wanted: [i32; 5]) -> VortexResult<bool> {
+fn copies_texts(rt: HostRuntime, column: Made, expected: [i32; 5]) -> VortexResult<bool> {
     let column = column?;
     let mut validity = [0];
     let mut offsets = [0; 5];
     let mut data = [b'.'; 8];
     let counted = same(rt, byte_count(&column), Some(7));
     let copied = copy_texts(&column, &mut validity, &mut offsets, &mut data);
-    let rows = same(rt, validity, [0b00001001]) && same(rt, offsets, wanted);
+    let rows = same(rt, validity, [0b00001001]) && same(rt, offsets, expected);
     Ok(counted && copied.is_ok() && rows && same(rt, data, *b"joemark."))
 }
 
@@ -63,12 +63,12 @@ fn columns_are_copied(rt: HostRuntime) {
 }
 
 /// Whether these rows are true, of which the numbers are copied, and an item after them is kept.
-fn selects(rt: HostRuntime, column: Made, count: usize, wanted: [u32; 4]) -> VortexResult<bool> {
+fn selects(rt: HostRuntime, column: Made, count: usize, expected: [u32; 4]) -> VortexResult<bool> {
     let column = column?;
     let mut numbers = [77; 4];
     let copied = copy_true_rows(&column, &mut numbers);
     let counted = same(rt, true_count(&column), count) && same(rt, copied, Ok(count));
-    Ok(counted && same(rt, numbers, wanted))
+    Ok(counted && same(rt, numbers, expected))
 }
 
 #[test]
@@ -90,8 +90,8 @@ fn true_rows_are_copied(rt: HostRuntime) {
 fn selects_most(rt: HostRuntime, column: Made) -> VortexResult<bool> {
     let mut numbers = [999u32; 130];
     let copied = copy_true_rows(&*column?, &mut numbers);
-    let told = [numbers[69], numbers[70], numbers[127], numbers[128]];
-    Ok(same(rt, copied, Ok(128)) && same(rt, told, [69, 71, 128, 999]))
+    let ends = [numbers[69], numbers[70], numbers[127], numbers[128]];
+    Ok(same(rt, copied, Ok(128)) && same(rt, ends, [69, 71, 128, 999]))
 }
 
 /// Words that are full, nearly full, and short.
@@ -103,11 +103,11 @@ fn many_true_rows_are_copied(rt: HostRuntime) {
     sure(&rt, selects_most(rt, bools(rt.alloc(), &rows)));
 }
 
-/// Whether a column of truth values is copied as these bytes, and one behind them is kept.
-fn copies_mask(rt: HostRuntime, column: Made, wanted: [u8; 5]) -> VortexResult<bool> {
+/// Whether a column of truth values is copied as these bytes, and one after them is kept.
+fn copies_mask(rt: HostRuntime, column: Made, expected: [u8; 5]) -> VortexResult<bool> {
     let mut mask = [9; 5];
     let copied = copy_mask(&*column?, &mut mask);
-    Ok(copied.is_ok() && same(rt, mask, wanted))
+    Ok(copied.is_ok() && same(rt, mask, expected))
 }
 
 #[test]

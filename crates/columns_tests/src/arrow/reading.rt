@@ -11,19 +11,19 @@ fn made(alloc: Global, column: &ArrowColumn<'_>) -> Result<Box<Column>, ArrowErr
 }
 
 /// Whether the column's text is this one.
-fn is_text(rt: HostRuntime, column: &Column, wanted: &str) -> bool {
+fn is_text(rt: HostRuntime, column: &Column, expected: &str) -> bool {
     match column.text(rt.alloc()) {
-        Ok(text) => same(rt, text.as_str(), wanted),
+        Ok(text) => same(rt, text.as_str(), expected),
         Err(_) => false,
     }
 }
 
 /// Whether the buffers are read as the column of this text.
-fn reads(rt: HostRuntime, column: ArrowColumn<'_>, wanted: &str) -> bool {
+fn reads(rt: HostRuntime, column: ArrowColumn<'_>, expected: &str) -> bool {
     match made(rt.alloc(), &column) {
-        Ok(column) => is_text(rt, &column, wanted),
+        Ok(column) => is_text(rt, &column, expected),
         Err(error) => {
-            let _ = eprintln!(rt; "got {error:?}, expected {wanted}");
+            let _ = eprintln!(rt; "got {error:?}, expected {expected}");
             false
         }
     }
@@ -107,11 +107,11 @@ fn texts_by_views_are_read(rt: HostRuntime) {
 }
 
 /// Whether the buffers are an error, with these words.
-fn refuses(rt: HostRuntime, column: ArrowColumn<'_>, wanted: ArrowError, words: &str) -> bool {
+fn refuses(rt: HostRuntime, column: ArrowColumn<'_>, expected: ArrowError, words: &str) -> bool {
     match made(rt.alloc(), &column) {
         Ok(_) => false,
         Err(error) => match format!(in rt.alloc(); "{error}") {
-            Ok(text) => same(rt, error, wanted) && same(rt, text.as_str(), words),
+            Ok(text) => same(rt, error, expected) && same(rt, text.as_str(), words),
             Err(_) => false,
         },
     }
@@ -123,7 +123,7 @@ fn offsets_are_refused_under_nulls_too(rt: HostRuntime) {
         offsets: &[0, 3, 2, 3],
         data: b"joe",
     };
-    let wanted = ArrowError::InvalidValue {
+    let expected = ArrowError::InvalidValue {
         row: 1,
         fault: ValueFault::OffsetsFall,
     };
@@ -131,7 +131,7 @@ fn offsets_are_refused_under_nulls_too(rt: HostRuntime) {
         refuses(
             rt,
             nullable(&[0b101], 0, 3, falls),
-            wanted,
+            expected,
             "row 1: offsets fall"
         )
     );

@@ -112,15 +112,15 @@ fn made(pushed: Pushed) -> Dict {
 }
 
 /// Whether a function of a dictionary has these codes.
-fn has_codes(rt: HostRuntime, answer: Pushed, wanted: &[u32]) -> VortexResult<bool> {
-    Ok(same(rt, made(answer)?.codes(), wanted))
+fn has_codes(rt: HostRuntime, answer: Pushed, expected: &[u32]) -> VortexResult<bool> {
+    Ok(same(rt, made(answer)?.codes(), expected))
 }
 
 /// Whether a function of a dictionary stands for rows of that text.
-fn stands_for(rt: HostRuntime, answer: Pushed, wanted: &str) -> VortexResult<bool> {
+fn stands_for(rt: HostRuntime, answer: Pushed, expected: &str) -> VortexResult<bool> {
     let alloc = rt.alloc();
     let rows = made(answer)?.decode(&mut ExecutionCtx::new(alloc));
-    reads(rt, kept(alloc, rows), wanted)
+    reads(rt, kept(alloc, rows), expected)
 }
 
 /// Gt of the dictionary and 2, in that place.
@@ -134,10 +134,10 @@ fn greater(alloc: Global, child_idx: usize) -> Pushed {
 fn the_values_are_compared_and_the_codes_stay(rt: HostRuntime) {
     let alloc = rt.alloc();
     sure(&rt, has_codes(rt, greater(alloc, 0), &[2, 0, 1, 2]));
-    let wanted = "bool?: true false null true";
-    sure(&rt, stands_for(rt, greater(alloc, 0), wanted));
-    let wanted = "bool?: false true null false";
-    sure(&rt, stands_for(rt, greater(alloc, 1), wanted));
+    let expected = "bool?: true false null true";
+    sure(&rt, stands_for(rt, greater(alloc, 0), expected));
+    let expected = "bool?: false true null false";
+    sure(&rt, stands_for(rt, greater(alloc, 1), expected));
 }
 
 /// A caller's function over a dictionary of Bool, which faults at false.
