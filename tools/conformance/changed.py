@@ -3,13 +3,17 @@ import random
 import re
 
 from engines import NOT_ASKED, STATES, Fault, Refused
-from spelling import Plain, Text, is_unchanged
-from trees import FOLDED, Maker, random_table
+from literals import is_unchanged
+from makers import Maker
+from spelling import Plain, Text
+from trees import FOLDED, random_table
 
 OTHERS = ["and", "or", "not", "is", "null", "between", "like", "ilike", "escape", "true", "false", "=", "<>", "<", "<=", ">", ">=",
-          "+", "-", "*", "/", "(", ")", "7", "0", "'a'", "'!'", "''", "i64_a", "i32_b", "bool_a", "utf8_a", "i16_a", "::", "i64", "bool"]
+          "+", "-", "*", "/", "(", ")", "7", "0", "'a'", "'!'", "''", "i64_a", "i32_b", "bool_a", "utf8_a", "i16_a", "::", "i64", "bool",
+          "in", "in", "case", "when", "then", "else", "end", "distinct", "from", "unknown", "isnull", "notnull", "||", "&", "|", "#", "~", "%", ",", "coalesce(", "abs(", "length(", "nullif("]
 # tokens of which one stands where another does
-CLASSES = [{"=", "<>", "<", "<=", ">", ">="}, {"+", "-", "*", "/"}, {"and", "or"}, {"like", "ilike"},
+CLASSES = [{"=", "<>", "<", "<=", ">", ">="}, {"+", "-", "*", "/", "%"}, {"and", "or"}, {"like", "ilike"},
+           {"true", "false", "unknown"}, {"&", "|", "#"}, {"coalesce(", "nullif(", "greatest(", "least("}, {"lower(", "upper(", "btrim(", "length("},
            {"i64_a", "i64_b", "i64_c"}, {"i32_a", "i32_b", "i32_c"}, {"bool_a", "bool_b", "bool_c"}, {"utf8_a", "utf8_b"}]
 # What PostgreSQL reads and we refuse, by how the refusal begins behind its place. Whatever else only PostgreSQL reads is told.
 REFUSED_HERE = {
@@ -18,25 +22,32 @@ REFUSED_HERE = {
     "a number that its type does not hold": r"\S+ is no (bool|utf8|[iu]\d+)",
     "another type": r"no type ",
     "another cast": r"no cast leads from",
-    "case with an operand": r"case takes conditions alone",
 }
 # Where a text is refused for its order of words, PostgreSQL refuses it at the same word, or the word is one of these, by how
 # the refusal goes on: here PostgreSQL reads on.
-ATOM = r"expected a column, a literal, (not, )?case, cast or \("
+ATOM = r"expected ((digits, )?a column, (a literal, )?(not, )?case, cast or \(|an expression or (\)|when))"
 READ_ON = {
     "`not` behind a sign": r'found "not", ' + ATOM,
     "`+` before a value": r'found "\+", ' + ATOM,
+    "an operator before a value": r'found "([|%*/&#]+|<<|>>)", ' + ATOM,
+    "`~` behind a sign": r'found "~", ' + ATOM,
+    "`~` between two texts": r'found "~", expected an operator',
+    "a minus sign before a literal that is no number": r'found "(\'[^"]*|null|true|false)", ' + ATOM,
+    "a minus sign before one of a number": r'found "\d+", ' + ATOM,
+    "a word of CASE, in the CASE by which PostgreSQL is asked": r'found "(when|else|end)", expected an operator, as and a name',
     "a chain, or `is null` before a comparison": r"found .*, expected brackets round the comparison, is, between, in or like before it",
-    "a type behind what is no literal": r'found "::", expected a literal before ::',
+    "a type behind what is no literal": r'found "::", expected (a literal before ::|an operator that binds tighter, or the and of between)',
+    "a call for a type": r'found "\w+", expected the name of a type',
     "an escape that is no text in quotes": r"found .*, expected a text in single quotes",
-    "a keyword as a name": rf'found "(is|like|ilike|between|escape)", ({ATOM}|expected (the name of a type|a text in single quotes))',
-    "a call, or a text behind the name of a type": r"""found "[('][^"]*", expected (an operator|\+, -, \*)""",
-    "a comparison or `is` in the first bound of BETWEEN": r'found "(=|<>|!=|<|<=|>|>=|is)", expected \+, -, \*, / or the and of between',
-    "`is true`, `is false`": r'found "(true|false)", expected null',
+    "a keyword as a name": rf'found "(is|like|ilike|between|escape|in|distinct|from|isnull|notnull|when|then|else|end)", ({ATOM}|expected (the name of a type|a text in single quotes))',
+    "a call, or a text behind the name of a type": r"""found "[('][^"]*", expected an operator""",
+    "a comparison or `is` in the first bound of BETWEEN": r'found "(=|<>|!=|<|<=|>|>=|is)", expected an operator that binds tighter, or the and of between',
+    "an operator behind an escape": r'found "([-+*/%|&#]+|<<|>>)", expected an operator, as and a name',
+    "a row in brackets": r'found ",", expected an operator or \)',
 }
 
 
-def is_at_that_word(told, answers):
+def is_at_that_word(text, told, answers):
     """Whether PostgreSQL refuses a text for its order of words too, and at the word that the refusal names."""
     found = re.match(r'found (?:"(.*?)"|.*?), expected (.*)', told, re.DOTALL)
     theirs = next((re.search(r'syntax error at or near "(.*)"', answer.told, re.DOTALL) for answer in answers
@@ -46,8 +57,11 @@ def is_at_that_word(told, answers):
     ours, there = (found[1] or "").lower(), theirs[1].lower()
     # the texts end with `as`, and PostgreSQL's with END; of a text in quotes we tell the first of these
     same = ours == there or (ours, there) == ("as", "end") or ours == "'" == there[:1]
+    # behind a comma another answer begins here; and PostgreSQL's grammar knows how many NULLIF and COALESCE take
+    is_behind_comma = there == "," and (ours == "as" or "a comma or the end" in found[2]) or there in ",)" and re.search("nullif|coalesce|greatest|least", text.lower())
     # a `not` that none of these follows is refused there itself
-    return same or there == "not" and found[2].startswith("between, in, like or ilike")
+    is_not = there == "not" and (found[2].startswith("between, in, like or ilike") or ours in ("between", "in", "like", "ilike"))
+    return same or bool(is_behind_comma) or is_not
 
 
 def changed_text(rng, table):
@@ -89,6 +103,11 @@ def is_refused(answers):
     return bool(states - {*STATES, "22025"})
 
 
+def is_list(answers):
+    """Whether PostgreSQL refuses a text at a comma, which may be one between two answers."""
+    return isinstance(answers[0], Fault) and answers[0].told == 'syntax error at or near ","'
+
+
 class Changed:
     """Asks changed texts of the program and of PostgreSQL."""
 
@@ -104,6 +123,9 @@ class Changed:
         theirs = self.server.answers(texts, table)
         for number, text, answers in zip(range(begin, end), texts, theirs):
             self.counts["changed texts"] += 1
+            if is_list(answers) and self.is_read(text, table):
+                self.counts["on purpose: a list of answers, where PostgreSQL is asked for one"] += 1
+                continue
             try:
                 ours = self.program.answers([text], table, ["utf8"])[0]
             except Refused as refused:
@@ -111,6 +133,13 @@ class Changed:
             else:
                 self.beside_answers(number, text, ours, answers, table)
         return self.differences
+
+    def is_read(self, text, table):
+        """Whether a text is read as two answers or more."""
+        try:
+            return len(self.program.explained([text, "1"], table)) < 2
+        except Refused as refused:
+            return "--explain says of 2 answers" in refused.told and "  tree: " in refused.told
 
     def differ(self, number, text, ours, theirs):
         self.differences.append((number, f"changed text {number}: {text!r}\n    rowfn_stream: {ours}\n    PostgreSQL: {theirs}"))
@@ -133,7 +162,7 @@ class Changed:
 
     def beside_order(self, number, text, refused, told, answers):
         """Of a text that is refused for its order of words."""
-        if is_at_that_word(told, answers):
+        if is_at_that_word(text, told, answers):
             self.counts["changed texts that both refuse, at the same word"] += 1
             return
         kind = next((kind for kind, begins in READ_ON.items() if re.match(begins, told)), None)
@@ -151,15 +180,15 @@ class Changed:
         for row, one, other in zip(table.rows, ours, answers):
             if one is NOT_ASKED:
                 break
-            if "ilike" in text and any(letter > "\x7f" for letter in FOLDED.keys() & set(text + "".join(map(str, row)))):
-                self.counts["on purpose: letters past ASCII, in PostgreSQL's own ILIKE"] += one != other
+            if re.search(r"\b(ilike|lower|upper)\b", text) and any(letter > "\x7f" for letter in FOLDED.keys() & set(text + "".join(map(str, row)))):
+                self.counts["on purpose: letters past ASCII, in PostgreSQL's own ILIKE, lower and upper"] += one != other
                 continue
             if isinstance(other, Fault):
                 is_fault = other.name in STATES and (isinstance(one, Fault) or self.is_dropped(text, table))
                 alike = is_fault or other.name == "22025" and "like" in text
             else:
                 # a fault next to what decides, or next to a null, is not met by PostgreSQL
-                alike = one == other or isinstance(one, Fault) and bool(re.search(r"\b(and|or|null)\b", text))
+                alike = one == other or isinstance(one, Fault) and bool(re.search(r"\b(and|or|null|case|coalesce|in)\b", text))
             if not alike:
                 return self.differ(number, text, one, other)
 

@@ -16,10 +16,12 @@ ASKED = [
     "7 / zero",
     "one = 1 or 7 / zero = 1",
     ("null::i64 + 7 / zero", "null::bigint + 7 / zero", "null + 7 / zero"),
+    "case when one = 1 then 1 else 7 / zero end",
+    "coalesce(one, 7 / zero)",
     ("100::i8 + 100::i8", "100::smallint + 100::smallint", "100 + 100"),
     ("7::u8 < 300", "7 < 300", "7 < 300"),
     ("-32768::i16", "-32768::smallint", "-32768"),
-    "small + one",
+    ("2147483647::i32 + (1 + 0)", "2147483647::int + (1 + 0)", "2147483647 + (1 + 0)"),
     "one = '1'",
     "name = 1",
     "yes + 1",
@@ -27,7 +29,6 @@ ASKED = [
     "null = null",
     "One = 1",
     "yes = not yes",
-    "- one = -1",
     "one < 2 = yes",
     "yes is null = true",
     '"" = 1',
@@ -37,7 +38,23 @@ ASKED = [
     r"'a\b' like 'a\\b'",
     (r"'a\' like 'a\'", r"'a\' like 'a\'", r"'a\' like 'a\' escape '\'"),
     "'a%' like 'a%' escape ''",
+    "7 % zero",
+    "one << 64",
+    ("cast(one as smallint) << small * 8", "cast(one as smallint) << small * 8", "one << small * 8"),
+    ("abs(-128::i8)", "abs((-128)::smallint)", "abs(-128)"),
+    ("cast(one as boolean)", "cast(one as boolean)", "one <> 0"),
+    "cast(yes as bigint)",
+    "cast('x' as bigint)",
+    ("cast(300 as i8)", "cast(32768 as smallint)", "cast(300 as integer)"),
+    "name || one",
+    "substr('abc', -1)",
+    "substr('abc', 2, -1)",
+    ("greatest(one, null)", "greatest(one, null)", "max(one, null)"),
+    "- - 1",
+    "1 in ()",
     ("'É' ilike 'é'", "'É' ilike 'é'", "'É' like 'é'"),
+    "upper('é')",
+    "upper('ß')",
 ]
 
 
@@ -62,11 +79,17 @@ def in_sqlite(file, text):
 
 
 def told(answer):
-    return cell(answer.told or "E7 " + answer.name if isinstance(answer, Fault) else answer)
+    if not isinstance(answer, Fault):
+        return cell(answer)
+    return answer.told or ("E7 " if answer.name.startswith("Arithmetic.") else "E10 ") + answer.name
 
 
 def row_of(cells):
-    return "| " + " | ".join(one.replace("|", "\\|").replace("\n", " ") for one in cells) + " |"
+    return "| " + " | ".join(cells) + " |"
+
+
+def escaped(text):
+    return text.replace("|", "\\|").replace("\n", " ")
 
 
 def rows_on_page():
@@ -86,7 +109,8 @@ def page_lines(program, server, cased):
     for row, answers in zip(spelled, in_postgresql):
         answered = [told(ours(program, row[0])), told(answers[0]), told(in_sqlite(cased, row[2]))]
         written = [f"`{row[0]}`"] + [one if text == row[0] else f"`{text}`: {one}" for text, one in zip(row, answered)]
-        what = page.get(written[0], "| what differs here |").split(" | ")[0].removeprefix("| ")
+        written = list(map(escaped, written))
+        what = page.get(written[0], "| what differs here | ").split(" | ")[0].removeprefix("| ")
         rows.append(row_of([what, *written]))
     return names + rows
 

@@ -14,6 +14,7 @@ import tempfile
 import time
 from dataclasses import dataclass
 
+from functions import FIELD, NEGATIVE, NO_VALUE, OVERFLOW, SHIFT, ZERO
 from spelling import postgresql_domains, quoted, sql_literal, whole
 from streams import OPTIONS, read_rows, spelled, words, written
 from tables import INTEGERS
@@ -106,7 +107,7 @@ class Program:
             raise Refused(ran.returncode, f"{len(types)} answers are written as {rows[:1]}")
         found = [[value_of(name, row[place]) for row in rows] for place, name in enumerate(types)]
         if ran.returncode == 1:
-            told = re.fullmatch(r"rowfn_stream: row (\d+): E7 (Arithmetic\.\w+)\n", ran.stderr)
+            told = re.fullmatch(r"rowfn_stream: row (\d+): (?:E7|E10 Custom:) (.*)\n", ran.stderr)
             if not told or int(told[1]) != len(rows) + 1:
                 raise Refused(ran.returncode, ran.stderr.strip())
             for column in found:
@@ -213,9 +214,10 @@ BEGIN
 END
 $body$;
 """
-# how the refusals of PostgreSQL are told apart, by its SQLSTATE: of a domain's CHECK, of a range, of a divisor
-OVERFLOW, ZERO = "overflow", "zero divisor"
-STATES = {"22003": OVERFLOW, "23514": OVERFLOW, "22012": ZERO}
+# how the refusals of PostgreSQL are told apart, by its SQLSTATE: of a domain's CHECK, of a range, of a divisor, of a text that is cast,
+# of a length; and those that functions.py raises, where faults here are none there
+STATES = {"22003": OVERFLOW, "23514": OVERFLOW, "22012": ZERO, "22P02": NO_VALUE, "22011": NEGATIVE,
+          "22023": FIELD, "YK006": SHIFT}
 
 
 class Postgresql:
@@ -373,7 +375,12 @@ class Sqlite:
             self.connection.executemany(f"INSERT INTO given VALUES ({signs})", [(place, *row) for place, row in enumerate(held)])
 
     def answers(self, texts, table):
-        """What each text answers in each row, as SQLite holds it."""
+        """What each text answers in each row, as SQLite holds it; None where one nests deeper than its parser goes."""
         self.fill(table)
-        rows = self.connection.execute(f"SELECT {', '.join(texts)} FROM given ORDER BY place").fetchall()
+        try:
+            rows = self.connection.execute(f"SELECT {', '.join(texts)} FROM given ORDER BY place").fetchall()
+        except sqlite3.OperationalError as error:
+            if str(error) != "parser stack overflow":
+                raise
+            return None
         return [list(column) for column in zip(*rows)]

@@ -3,17 +3,21 @@ differences."""
 from collections import Counter
 from dataclasses import dataclass
 
-from engines import NOT_ASKED, OVERFLOW, STATES, ZERO, Fault, Refused, value_of
+from engines import NOT_ASKED, STATES, Fault, Refused, value_of
+from functions import FIELD, FORMS, NEGATIVE, NO_VALUE, OVERFLOW, SHIFT, ZERO, fault_of, is_form
+from literals import is_unchanged
+from patterns import folds_past_ascii, has_lone_escape
 from rules import rule_that_drops
 from scripts import WAYS, line_names
-from spelling import STANDS_IN, Noisy, Plain, Text, is_in_sqlite, is_unchanged, postgresql, sqlite
+from spelling import STANDS_IN, Noisy, Plain, Text, is_in_sqlite, postgresql, sqlite
 from tables import INTEGERS
 from telling import Difference
-from trees import ARITHMETIC, LIKES
+from trees import ARITHMETIC
 
 # the counts, in the order of their output; errors and intended differences follow by kind
 COUNTED = ["expressions", "of those, asked of SQLite too", "of those, refused in some row",
-           "of those, without a text, of rowfn alone", "of those, told by --explain as rowfn shows them", "of those, rows picked by --where",
+           "of those, without a text, of rowfn alone", "of those, told by --explain as rowfn shows them",
+           "of those, told by --explain in a text that reads back", "of those, rows picked by --where",
            "of those, texts that PostgreSQL reads as they stand", "of these, without brackets",
            "rows answered: true", "rows answered: false", "rows answered: null", "rows answered: numbers and texts",
            "rows refused", "rows compared with rowfn", "rows compared with PostgreSQL", "rows compared with SQLite"]
@@ -29,7 +33,8 @@ class Case:
     def __post_init__(self):
         # for each row the calls that fault in PostgreSQL, if needed
         self.faults = []
-        self.calculations = [node for node in self.tree.nodes() if node.kind in ARITHMETIC]
+        self.calculations = [node for node in self.tree.nodes() if node.kind in ARITHMETIC or is_form(node) and FORMS[node.kind].faults]
+        self.has_lines = self.tree.has_lines()
         self.is_unchanged = is_unchanged(self.tree)
         self.is_in_sqlite = is_in_sqlite(self.tree)
 
@@ -65,9 +70,11 @@ def faults_in_sqlite(case, values, row):
     for node in case.calculations:
         if any(values[operand][row] is None for operand in node.operands):
             continue
-        value, (low, high) = values[node][row], INTEGERS[node.type]
+        value, (low, high) = values[node][row], INTEGERS.get(node.type, (0, 0))
         if value is None:
-            found.append((node, ZERO))
+            found.append((node, FORMS[node.kind].null_in_sqlite if is_form(node) else ZERO))
+        elif node.type not in INTEGERS:
+            continue
         elif isinstance(value, float) or not low <= value <= high:
             found.append((node, OVERFLOW))
     return first_ones(found)
@@ -77,47 +84,19 @@ def fault_names(case, table, faults):
     """The faults that a row may have in the tree that rules make: that of the first call that no rule drops, and those of the
     calls before it. If rules may drop all of them, the rules too, else None."""
     names, rules = [], []
-    for node, _ in faults:
-        names.append("Arithmetic." + ARITHMETIC[node.kind])
+    for node, why in faults:
+        names.append(fault_of(node, why))
         rules.append(rule_that_drops(case.tree, node, table))
         if rules[-1] is None:
             return names, None
     return names, rules
 
 
-def ends_with_escape(pattern, escape):
-    """Whether a pattern's last character is an escape that escapes nothing."""
-    place = 0
-    while place < len(pattern):
-        if pattern[place] == escape:
-            if place + 1 == len(pattern):
-                return True
-            place += 1
-        place += 1
-    return False
-
-
-def has_lone_escape(case, table, row):
-    """Whether in a row a LIKE's pattern ends with its escape: an error in PostgreSQL's own LIKE."""
-    for node in case.tree.nodes():
-        if node.kind in LIKES:
-            pattern = node.operands[1]
-            text = table.cell(pattern.value, row) if pattern.kind == "column" else pattern.value
-            escape = "\\" if node.value is None else node.value
-            if text and escape and ends_with_escape(text, escape):
-                return True
-    return False
-
-
-def folds_past_ascii(case, table, row):
-    """Whether in a row an ILIKE meets letters past ASCII that have a case."""
-    for node in case.tree.nodes():
-        if "ilike" in node.kind:
-            for leaf in node.operands:
-                text = table.cell(leaf.value, row) if leaf.kind == "column" else leaf.value
-                if any(letter > "\x7f" and letter.swapcase() != letter for letter in text or ""):
-                    return True
-    return False
+def faults_above(tree, faults):
+    """The names of the faults that a call may have above one that faults: where rules drop that one, it has a value there."""
+    calls = [node for node, _ in faults]
+    above = [node for node in tree.nodes() if any(one is call for one in node.nodes() for call in calls) and not any(node is call for call in calls)]
+    return {fault_of(node, why) for node in above for why in (OVERFLOW, ZERO, SHIFT, NO_VALUE, NEGATIVE, FIELD)} - {None}
 
 
 # -- running everyone ------------------------------------------------------------------------------
@@ -163,11 +142,33 @@ class Asker:
         def are_as_they_are(case):
             texts = [node.value for node in case.tree.nodes() if isinstance(node.value, str)]
             return all(text == text.translate(STANDS_IN) for text in texts)
+        called = [case for case in cases if not case.has_lines]
+        self.counts["of those, told by --explain in a text that reads back"] += len(called)
+        for begin in range(0, len(called), 25):
+            yield from self.read_otherwise(called[begin:begin + 25], table)
         if all(name == own for own, name in line_names(table).items()):
-            asked = [case for case in cases if are_as_they_are(case)]
+            asked = [case for case in cases if case.has_lines and are_as_they_are(case)]
             self.counts["of those, told by --explain as rowfn shows them"] += len(asked)
             for begin in range(0, len(asked), 25):
                 yield from self.told_otherwise(asked[begin:begin + 25], table)
+
+    def read_otherwise(self, part, table):
+        """The cases for which --explain tells another type, or a text that is read as another tree."""
+        try:
+            found = self.program.explained([case.text for case in part], table)
+            again = self.program.explained([told.text for told in found], table)
+        except Refused as refused:
+            if len(part) > 1:
+                for case in part:
+                    yield from self.read_otherwise([case], table)
+            else:
+                yield part[0], Difference(0, "its text as --explain tells it", str(refused), "")
+            return
+        for case, told, back in zip(part, found, again):
+            if {told.type.rstrip("?"), told.type_by_rules.rstrip("?")} != {case.tree.type}:
+                yield case, Difference(0, "--explain, of the type", (told.type, told.type_by_rules), case.tree.type)
+            if told != back:
+                yield case, Difference(0, "its text as --explain tells it", told, back)
 
     def told_otherwise(self, part, table):
         try:
@@ -243,8 +244,8 @@ class Asker:
         """The results of rowfn for each case, its tree as written and after rules: those without an
         error in PostgreSQL together; the others in these rows, in those where the program has
         dropped a fault, and in one or each of the rest."""
-        together, alone = self.parted(cases)
         found = {case.number: {way: [NOT_ASKED] * len(table.rows) for way in WAYS} for case in cases}
+        together, alone = self.parted([case for case in cases if case.has_lines])
         for part in together:
             got = self.ask_lines([case.tree for case in part], table, WAYS)
             for place, case in enumerate(part):
@@ -298,7 +299,7 @@ class Asker:
         """rowfn runs the tree as written: where a call fails in PostgreSQL, it has the fault of the
         first one, and elsewhere the program's value."""
         for row, (faults, one, other) in enumerate(zip(case.faults, ours, theirs)):
-            wanted = Fault("Arithmetic." + ARITHMETIC[faults[0][0].kind]) if faults else one
+            wanted = Fault(fault_of(*faults[0])) if faults else one
             if NOT_ASKED not in (wanted, other):
                 self.counts["rows compared with rowfn"] += 1
                 if other != wanted:
@@ -331,8 +332,11 @@ class Asker:
         """Whether a row in which calls fault may have this result: the fault of one, or, where rules drop each, any value, which
         `beside_rules` compares."""
         names, rules = fault_names(case, table, faults)
-        if any(why not in (OVERFLOW, ZERO) or why == ZERO and node.kind != "/" for node, why in faults):
+        if None in names:
             return False
+        if rules is not None and isinstance(answer, Fault) and answer.name not in names and answer.name in faults_above(case.tree, faults):
+            self.counts[f"on purpose: a fault of a call above one that rules drop, beside {whom}"] += 1
+            return True
         if is_value(answer):
             for rule in set(rules or []):
                 self.counts[f"on purpose: a fault, as {whom} has, that goes where {rule}"] += 1
@@ -340,8 +344,15 @@ class Asker:
         if answer.name in names[1:] and answer.name != names[0]:
             self.counts[f"on purpose: another fault than the first, which rules drop, beside {whom}"] += 1
         elif answer.name == names[0]:
-            self.counts[f"refused for {faults[0][1]} in {faults[0][0].kind}, as {whom} does"] += whom == "PostgreSQL"
+            self.counts[self.kind_of_fault(*faults[0])] += whom == "PostgreSQL"
         return answer.name in names
+
+    @staticmethod
+    def kind_of_fault(node, why):
+        """What is counted of a call that faults as PostgreSQL's does, or where PostgreSQL has a value, by a rule of functions.py."""
+        if why == SHIFT:
+            return f"on purpose: refused for {why} in {node.kind}"
+        return f"refused for {why} in {node.kind}, as PostgreSQL does"
 
     def is_same(self, case, table, row, answer, theirs, faults, as_it_stands):
         """Whether PostgreSQL has the same result in a row: for the unchanged text with its own LIKE
@@ -367,7 +378,11 @@ class Asker:
 
     def beside_sqlite(self, case, table, ours):
         nodes = dict.fromkeys([case.tree] + [one for node in case.calculations for one in (node, *node.operands)])
-        values = dict(zip(nodes, self.file.answers([sqlite(node) for node in nodes], table)))
+        found = self.file.answers([sqlite(node) for node in nodes], table)
+        if found is None:
+            self.counts["on purpose: nested deeper than SQLite's parser goes"] += 1
+            return
+        values = dict(zip(nodes, found))
         for row, answer in enumerate(ours):
             if answer is NOT_ASKED:
                 continue

@@ -45,16 +45,23 @@ class Library(Program):
         found = expression.run(self.columns(table, rows), rows)
         return [found.column(number).tolist() for number in range(len(found.answers))]
 
+    def fault_of(self, refusal):
+        """The name of a fault in a row, None for another error."""
+        if isinstance(refusal, self.module.ArithmeticRefusal):
+            return next((name for words, name in FAULTS.items() if refusal.message.endswith(words)), refusal.message)
+        # E10: which answer, and the fault's own words
+        return refusal.message.rpartition("): ")[2] if refusal.number == 10 else None
+
     def answers(self, texts, table, types):
         expression, rows = self.read(texts, table), len(table.rows)
         try:
             found = self.ran(expression, table, rows)
-        except self.module.ArithmeticRefusal as refusal:
-            name = next((name for words, name in FAULTS.items() if refusal.message.endswith(words)), refusal.message)
+        except self.module.Error as refusal:
+            name = self.fault_of(refusal)
+            if name is None:
+                raise Refused(1, f"rowfn_stream: {refusal.message}") from None
             after = [Fault(name)] + [NOT_ASKED] * (rows - refusal.row - 1)
             found = [column + after for column in self.ran(expression, table, refusal.row)]
-        except self.module.Error as refusal:
-            raise Refused(1, f"rowfn_stream: {refusal.message}") from None
         return [list(map(as_csv, column)) if name == "utf8" else column for name, column in zip(types, found)]
 
     def differ_in_picked(self, condition, true, other, values, table):

@@ -1,6 +1,7 @@
 """Which rule may drop a call that faults. docs/DEFINITIONS.md has the table of rules, `vortex_interface/specs/ReduceRules.antt` and
 `SimplifyRules.antt`, and what a rewrite keeps, `KeepsRows` of `vortex_rewriting/specs/Keeping.antt`: each value, and no fault that
 was not there. docs/DIFFERENCES.md says of `run` that a fault goes with a dropped call, and no value with it."""
+from functions import FORMS, is_form
 from trees import BETWEEN, COMPARISONS, JOINTS, TESTS
 
 DECIDED = "a constant decides and, or (reduce_boolean, simplify_boolean)"
@@ -20,7 +21,17 @@ def is_nullable(node, table):
         return table.column(node.value).nullable
     if node.kind == "literal":
         return node.value is None or node.form == "nullable"
+    if is_form(node):
+        return is_form_nullable(node, table)
     return node.kind == "cast" or node.kind not in TESTS and any(is_nullable(one, table) for one in node.operands)
+
+
+def is_form_nullable(node, table):
+    """Whether the type of a row of functions.py has null, by its `nulls`."""
+    nulls, parts = FORMS[node.kind].nulls, [is_nullable(one, table) for one in node.operands]
+    if nulls == "cases":
+        return any(parts) or len(parts) % 2 == (node.kind == "case of")
+    return {"any": any(parts), "all": all(parts), "never": False, "always": True}[nulls]
 
 
 def validity(node, table):
@@ -29,7 +40,7 @@ def validity(node, table):
         return True
     if node.kind == "literal":
         return node.value is not None
-    if node.kind in (*JOINTS, *BETWEEN, "cast", "column"):
+    if node.kind in (*JOINTS, *BETWEEN, "cast", "column") or is_form(node) and not FORMS[node.kind].is_strict:
         return UNKNOWN
     parts = [validity(one, table) for one in node.operands]
     return False if False in parts else UNKNOWN if UNKNOWN in parts else True
@@ -60,7 +71,7 @@ def is_dropped_by_test(node, call, table):
     if not is_nullable(node, table) or node is call:
         return True
     inner = next(one for one in node.operands if holds(one, call))
-    if node.kind in (*BETWEEN, "cast"):
+    if node.kind in (*BETWEEN, "cast") or is_form(node) and not FORMS[node.kind].is_strict:
         return False
     if node.kind in JOINTS:
         other = next(one for one in node.operands if one is not inner)
@@ -68,6 +79,15 @@ def is_dropped_by_test(node, call, table):
         if constant(other, table) is UNKNOWN and is_nullable(other, table) >= is_nullable(inner, table):
             return False
     return is_dropped_by_test(inner, call, table)
+
+
+def is_compared_with_null(node, part, table):
+    """Whether a part of a CASE with an operand stands in comparisons with the literal null alone: the operand is written out in each."""
+    first, *others = node.operands
+    values = others[:len(others) // 2 * 2:2]
+    if part is first:
+        return all(constant(one, table) is None for one in values)
+    return any(part is one for one in values) and constant(first, table) is None
 
 
 def rule_that_drops(tree, call, table):
@@ -80,7 +100,7 @@ def rule_that_drops(tree, call, table):
             return DECIDED
         if node.kind in TESTS and is_dropped_by_test(inner, call, table):
             return TESTED
-        if node.kind in COMPARISONS and others[0] is None:
+        if node.kind in COMPARISONS and others[0] is None or node.kind == "case of" and is_compared_with_null(node, inner, table):
             return NULL
         node = inner
     return None

@@ -1,45 +1,13 @@
 """How a tree is written: as people write expressions, as lines of a script, in PostgreSQL and in SQLite."""
 import re
 
+from functions import BARE, FORMS, POSTGRESQL_FUNCTIONS, SIGN, SQL_NAMES, WHOLE_IN_POSTGRESQL, is_form, spelling_of
+from literals import is_unchanged, literal_forms
 from tables import INTEGERS
 from trees import ARITHMETIC, BETWEEN, FOLDED, LEVEL, LIKES, OPERANDS, TESTS
 
-KEYWORDS = "and or not is null between like ilike escape true false cast as".split()
-BARE_LEVEL = 9
-
-
-def literal_types(kind, operands, forms):
-    """The types that the bare literals among these operands take; None for a null without a
-    type."""
-    def own(node):
-        return None if node.value is None else "i64" if node.type in INTEGERS else node.type
-    is_bare = [node.kind == "literal" and form == "bare" for node, form in zip(operands, forms)]
-    if kind in ("and", "or", "not", "cast"):
-        common = "bool"
-    elif kind in LIKES:
-        common = "utf8"
-    elif kind in TESTS:
-        common = None
-    else:
-        trees = [node.type for node, bare in zip(operands, is_bare) if not bare]
-        common = next(iter(trees + [name for name in map(own, operands) if name]), None)
-
-    def taken(node):
-        if node.value is None:
-            return common
-        return common if node.type in INTEGERS and common in INTEGERS else own(node)
-    return [taken(node) if bare else node.type for node, bare in zip(operands, is_bare)]
-
-
-def literal_forms(kind, operands):
-    """How each literal operand is written: in its form, and with its type if it would take
-    another."""
-    forms = [node.form for node in operands]
-    while True:
-        wrong = [place for place, (node, name) in enumerate(zip(operands, literal_types(kind, operands, forms))) if node.type != name]
-        if not wrong:
-            return forms
-        forms[wrong[0]] = "typed"
+KEYWORDS = "and or not is null between like ilike escape true false cast as unknown distinct from in case when then else end".split()
+ANY_CASE = {*KEYWORDS, "symmetric", "isnull", "notnull", *(name for names in SQL_NAMES.values() for name in names)}
 
 
 def quoted(text, quote):
@@ -60,6 +28,10 @@ class Plain:
 
     def unequal(self):
         return "<>"
+
+    def has(self, spelling):
+        """Whether another spelling is used: `gap` before a call's bracket, `==`, `isnull` and `notnull`."""
+        return False
 
     def between(self, left, right):
         return " "
@@ -83,8 +55,12 @@ class Noisy(Plain):
     def unequal(self):
         return self.rng.choice(("<>", "!="))
 
+    def has(self, spelling):
+        return self.rng.random() < 0.2
+
     def between(self, left, right):
-        gaps = [" "] * 24 + ["  ", "\t", "\n", "\r\n", " -- or so\n", " --' and (\r", "\n--\n"]
+        gaps = [" "] * 30 + ["  ", "\t", "\n", "\r\n", " -- or so\n", " --' and (\r", "\n--\n", " /* or */ ", " /* a /* 'b */ c) */ ", " /**/ "]
+        gaps += ["/**/", "/*/**/*/"] if re.search(r"\w$", left) else []
         touching = [""] * 12 if may_touch(left, right) else []
         return self.rng.choice(gaps + touching)
 
@@ -99,7 +75,14 @@ def may_touch(left, right):
     # PostgreSQL takes a name before a quote for the beginning of a literal of another kind, and `!=-` for one operator
     if re.search(word + "$", left) and right[0] in "\"'":
         return len(left) > 2
-    return not (right == "-" and left in ("-", "!="))
+    return not (right in ("-", "+", "~") and (left in ("-", "!=") or left[-1] in "%|&#~<>=+"))
+
+
+def level_of(node, form):
+    """The level of what is written for a node."""
+    if is_form(node):
+        return spelling_of(node).level
+    return BARE if node.kind == "literal" and form == "bare" else LEVEL[node.kind]
 
 
 class Text:
@@ -121,11 +104,12 @@ class Text:
         return "".join(joined)
 
     def say(self, *tokens):
-        self.tokens += [self.style.keyword(token) if token in KEYWORDS else token for token in tokens]
+        self.tokens += [self.style.keyword(token) if token in ANY_CASE or token[:1].isalpha() and token[-1] == "(" else token for token in tokens]
 
     def tree(self, node, form, level):
-        own = BARE_LEVEL if node.kind == "literal" and form == "bare" else LEVEL[node.kind]
-        grouped = own < level or self.style.is_grouped()
+        if node.kind == "meet":
+            return self.tree(node.operands[0], "", level)
+        grouped = level_of(node, form) < level or self.style.is_grouped()
         if grouped:
             self.say("(")
         self.spell(node, form)
@@ -137,8 +121,39 @@ class Text:
             self.tokens.append(self.name(node.value))
         elif node.kind == "literal":
             self.literal(node, form)
+        elif is_form(node):
+            self.form(node)
         else:
             self.call(node)
+
+    def form(self, node):
+        """A call by a row of functions.py."""
+        rest = list(zip(node.operands, literal_forms(node.kind, node.operands)))
+        for word in spelling_of(node).words.split():
+            if word == "%*":
+                self.listed(rest)
+            elif word == "%case":
+                self.cases(rest)
+            elif word[0] == "%" and word != "%":
+                operand, form = rest.pop(0)
+                # a minus sign before digits is the literal's
+                self.tree(operand, form, (SIGN if operand.kind != "literal" else BARE + 1) if word == "%sign" else int(word[1:]))
+            elif word[0].isalpha() and word[-1] == "(" and self.style.has("gap"):
+                self.say(word[:-1])
+                self.tokens.append("(")
+            else:
+                self.say(word)
+
+    def listed(self, rest):
+        for place, (operand, form) in enumerate(rest):
+            self.say(*[","] * (place > 0))
+            self.tree(operand, form, 0)
+
+    def cases(self, rest):
+        for place, (operand, form) in enumerate(rest):
+            is_last = place % 2 == 0 and place == len(rest) - 1
+            self.say("else" if is_last else ("when", "then")[place % 2])
+            self.tree(operand, form, 0)
 
     def name(self, name):
         is_word = re.fullmatch(r"[A-Za-z_][A-Za-z0-9_]*", name, re.ASCII) and name.lower() not in KEYWORDS
@@ -174,6 +189,10 @@ class Text:
             return self.tree(*first)
         self.tree(*first)
         words = (self.style.unequal(),) if node.kind == "<>" else node.kind.split(" ")
+        if node.kind in TESTS and self.style.has("isnull"):
+            words = ("isnull" if node.kind == "is null" else "notnull",)
+        elif node.kind == "=" and not self.are_names_small and self.style.has("=="):
+            words = ("==",)
         self.say(*words)
         for place, other in enumerate(others):
             if place:
@@ -182,39 +201,6 @@ class Text:
         if node.kind in LIKES and node.value is not None:
             self.say("escape")
             self.tokens.append(quoted(node.value, "'"))
-
-
-def is_unchanged(tree):
-    """Whether PostgreSQL reads a tree's text unchanged: over columns of the types i16, i32 and i64
-    under these names, where no word of a type has a question mark, there is no cast, and each
-    number has the size that PostgreSQL gives it."""
-    def literal(kind, operands, place, form):
-        node = operands[place]
-        if form == "nullable":
-            return False
-        if node.type not in INTEGERS or node.value is None:
-            return True
-        # a minus sign comes before a number of PostgreSQL, whatever type it has
-        if node.value == INTEGERS[node.type][0]:
-            return False
-        if form != "bare" or node.type == "i32":
-            return True
-        # a number of PostgreSQL is an integer, or a bigint where that does not hold it
-        beside = any(other.columns() for other in operands)
-        if node.type == "i64":
-            return beside or not 9 < abs(node.value) < 2 ** 31
-        return beside and kind not in ARITHMETIC
-
-    def node_is(kind, operands, place, form):
-        node = operands[place]
-        if node.kind == "literal":
-            return literal(kind, operands, place, form)
-        if node.kind == "cast" or node.kind in BETWEEN and node.value or node.kind in ARITHMETIC and node.type not in ("i16", "i32", "i64"):
-            return False
-        forms = literal_forms(node.kind, node.operands)
-        return all(node_is(node.kind, node.operands, one, forms[one]) for one in range(len(forms)))
-    forms = literal_forms("", (tree,)) if tree.kind == "literal" else ["bare"]
-    return node_is("", (tree,), 0, forms[0])
 
 
 # A text of a script has no quote and no end of a line. Other characters replace them, in columns
@@ -251,7 +237,6 @@ POSTGRESQL_TYPES = {
     "i8": "smallint", "i16": "smallint", "i32": "integer", "i64": "bigint",
     "u8": "smallint", "u16": "integer", "u32": "bigint", "u64": "numeric(20, 0)",
 }
-WHOLE_IN_POSTGRESQL = ("i16", "i32", "i64")
 
 
 def postgresql_domains():
@@ -267,6 +252,7 @@ def postgresql_domains():
     yield f"CREATE FUNCTION folded(text) RETURNS text LANGUAGE sql IMMUTABLE AS $$ SELECT lower(translate($1, '{others}', '{firsts}')) $$;"
     yield ("CREATE FUNCTION whole(text, text) RETURNS text LANGUAGE sql IMMUTABLE AS "
            "$$ SELECT CASE WHEN (length($1) - length(rtrim($1, $2))) % 2 = 1 THEN $1 || $2 ELSE $1 END $$;")
+    yield from POSTGRESQL_FUNCTIONS
 
 
 def whole(pattern, escape):
@@ -282,12 +268,14 @@ def sql_literal(value):
     return quoted(value, "'") if isinstance(value, str) else f"({value})"
 
 
-def sql(node, leaf, calculated, liked, cast):
-    """A tree in SQL with all brackets, from what an engine writes for leaves, arithmetic, LIKE and
-    casts."""
+def sql(node, leaf, calculated, liked, cast, called):
+    """A tree in SQL with all brackets, from what an engine writes for leaves, arithmetic, LIKE,
+    casts and functions."""
     if node.kind in ("column", "literal"):
         return leaf(node)
-    operands = [sql(operand, leaf, calculated, liked, cast) for operand in node.operands]
+    operands = [sql(operand, leaf, calculated, liked, cast, called) for operand in node.operands]
+    if is_form(node):
+        return called(node, *operands)
     if node.kind in ARITHMETIC:
         return calculated(node, *operands)
     if node.kind in LIKES:
@@ -322,13 +310,17 @@ def postgresql(node):
         if "ilike" not in node.kind:
             return f"({text} {word} whole({pattern}, {escape}) ESCAPE {escape})"
         return f"(folded({text}) {word} folded(like_escape(whole({pattern}, {escape}), {escape})))"
-    return sql(node, leaf, calculated, liked, lambda operand: f"({operand}::bool)")
+    return sql(node, leaf, calculated, liked, lambda operand: f"({operand}::bool)", lambda node, *operands: FORMS[node.kind].postgresql(node, *operands))
 
 
 def is_in_sqlite(tree):
     """Whether SQLite can run it: it has no integers past 63 bits, and no ILIKE whose escape is a
     letter."""
-    return all(node.type != "u64" and not ("ilike" in node.kind and (node.value or "").isalpha()) for node in tree.nodes())
+    def is_called(node):
+        form = FORMS[node.kind]
+        return form.sqlite is not None and form.sqlite(node, *("x" for _ in node.operands)) is not None
+    return all(node.type != "u64" and not ("ilike" in node.kind and (node.value or "").isalpha()) and (not is_form(node) or is_called(node))
+               for node in tree.nodes())
 
 
 def sqlite(node):
@@ -347,4 +339,4 @@ def sqlite(node):
         if "ilike" in node.kind:
             text, pattern = f"folded({text})", f"folded({pattern})"
         return f"({text} {word} {pattern}{escape})"
-    return sql(node, leaf, calculated, liked, lambda operand: operand)
+    return sql(node, leaf, calculated, liked, lambda operand: operand, lambda node, *operands: FORMS[node.kind].sqlite(node, *operands))

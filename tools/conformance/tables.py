@@ -34,11 +34,13 @@ class Layout:
 
 @dataclass
 class Table:
-    """pattern: the name of a column whose texts often are patterns. marks: the number of each row where the table was made."""
+    """pattern, digits: the names of columns whose texts often are patterns, and numbers. marks: the number of each row where the table
+    was made."""
     columns: list
     rows: list
     layout: Layout = Layout()
     pattern: str = "pattern"
+    digits: str = "digits"
     marks: list = None
 
     def __post_init__(self):
@@ -57,7 +59,7 @@ class Table:
         numbers = range(len(self.rows)) if places is None else places
         columns = [self.columns[place] if places is None else replace(self.columns[place], is_declared=True) for place in kept]
         rows = [tuple(self.rows[number][place] for place in kept) for number in numbers]
-        return Table(columns, rows, self.layout, self.pattern, [self.marks[number] for number in numbers])
+        return Table(columns, rows, self.layout, self.pattern, self.digits, [self.marks[number] for number in numbers])
 
 
 def field(value):
@@ -121,5 +123,5 @@ def with_shape(rng, columns, rows, shape):
         rows = [tuple(rng.choice(layout.nulls) if isinstance(value, str) and rng.random() < 0.05 else value for value in row)
                 for row in rows]
     shaped = [shaped_column(rng, column, place, [row[place] for row in rows], shape) for place, column in enumerate(columns)]
-    pattern = next(place for place, column in enumerate(columns) if column.name == "pattern")
-    return Table(shaped, rows, layout, shaped[pattern].name)
+    names = [column.name for column in columns]
+    return Table(shaped, rows, layout, *(shaped[names.index(name)].name for name in ("pattern", "digits")))

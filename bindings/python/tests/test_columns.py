@@ -153,11 +153,12 @@ class Expressions(unittest.TestCase):
         self.assertEqual(Expression("x and true", {"x": "bool"}).text_of_answer(0, optimized=True), "x")
 
     def test_columns_that_are_not_read_may_be_of_any_type(self):
-        others = {"f": np.array([1.5]), "o": [object()], "and": [1.5], "i64": [1.5], "7": [1.5], "bool": [1.5], "e": [1.5]}
+        others = {name: [1.5] for name in ("and", "i64", "7", "bool", "e", "end", "in", "length")} | {"f": np.array([1.5]), "o": [object()]}
         columns = {"a": [1], **others}
         self.assertEqual(evaluate("a", columns)["a"].tolist(), [1])
         self.assertEqual(evaluate("a + 7::i64 as f -- o", columns)["f"].tolist(), [8])
         self.assertEqual(evaluate("cast(a = 1 as bool?) AND a > 0 as -- f\n \"o\", 'o \"f\"' as e", columns)["o"].tolist(), [True])
+        self.assertEqual(evaluate("case when a in (1, 2) then length('ab') /* 'o /* f */ */ end as g", columns)["g"].tolist(), [2])
         self.assertEqual(select("a = 1 and true", columns).tolist(), [0])
         self.assertEqual(Expression("a", {"a": "i64", "f": "float64"}).columns, {"a": "i64"})
 
@@ -167,6 +168,7 @@ class Expressions(unittest.TestCase):
         answers = evaluate(text, columns)
         self.assertEqual([rows_of(answers[name])[0] for name in ("f", "g", "as", "e", "h")], [3, 12, 0, "--", 15])
         for end in ("\r", "\n", "\r\n"):
+            self.assertEqual(rows_of(evaluate(f"f /* 'a /* {end} \" */ 'b*/+ i64 + length('f') as f", columns)["f"]), [12])
             self.assertEqual(rows_of(evaluate(f"f -- 'and (\"{end}+ i64 -- - f{end} as --{end} f", columns)["f"]), [11])
 
     def test_an_expression_runs_over_many_batches_and_is_pickled(self):

@@ -16,10 +16,12 @@ from ._columns import Borrowed, borrow, column_of, fields_of, name_of, type_of, 
 from ._errors import Error, ExpressionError, Told, error_of
 from ._library import NAMES, Column, Handle, Type, lib, text_of
 
-# A token of an expression that can name a column, or hide one: a text, a comment, `::`, a word, a name in quotes. A comment ends
-# at a line feed or a carriage return.
-TOKEN = re.compile(r"""'[^']*'|(--[^\r\n]*)|(::)|(\w+)|"((?:[^"]|"")*)\"""", re.A)
-KEYWORDS = frozenset("and or not is null between like ilike escape true false cast as".split())
+# A token of an expression that can name a column, or hide one: a text, a comment, `::`, a word, with a bracket if it is a function's, a
+# name in quotes. A comment ends at a line feed or a carriage return, or where its brackets close, which nest.
+TOKEN = re.compile(r"""'[^']*'|(--[^\r\n]*|/\*)|(::)|(\w+\(?)|"((?:[^"]|"")*)\"""", re.A)
+BRACKET = re.compile(r"/\*|\*/")
+KEYWORDS = frozenset(
+    "and or not is null between like ilike escape true false cast as unknown distinct from in case when then else end".split())
 
 # Types for unknown columns, to see whether a text is wrong whatever their types are.
 STAND_INS = ("i64", "utf8", "bool")
@@ -92,18 +94,29 @@ def _each(text: str, columns: Any, make: Callable[[str], _Made]) -> tuple[dict[s
 def names_in(text: str) -> set[str]:
     """Returns each name that a text may read as a column: no keyword, no number, no type after
     `::`, no name after `as`."""
-    names, is_other = set(), False
-    for token in TOKEN.finditer(text):
+    names, is_other, place = set(), False, 0
+    while token := TOKEN.search(text, place):
         comment, colons, word, quoted = token.groups()
+        place = token.end() if comment != "/*" else _comment_end(text, token.start())
         if comment is not None:
             continue
         keyword = word.lower() if word else ""
         if not is_other and quoted is not None:
             names.add(quoted.replace('""', '"'))
-        elif not is_other and word and keyword not in KEYWORDS and not word[0].isdigit():
+        elif not is_other and word and keyword not in KEYWORDS and word[-1] != "(" and not word[0].isdigit():
             names.add(word)
         is_other = colons is not None or keyword == "as"
     return names
+
+
+def _comment_end(text: str, begin: int) -> int:
+    """Returns where a comment in brackets ends: behind the one that closes its first."""
+    depth = 0
+    for bracket in BRACKET.finditer(text, begin):
+        depth += 1 if bracket[0] == "/*" else -1
+        if depth == 0:
+            return bracket.end()
+    return len(text)
 
 
 def _names_of(columns: Any) -> list[str]:
