@@ -17,7 +17,9 @@ use Rattle.vortex_syntax.specs.Syntax.{Syntax, Tested, Arguments, Branches}
 use Rattle.vortex_syntax.specs.Levels.{Fits, AllFit, BranchesFit, is_operand}
 use Rattle.vortex_syntax.specs.Spelling.{spelling, all_spelled, operator_sign, type_token, with_not}
 use Rattle.vortex_syntax.specs.Spelling.{is_tokens, test_token, test_tokens, null_test_sign}
-use Rattle.vortex_syntax.specs.Spelling.{distinct_tokens, function_tokens}
+use Rattle.vortex_syntax.specs.Spelling.{distinct_tokens, function_tokens, between_tokens, cast_sign}
+use Rattle.vortex_syntax.specs.declared.step.BetweenKind.{BetweenKind}
+use Rattle.std.proofs.Common.{cond}
 use Rattle.vortex_syntax.specs.Spelling.{in_tokens, like_sign, escape_tokens, branches_spelled}
 use Rattle.vortex_syntax.specs.AnswerLists.{Answer, is_name, name_tokens, SpellsAnswer}
 use Rattle.vortex_syntax.specs.AnswerParts.{is_comma, depth_behind, ends_answer, parts_from}
@@ -123,11 +125,24 @@ distinct_stays n d =
     (first d d (sign sign.Distinct) (sign sign.From ∷ []) refl
     (first d d (sign sign.From) [] refl (passes_none d)))
 
-between_stays : (n : Bool) → Stays (with_not n sign.Between)
-between_stays true d =
+cast_stays : (p : Bool) → Stays (sign (cast_sign p) ∷ [])
+cast_stays true d = first d d (sign sign.TryCast) [] refl (passes_none d)
+cast_stays false d = first d d (sign sign.Cast) [] refl (passes_none d)
+
+symmetric_stays : (s : Bool) → Stays (cond s (sign sign.Symmetric ∷ []) [])
+symmetric_stays true d = first d d (sign sign.Symmetric) [] refl (passes_none d)
+symmetric_stays false d = passes_none d
+
+plain_stays : (n : Bool) → Stays (with_not n sign.Between)
+plain_stays true d =
     first d d (sign sign.Not) (sign sign.Between ∷ []) refl
     (first d d (sign sign.Between) [] refl (passes_none d))
-between_stays false d = first d d (sign sign.Between) [] refl (passes_none d)
+plain_stays false d = first d d (sign sign.Between) [] refl (passes_none d)
+
+between_stays : (k : BetweenKind) → Stays (between_tokens k)
+between_stays k d =
+    both d d d (with_not k.negated sign.Between) (cond k.symmetric (sign sign.Symmetric ∷ []) [])
+    (plain_stays k.negated d) (symmetric_stays k.symmetric d)
 
 like_stays : (n i : Bool)
     → Stays (like_sign (record { negated = n; case_insensitive = i }))
@@ -205,12 +220,12 @@ mutual
   tree_stays (tree.distinct n a b) f d =
       both d d d (spelling a) (distinct_tokens n ++ spelling b) (tree_stays a f.2 d)
       (both d d d (distinct_tokens n) (spelling b) (distinct_stays n d) (tree_stays b f.3 d))
-  tree_stays (tree.between n a b c) f d =
+  tree_stays (tree.between k a b c) f d =
       both d d d (spelling a)
-      (with_not n sign.Between ++ (spelling b ++ (sign sign.And ∷ spelling c)))
+      (between_tokens k ++ (spelling b ++ (sign sign.And ∷ spelling c)))
       (tree_stays a f.3 d)
-      (both d d d (with_not n sign.Between) (spelling b ++ (sign sign.And ∷ spelling c))
-      (between_stays n d)
+      (both d d d (between_tokens k) (spelling b ++ (sign sign.And ∷ spelling c))
+      (between_stays k d)
       (both d d d (spelling b) (sign sign.And ∷ spelling c) (tree_stays b f.4 d)
       (first d d (sign sign.And) (spelling c) refl (tree_stays c f.5 d))))
   tree_stays (tree.matched k a p e) f d =
@@ -224,9 +239,13 @@ mutual
       (both d (suc d) d (in_tokens n) (all_spelled args ++ end) (in_opens n d)
       (both (suc d) (suc d) d (all_spelled args) end (all_stay args f.2 d)
       (last (suc d) (suc d) (spelling b) (sign sign.Close) (tree_stays b f.3 (suc d)) refl)))
-  tree_stays (tree.cast a w n) f d =
+  tree_stays (tree.converted a w n) f d =
+      both d d d (spelling a) (sign sign.Typed ∷ type_token w n ∷ []) (tree_stays a f.2 d)
+      (first d d (sign sign.Typed) (type_token w n ∷ []) refl
+      (type_first d d w n [] (passes_none d)))
+  tree_stays (tree.cast p a w n) f d =
       let last : List Token = sign sign.As ∷ type_token w n ∷ sign sign.Close ∷ [] in
-      first d d (sign sign.Cast) (sign sign.Open ∷ (spelling a ++ last)) refl
+      both d d d (sign (cast_sign p) ∷ []) (sign sign.Open ∷ (spelling a ++ last)) (cast_stays p d)
       (first d d (sign sign.Open) (spelling a ++ last) refl
       (both (suc d) (suc d) d (spelling a) last (tree_stays a f (suc d))
       (first (suc d) d (sign sign.As) (type_token w n ∷ sign sign.Close ∷ []) refl

@@ -1,5 +1,6 @@
 -- A tree's tokens do not end with `as` and a token.
-use Rattle.std.proofs.Common.{◌≡◌, ◌++◌, ◌∷◌, [], List, Option, Some, None, refl, ap, sym, subst}
+use Rattle.std.proofs.Common.{◌≡◌, ◌++◌, ◌∷◌, [], Bool, List, Option, Some, None, refl, ap, sym}
+use Rattle.std.proofs.Common.{subst}
 use Rattle.std.specs.Option.{option_and_then}
 use Rattle.vortex_syntax.specs.declared.token.Sign.TheVariants as sign
 use Rattle.vortex_syntax.specs.Frames.{Frame}
@@ -25,12 +26,12 @@ mode_of None = mode.Want
 mode_of (Some s) = s.mode
 
 cast_behind : (fs : List Frame) (out : List Step) (r : State) → as_behind fs out ≡ Some r
-    → r.mode ≡ mode.CastType
-cast_behind (frame.Cast ∷ fs) out r e = sym (ap mode_of e)
+    → (p : Bool) × (r.mode ≡ mode.CastType p)
+cast_behind (frame.Cast p ∷ fs) out r e = (p, sym (ap mode_of e))
 cast_behind fs out r e = absurd cc
 
 as_next : (m : Mode) (fs : List Frame) (out : List Step) (r : State)
-    → next m fs out (sign sign.As) ≡ Some r → r.mode ≡ mode.CastType
+    → next m fs out (sign sign.As) ≡ Some r → (p : Bool) × (r.mode ≡ mode.CastType p)
 unfolding next word_after predicate
 as_next (mode.Have l) fs out r e =
     cast_behind (settled 0 l fs out).frames (settled 0 l fs out).steps r e
@@ -38,11 +39,11 @@ as_next mode.Named fs out r e =
     cast_behind (settled 0 atom_level fs out).frames (settled 0 atom_level fs out).steps r e
 as_next m fs out r e = absurd cc
 
-type_next : (t : Token) (fs : List Frame) (out : List Step) (r : State)
-    → cast_expected fs out t ≡ Some r → r.mode ≡ mode.CastEnd
-type_next (name w) fs out r e = sym (ap mode_of e)
-type_next (nullable w) fs out r e = sym (ap mode_of e)
-type_next t fs out r e = absurd cc
+type_next : (p : Bool) (t : Token) (fs : List Frame) (out : List Step) (r : State)
+    → cast_expected p fs out t ≡ Some r → r.mode ≡ mode.CastEnd
+type_next p (name w) fs out r e = sym (ap mode_of e)
+type_next p (nullable w) fs out r e = sym (ap mode_of e)
+type_next p t fs out r e = absurd cc
 
 no_end : (m : Mode) (fs : List Frame) (out xs : List Step) → m ≡ mode.CastEnd
     → finish m fs out ≡ Some xs → ⊥
@@ -56,10 +57,10 @@ unfolding run next
 no_name [] s n xs e =
     let r = ran (next s.mode s.frames s.steps (sign sign.As)) (n ∷ []) xs e in
     let q = ran (next r.0.mode r.0.frames r.0.steps n) [] xs r.2 in
-    let h : next mode.CastType r.0.frames r.0.steps n ≡ Some q.0 =
-    subst (λ (m : Mode). next m r.0.frames r.0.steps n ≡ Some q.0)
-    (as_next s.mode s.frames s.steps r.0 r.1) q.1 in
-    no_end q.0.mode q.0.frames q.0.steps xs (type_next n r.0.frames r.0.steps q.0 h) q.2
+    let a = as_next s.mode s.frames s.steps r.0 r.1 in
+    let h : next (mode.CastType a.0) r.0.frames r.0.steps n ≡ Some q.0 =
+    subst (λ (m : Mode). next m r.0.frames r.0.steps n ≡ Some q.0) a.1 q.1 in
+    no_end q.0.mode q.0.frames q.0.steps xs (type_next a.0 n r.0.frames r.0.steps q.0 h) q.2
 no_name (t ∷ us) s n xs e = let r =
     ran (next s.mode s.frames s.steps t) (us ++ (sign sign.As ∷ n ∷ [])) xs e in
     no_name us r.0 n xs r.2

@@ -3,6 +3,7 @@ use Rattle.std.proofs.Common.{◌≡◌, ℕ, ◌≤◌, Bool, true, false, nat_
 use Rattle.std.proofs.Common.{◌++◌, Some, None, refl, ap, sym, subst, ◌∙◌, append_assoc, arith}
 use Rattle.std.proofs.lemmas.List.{append-nil}
 use Rattle.std.proofs.lemmas.Bool.Decides.{nat_tests}
+use Rattle.vortex_syntax.specs.declared.step.BetweenKind.{BetweenKind}
 use Rattle.vortex_syntax.specs.declared.step.LikeKind.{LikeKind}
 use Rattle.vortex_syntax.specs.declared.token.Sign.TheVariants as sign
 use Rattle.vortex_syntax.specs.Frames.{Frame, top_hole, top_ceiling, whole}
@@ -12,7 +13,8 @@ use Rattle.vortex_syntax.specs.declared.frame.Mode.TheVariants as mode
 use Rattle.vortex_syntax.specs.Tokens.{Token, name, sign}
 use Rattle.vortex_syntax.specs.Syntax.{Syntax, Arguments}
 use Rattle.vortex_syntax.specs.Levels.{level, Fits, distinct_level, is_level, predicate_level}
-use Rattle.vortex_syntax.specs.Levels.{concat_level, literal_level}
+use Rattle.vortex_syntax.specs.Levels.{concat_level, atom_level, typed_level, literal_level}
+use Rattle.vortex_syntax.specs.Spelling.{cast_sign}
 use Rattle.vortex_syntax.specs.Spelling.{spelling, type_token, with_not, is_tokens, like_sign}
 use Rattle.vortex_syntax.specs.Postfix.{Step, operand, cast, argument_count, postfix}
 use Rattle.vortex_syntax.specs.Reading.{State, Operand, settled}
@@ -123,16 +125,20 @@ pub open_is : (h : Held) → frame.Open ≡ frame_of h → h ≡ opened
 open_is opened e = refl
 open_is h e = absurd cc
 
-pub cast_is : (h : Held) → frame.Cast ≡ frame_of h → h ≡ casting
-cast_is casting e = refl
-cast_is h e = absurd cc
+pub cast_mark : (p q : Bool) → frame.Cast p ≡ frame.Cast q → p ≡ q
+cast_mark p q e = cc
 
-pub lower_mark : (n m : Bool) → frame.Between n ≡ frame.Between m → n ≡ m
-lower_mark n m e = cc
+pub cast_is : (p : Bool) (h : Held) → frame.Cast p ≡ frame_of h → h ≡ casting p
+cast_is p (casting q) e = ap casting (sym (cast_mark p q e))
+cast_is p h e = absurd cc
 
-pub lower_is : (n : Bool) (h : Held) → frame.Between n ≡ frame_of h → (a : Syntax) × (h ≡ lower n a)
-lower_is n (lower m a) e = (a, ap (λ v. lower v a) (sym (lower_mark n m e)))
-lower_is n h e = absurd cc
+pub lower_mark : (k j : BetweenKind) → frame.Between k ≡ frame.Between j → k ≡ j
+lower_mark k j e = cc
+
+pub lower_is : (k : BetweenKind) (h : Held) → frame.Between k ≡ frame_of h
+    → (a : Syntax) × (h ≡ lower k a)
+lower_is k (lower j a) e = (a, ap (λ v. lower v a) (sym (lower_mark k j e)))
+lower_is k h e = absurd cc
 
 pub like_mark : (k j : LikeKind) → frame.Like k ≡ frame.Like j → k ≡ j
 like_mark k j e = cc
@@ -228,6 +234,8 @@ Holds mode.Named fs out before =
     (w : List ℕ) × Behind fs out before (operand (name w) ∷ []) (name w ∷ [])
 Holds mode.Typing fs out before = (l : ℕ) × HasOperand l fs out before (sign sign.Typed ∷ [])
     × (literal_level ≤ l)
+Holds (mode.Converting l) fs out before =
+    HasOperand l fs out before (sign sign.Typed ∷ []) × (atom_level ≤ l) × (l ≤ typed_level)
 Holds (mode.Is n) fs out before =
     (l : ℕ) × HasOperand l fs out before (is_tokens n) × (is_level ≤ l) × (top_hole fs ≤ is_level)
 Holds (mode.Distinct n) fs out before =
@@ -239,14 +247,14 @@ Holds (mode.Listing n) fs out before =
 Holds (mode.Negating l) fs out before =
     HasOperand l fs out before (sign sign.Not ∷ []) × (concat_level ≤ l)
     × (top_hole fs ≤ predicate_level)
-Holds mode.Casting fs out before = Behind fs out before [] (sign sign.Cast ∷ [])
-Holds mode.CastType fs out before =
+Holds (mode.Casting p) fs out before = Behind fs out before [] (sign (cast_sign p) ∷ [])
+Holds (mode.CastType p) fs out before =
     (a : Syntax) × Fits a × Behind fs out before (postfix a)
-    (sign sign.Cast ∷ sign sign.Open ∷ (spelling a ++ (sign sign.As ∷ [])))
+    (sign (cast_sign p) ∷ sign sign.Open ∷ (spelling a ++ (sign sign.As ∷ [])))
 Holds mode.CastEnd fs out before =
-    (a : Syntax) × (w : List ℕ) × (n : Bool) × Fits a
-    × Behind fs out before (postfix a ++ (cast w n ∷ []))
-    (sign sign.Cast ∷ sign sign.Open ∷ (spelling a ++ (sign sign.As ∷ type_token w n ∷ [])))
+    (a : Syntax) × (w : List ℕ) × (n : Bool) × (p : Bool) × Fits a
+    × Behind fs out before (postfix a ++ (cast p w n ∷ []))
+    (sign (cast_sign p) ∷ sign sign.Open ∷ (spelling a ++ (sign sign.As ∷ type_token w n ∷ [])))
 Holds (mode.Escaping k) fs out before =
     (a : Syntax) × (p : Syntax) × (concat_level ≤ level a) × (concat_level ≤ level p) × Fits a
     × Fits p

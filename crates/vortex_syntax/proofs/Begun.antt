@@ -10,6 +10,9 @@ use Rattle.vortex_syntax.specs.Tokens.{Token, name, text, sign}
 use Rattle.vortex_syntax.specs.Syntax as tree
 use Rattle.vortex_syntax.specs.Syntax.{Syntax}
 use Rattle.vortex_syntax.specs.Levels.{level, Fits, is_level, concat_level, literal_level}
+use Rattle.vortex_syntax.specs.Levels.{atom_level, typed_level}
+use Rattle.vortex_syntax.specs.Spelling.{cast_sign, between_tokens}
+use Rattle.vortex_syntax.specs.Reading.{between_kind}
 use Rattle.vortex_syntax.specs.Spelling.{spelling, all_spelled, with_not, is_tokens, like_sign}
 use Rattle.vortex_syntax.specs.Spelling.{type_token, in_tokens, branches_spelled, function_tokens}
 use Rattle.vortex_syntax.specs.Postfix as step
@@ -77,8 +80,8 @@ filled opened e s f le under = record {
   more = sign sign.Close ∷ [];
   tokens = refl;
 }
-filled casting e s f le under = record {
-  tree = tree.cast e column false;
+filled (casting p) e s f le under = record {
+  tree = tree.cast p e column false;
   fits = f;
   level = refl;
   more = sign sign.As ∷ name column ∷ sign sign.Close ∷ [];
@@ -97,7 +100,7 @@ filled (lower n a) e s f le under = record {
   fits = (s.0, le, le, s.1, f, f);
   level = refl;
   more = sign sign.And ∷ spelling e;
-  tokens = bounded (spelling a) (with_not n sign.Between) (spelling e) (sign sign.And ∷ [])
+  tokens = bounded (spelling a) (between_tokens n) (spelling e) (sign sign.And ∷ [])
       (spelling e);
 }
 filled (upper n a b) e s f le under =
@@ -235,6 +238,16 @@ holds_begins mode.Typing fs out before h =
     (name column ∷ []) (subst (λ (m : ℕ). literal_level ≤ m) a.level h.2, a.fits)
     (omega (arith, top_atom fs)) (omega (arith, h.2, a.under))
     (append_assoc (spelling a.tree) (sign sign.Typed ∷ []) (name column ∷ []))
+holds_begins (mode.Converting l) fs out before h =
+    let a = h.0 in
+    operand_begun l fs out before (sign sign.Typed ∷ []) a (tree.converted a.tree column false)
+    (name column ∷ []) (
+      subst (λ (m : ℕ). atom_level ≤ m) a.level h.1,
+      subst (λ (m : ℕ). m ≤ typed_level) a.level h.2,
+      a.fits,
+    ) (subst (λ (m : ℕ). top_hole fs ≤ m) a.level a.place)
+    (subst (λ (m : ℕ). m ≤ top_ceiling fs) a.level a.under)
+    (append_assoc (spelling a.tree) (sign sign.Typed ∷ []) (name column ∷ []))
 holds_begins (mode.Is n) fs out before h =
     let a = h.1 in
     operand_begun h.0 fs out before (is_tokens n) a (tree.tested tree.Null n a.tree)
@@ -262,30 +275,31 @@ holds_begins (mode.Listing n) fs out before h =
 holds_begins (mode.Negating l) fs out before h =
     let a = h.0 in
     let e : Syntax = tree.operand (name column) in
-    operand_begun l fs out before (sign sign.Not ∷ []) a (tree.between true a.tree e e)
+    operand_begun l fs out before (sign sign.Not ∷ []) a (tree.between (between_kind true false) a.tree e e)
     (sign sign.Between ∷ name column ∷ sign sign.And ∷ name column ∷ [])
     (subst (λ (m : ℕ). concat_level ≤ m) a.level h.1, lit≤ tt, lit≤ tt, a.fits, refl, refl) h.2
     (omega (arith, atom_ceiling fs))
     (append_assoc (spelling a.tree) (sign sign.Not ∷ [])
     (sign sign.Between ∷ name column ∷ sign sign.And ∷ name column ∷ []))
-holds_begins mode.Casting fs out before h =
-    begun_by fs out before [] (sign sign.Cast ∷ []) h
-    (tree.cast (tree.operand (name column)) column false)
+holds_begins (mode.Casting p) fs out before h =
+    begun_by fs out before [] (sign (cast_sign p) ∷ []) h
+    (tree.cast p (tree.operand (name column)) column false)
     (sign sign.Open ∷ name column ∷ sign sign.As ∷ name column ∷ sign sign.Close ∷ []) refl
     (top_atom fs) (atom_ceiling fs) refl
-holds_begins mode.CastType fs out before h =
+holds_begins (mode.CastType p) fs out before h =
     begun_by fs out before (postfix h.0)
-    (sign sign.Cast ∷ sign sign.Open ∷ (spelling h.0 ++ (sign sign.As ∷ []))) h.2
-    (tree.cast h.0 column false) (name column ∷ sign sign.Close ∷ []) h.1 (top_atom fs)
+    (sign (cast_sign p) ∷ sign sign.Open ∷ (spelling h.0 ++ (sign sign.As ∷ []))) h.2
+    (tree.cast p h.0 column false) (name column ∷ sign sign.Close ∷ []) h.1 (top_atom fs)
     (atom_ceiling fs)
-    (ap (λ ts. sign sign.Cast ∷ sign sign.Open ∷ ts)
+    (ap (λ ts. sign (cast_sign p) ∷ sign sign.Open ∷ ts)
     (append_assoc (spelling h.0) (sign sign.As ∷ []) (name column ∷ sign sign.Close ∷ [])))
 holds_begins mode.CastEnd fs out before h =
     begun_by fs out before _
-    (sign sign.Cast ∷ sign sign.Open ∷ (spelling h.0 ++ (sign sign.As ∷ type_token h.1 h.2 ∷ [])))
-    h.4 (tree.cast h.0 h.1 h.2) (sign sign.Close ∷ []) h.3 (top_atom fs)
+    (sign (cast_sign h.3) ∷ sign
+    sign.Open ∷ (spelling h.0 ++ (sign sign.As ∷ type_token h.1 h.2 ∷ [])))
+    h.5 (tree.cast h.3 h.0 h.1 h.2) (sign sign.Close ∷ []) h.4 (top_atom fs)
     (atom_ceiling fs)
-    (ap (λ ts. sign sign.Cast ∷ sign sign.Open ∷ ts)
+    (ap (λ ts. sign (cast_sign h.3) ∷ sign sign.Open ∷ ts)
     (append_assoc (spelling h.0) (sign sign.As ∷ type_token h.1 h.2 ∷ []) (sign sign.Close ∷ [])))
 holds_begins (mode.Escaping k) fs out before h =
     begun_by fs out before (postfix h.0 ++ postfix h.1)

@@ -95,7 +95,7 @@ sign_closes l f fs out sign.NotNull ts h =
     ap (λ a. ran ts (specs.null_test_behind true a.level a.frames a.steps))
     (settled_one is_level l f fs out h)
 sign_closes l f fs out sign.Between ts h =
-    predicate_closes (frame.Between false) l f fs out ts h
+    predicate_closes (frame.Between (specs.between_kind false false)) l f fs out ts h
 sign_closes l f fs out sign.Like ts h =
     predicate_closes (frame.Like (specs.like_kind false false)) l f fs out ts h
 sign_closes l f fs out sign.Ilike ts h =

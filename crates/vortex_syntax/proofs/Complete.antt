@@ -1,5 +1,5 @@
 -- The spelling of a tree is read as its steps.
-use Rattle.std.proofs.Common.{◌≡◌, ℕ, suc, ◌<◌, ◌≤◌, Bool, true, false, List, [], ◌∷◌, ◌++◌, Option}
+use Rattle.std.proofs.Common.{◌≡◌, ℕ, ◌<◌, ◌≤◌, Bool, true, false, List, [], ◌∷◌, ◌++◌, Option}
 use Rattle.std.proofs.Common.{Some, None, refl, ap, sym, ◌∙◌, append_assoc, arith, lit<, lit≤}
 use Rattle.std.proofs.lemmas.List.{append-nil}
 use Rattle.vortex_syntax.specs.declared.step.WrittenOperator.{WrittenOperator}
@@ -17,15 +17,17 @@ use Rattle.vortex_syntax.specs.Levels.{sign_level, typed_level, own, left, right
 use Rattle.vortex_syntax.specs.Levels.{AllFit, BranchesFit, is_operand, not_level, distinct_level}
 use Rattle.vortex_syntax.specs.Levels.{is_level, comparison_level, predicate_level, concat_level}
 use Rattle.vortex_syntax.specs.Levels.{bit_not_level, atom_level, literal_level, IsTested}
-use Rattle.vortex_syntax.specs.Spelling.{spelling, all_spelled, operator_sign, type_token, with_not}
-use Rattle.vortex_syntax.specs.Spelling.{test_tokens, distinct_tokens, in_tokens, like_sign}
-use Rattle.vortex_syntax.specs.Spelling.{escape_tokens, null_test_sign, function_tokens}
-use Rattle.vortex_syntax.specs.Postfix.{Step, typed, cast, applied, listed, called, like_step}
-use Rattle.vortex_syntax.specs.Postfix.{argument_count, postfix, all_postfix, test_of}
+use Rattle.vortex_syntax.specs.Spelling.{spelling, operator_sign, type_token}
+use Rattle.vortex_syntax.specs.Spelling.{test_tokens, distinct_tokens, like_sign}
+use Rattle.vortex_syntax.specs.Spelling.{between_tokens, cast_sign}
+use Rattle.vortex_syntax.specs.declared.step.BetweenKind.{BetweenKind}
+use Rattle.vortex_syntax.proofs.StepsRead.{step_converted}
+use Rattle.vortex_syntax.specs.Spelling.{escape_tokens, null_test_sign}
+use Rattle.vortex_syntax.specs.Postfix.{Step, typed, cast, called, like_step}
+use Rattle.vortex_syntax.specs.Postfix.{postfix, test_of}
 use Rattle.vortex_syntax.specs.Reading as specs
 use Rattle.vortex_syntax.specs.Reading.{next, settled, finish, run, steps_of}
 use Rattle.vortex_syntax.proofs.Tables.{not_eight, not_eleven, own_product, level_literal}
-use Rattle.vortex_syntax.proofs.Tables.{ceiling_below}
 use Rattle.vortex_syntax.proofs.Tables.{typed_ceiling, top_atom, own_left, own_right, tight}
 use Rattle.vortex_syntax.proofs.Tables.{reach_of, reach, not_two}
 use Rattle.vortex_syntax.proofs.Closes.{want, have, closed, closes, IsRead}
@@ -35,10 +37,12 @@ use Rattle.vortex_syntax.proofs.CaseRead.{read_branch, read_chosen, read_chosen_
 use Rattle.vortex_syntax.proofs.StepsRead.{step_join, step_between, step_like, step_bound}
 use Rattle.vortex_syntax.proofs.StepsRead.{step_test, step_distinct, step_close, step_typed}
 use Rattle.vortex_syntax.proofs.StepsRead.{step_cast, step_escape, step_operand, step_negative}
-use Rattle.vortex_syntax.proofs.StepsRead.{step_not, step_open, step_cast_open, step_function}
-use Rattle.vortex_syntax.proofs.StepsRead.{step_nullary, step_comma, step_applied, step_in}
-use Rattle.vortex_syntax.proofs.StepsRead.{step_item, step_listed, step_plus, step_bit_not}
+use Rattle.vortex_syntax.proofs.StepsRead.{step_not, step_open, step_cast_open}
+use Rattle.vortex_syntax.proofs.StepsRead.{step_plus, step_bit_not}
 use Rattle.vortex_syntax.proofs.StepsRead.{step_null_test}
+use Rattle.vortex_syntax.proofs.ArgumentsRead.{beneath, AreRead, read_no_arguments, read_argument}
+use Rattle.vortex_syntax.proofs.ArgumentsRead.{read_nullary, read_applied, read_listed}
+use Rattle.vortex_syntax.proofs.ArgumentsRead.{regrouped_2, regrouped_3, regrouped_4}
 
 waits_closed : (l : ℕ) (f : Frame) (fs : List Frame) (out : List Step) (rest : List Token)
     → 0 < guard f → reach rest ≤ whole f
@@ -46,17 +50,6 @@ waits_closed : (l : ℕ) (f : Frame) (fs : List Frame) (out : List Step) (rest :
 waits_closed l f fs out rest h k =
     closes l f fs out rest
     (tight f (reach rest) h k (not_two rest) (not_eight rest) (not_eleven rest))
-
-regrouped_2 : (out a : List Step) (x : Step) → (out ++ a) ++ (x ∷ []) ≡ out ++ (a ++ (x ∷ []))
-regrouped_2 out a x = append_assoc out a (x ∷ [])
-
-regrouped_3 : (out a b : List Step) (x : Step)
-    → ((out ++ a) ++ b) ++ (x ∷ []) ≡ out ++ (a ++ (b ++ (x ∷ [])))
-regrouped_3 out a b x = simp append_assoc
-
-regrouped_4 : (out a b c : List Step) (x : Step)
-    → (((out ++ a) ++ b) ++ c) ++ (x ∷ []) ≡ out ++ (a ++ (b ++ (c ++ (x ∷ []))))
-regrouped_4 out a b c x = simp append_assoc
 
 reach_operator : (o : WrittenOperator) → reach_of (operator_sign o) ≡ own o
 reach_operator operator.Or = refl
@@ -78,11 +71,6 @@ reach_operator operator.BitOr = refl
 reach_operator operator.BitXor = refl
 reach_operator operator.ShiftLeft = refl
 reach_operator operator.ShiftRight = refl
-
--- any tree may come where a frame looser than a minus sign waits
-beneath : (a : Syntax) (fs : List Frame) (n : ℕ) → top_hole fs ≤ n → n < sign_level
-    → level a ≤ top_ceiling fs
-beneath a fs n h k = omega (arith, level_literal a, ceiling_below fs n h k)
 
 read_joined : (o : WrittenOperator) (a b : Syntax) → left o ≤ level a → right o ≤ level b
     → IsRead a → IsRead b → IsRead (tree.joined o a b)
@@ -116,6 +104,15 @@ read_typed a w n h ia = λ fs out rest top under end.
     (omega (arith, level_literal a, typed_ceiling fs under)) (omega (arith, h))
     ∙ step_typed (level a) fs (out ++ postfix a) w n rest h
     ∙ ap (λ xs. have typed_level fs xs rest) (regrouped_2 out (postfix a) (typed w n))
+
+read_converted : (a : Syntax) (w : List ℕ) (n : Bool) → atom_level ≤ level a
+    → level a ≤ typed_level → IsRead a → IsRead (tree.converted a w n)
+read_converted a w n h k ia = λ fs out rest top under end.
+    let ts : List Token = sign sign.Typed ∷ type_token w n ∷ rest in
+    ap (want fs out) (append_assoc (spelling a) (sign sign.Typed ∷ type_token w n ∷ []) rest)
+    ∙ ia fs out ts top under (omega (arith, h))
+    ∙ step_converted (level a) fs (out ++ postfix a) w n rest h k
+    ∙ ap (λ xs. have (level a) fs xs rest) (regrouped_2 out (postfix a) (cast false w n))
 
 read_minus : (a : Syntax) → sign_level ≤ level a → level a ≤ atom_level → IsRead a
     → IsRead (tree.minus a)
@@ -208,36 +205,37 @@ read_distinct n a b h k ia ib = λ fs out rest top under end.
     ∙ ap (λ xs. have distinct_level fs xs rest)
     (regrouped_3 out (postfix a) (postfix b) (called (call.Distinct n)))
 
-reach_not : (n : Bool) (ts : List Token) → reach (with_not n sign.Between ++ ts) ≡ predicate_level
-reach_not true ts = refl
-reach_not false ts = refl
+reach_between : (n s : Bool) (ts : List Token)
+    → reach (between_tokens (specs.between_kind n s) ++ ts) ≡ predicate_level
+reach_between true s ts = refl
+reach_between false s ts = refl
 
-read_between : (n : Bool) (a b c : Syntax) → concat_level ≤ level a → concat_level ≤ level b
+read_between : (k : BetweenKind) (a b c : Syntax) → concat_level ≤ level a → concat_level ≤ level b
     → concat_level ≤ level c → IsRead a
-    → IsRead b → IsRead c → IsRead (tree.between n a b c)
-read_between n a b c ha hb hc ia ib ic = λ fs out rest top under end.
+    → IsRead b → IsRead c → IsRead (tree.between k a b c)
+read_between k a b c ha hb hc ia ib ic = λ fs out rest top under end.
     let last : List Token = spelling c ++ rest in
     let upper : List Token = sign sign.And ∷ last in
     let lower : List Token = spelling b ++ upper in
     ap (want fs out)
     (append_assoc (spelling a)
-    (with_not n sign.Between ++ (spelling b ++ (sign sign.And ∷ spelling c))) rest
+    (between_tokens k ++ (spelling b ++ (sign sign.And ∷ spelling c))) rest
     ∙ ap (λ ts. spelling a ++ ts)
-    (append_assoc (with_not n sign.Between) (spelling b ++ (sign sign.And ∷ spelling c)) rest)
-    ∙ ap (λ ts. spelling a ++ (with_not n sign.Between ++ ts))
+    (append_assoc (between_tokens k) (spelling b ++ (sign sign.And ∷ spelling c)) rest)
+    ∙ ap (λ ts. spelling a ++ (between_tokens k ++ ts))
     (append_assoc (spelling b) (sign sign.And ∷ spelling c) rest))
-    ∙ ia fs out (with_not n sign.Between ++ lower) (omega (arith, top, ha))
+    ∙ ia fs out (between_tokens k ++ lower) (omega (arith, top, ha))
     (beneath a fs predicate_level top (lit< tt))
-    (omega (arith, ha, reach_not n lower))
-    ∙ step_between n (level a) fs (out ++ postfix a) lower ha top
-    ∙ ib (frame.Between n ∷ fs) (out ++ postfix a) upper hb (level_literal b) (omega (arith, hb))
-    ∙ step_bound n (level b) fs ((out ++ postfix a) ++ postfix b) last
-    ∙ ic (frame.Bounded n ∷ fs) ((out ++ postfix a) ++ postfix b) rest hc (level_literal c)
+    (omega (arith, ha, reach_between k.negated k.symmetric lower))
+    ∙ step_between k (level a) fs (out ++ postfix a) lower ha top
+    ∙ ib (frame.Between k ∷ fs) (out ++ postfix a) upper hb (level_literal b) (omega (arith, hb))
+    ∙ step_bound k (level b) fs ((out ++ postfix a) ++ postfix b) last
+    ∙ ic (frame.Bounded k ∷ fs) ((out ++ postfix a) ++ postfix b) rest hc (level_literal c)
     (omega (arith, end, hc))
-    ∙ waits_closed (level c) (frame.Bounded n) fs
+    ∙ waits_closed (level c) (frame.Bounded k) fs
     (((out ++ postfix a) ++ postfix b) ++ postfix c) rest (lit< tt) end
     ∙ ap (λ xs. have predicate_level fs xs rest)
-    (regrouped_4 out (postfix a) (postfix b) (postfix c) (called (call.Between n)))
+    (regrouped_4 out (postfix a) (postfix b) (postfix c) (called (call.Between k)))
 
 reach_like : (n i : Bool) (ts : List Token)
     → reach (like_sign (specs.like_kind n i) ++ ts) ≡ predicate_level
@@ -279,116 +277,16 @@ read_matched k a p e ha hp ia ip = λ fs out rest top under end.
     ∙ ap (λ xs. have predicate_level fs xs rest) (regrouped_3 out (postfix a) (postfix p)
     (like_step k e))
 
-read_cast : (a : Syntax) (w : List ℕ) (n : Bool) → IsRead a → IsRead (tree.cast a w n)
-read_cast a w n ia = λ fs out rest top under end.
+read_cast : (p : Bool) (a : Syntax) (w : List ℕ) (n : Bool) → IsRead a
+    → IsRead (tree.cast p a w n)
+read_cast p a w n ia = λ fs out rest top under end.
     let last : List Token = sign sign.As ∷ type_token w n ∷ sign sign.Close ∷ rest in
-    ap (λ ts. want fs out (sign sign.Cast ∷ sign sign.Open ∷ ts))
+    ap (λ ts. want fs out (sign (cast_sign p) ∷ sign sign.Open ∷ ts))
     (append_assoc (spelling a) (sign sign.As ∷ type_token w n ∷ sign sign.Close ∷ []) rest)
-    ∙ step_cast_open fs out (spelling a ++ last)
-    ∙ ia (frame.Cast ∷ fs) out last (omega arith) (level_literal a) (omega arith)
-    ∙ step_cast (level a) fs (out ++ postfix a) w n rest
-    ∙ ap (λ xs. have atom_level fs xs rest) (regrouped_2 out (postfix a) (cast w n))
-
--- a frame for each number of arguments or items before the next
-record Separates (f : ℕ → Frame) : Type 0 where
-  any : (n : ℕ) → hole (f n) ≡ 0
-  all : (n : ℕ) → literal_level ≤ ceiling (f n)
-  comma : (n l : ℕ) (fs : List Frame) (out : List Step) (ts : List Token)
-      → have l (f n ∷ fs) out (sign sign.Comma ∷ ts) ≡ want (f (suc n) ∷ fs) out ts
-
-arguments_separate : (w : List ℕ) → Separates (λ n. frame.Arguments w n)
-arguments_separate w =
-    record {
-      any = λ n. refl;
-      all = λ n. lit≤ tt;
-      comma = λ n l fs out ts. step_comma w n l fs out ts;
-    }
-
-items_separate : (m : Bool) → Separates (λ n. frame.Items m n)
-items_separate m =
-    record {
-      any = λ n. refl;
-      all = λ n. lit≤ tt;
-      comma = λ n l fs out ts. step_item m n l fs out ts;
-    }
-
--- arguments and their commas
-abbrev AreRead : Arguments → Type 0
-AreRead args = (f : ℕ → Frame) → Separates f → (fs : List Frame) (out : List Step)
-    (rest : List Token)
-    → want (f 0 ∷ fs) out (all_spelled args ++ rest)
-    ≡ want (f (argument_count args) ∷ fs) (out ++ all_postfix args) rest
-
-read_no_arguments : AreRead tree.no_arguments
-read_no_arguments = λ f s fs out rest. ap (λ xs. want (f 0 ∷ fs) xs rest) (sym (append-nil out))
-
-read_argument : (args : Arguments) (a : Syntax) → AreRead args → IsRead a
-    → AreRead (tree.argument args a)
-read_argument args a ias ia = λ f s fs out rest.
-    let n = argument_count args in
-    ap (want (f 0 ∷ fs) out)
-    (append_assoc (all_spelled args) (spelling a ++ (sign sign.Comma ∷ [])) rest
-    ∙ ap (λ ts. all_spelled args ++ ts) (append_assoc (spelling a) (sign sign.Comma ∷ []) rest))
-    ∙ ias f s fs out (spelling a ++ (sign sign.Comma ∷ rest))
-    ∙ ia (f n ∷ fs) (out ++ all_postfix args) (sign sign.Comma ∷ rest) (omega (arith, s.any n))
-    (omega (arith, level_literal a, s.all n)) (omega arith)
-    ∙ s.comma n (level a) fs ((out ++ all_postfix args) ++ postfix a) rest
-    ∙ ap (λ xs. want (f (suc n) ∷ fs) xs rest) (append_assoc out (all_postfix args) (postfix a))
-
-read_nullary : (p : Bool) (w : List ℕ) → IsRead (tree.nullary p w)
-read_nullary p w = λ fs out rest top under end.
-    ap (want fs out) (append_assoc (function_tokens p w) (sign sign.Close ∷ []) rest)
-    ∙ step_function p w fs out (sign sign.Close ∷ rest)
-    ∙ step_nullary w fs out rest
-
-read_applied : (p : Bool) (w : List ℕ) (args : Arguments) (a : Syntax) → AreRead args → IsRead a
-    → IsRead (tree.applied p w args a)
-read_applied p w args a ias ia = λ fs out rest top under end.
-    let n = argument_count args in
-    ap (want fs out)
-    (append_assoc (function_tokens p w)
-    (all_spelled args ++ (spelling a ++ (sign sign.Close ∷ []))) rest)
-    ∙ step_function p w fs out
-    ((all_spelled args ++ (spelling a ++ (sign sign.Close ∷ []))) ++ rest)
-    ∙ ap (want (frame.Arguments w 0 ∷ fs) out)
-    (append_assoc (all_spelled args) (spelling a ++ (sign sign.Close ∷ [])) rest
-    ∙ ap (λ ts. all_spelled args ++ ts) (append_assoc (spelling a) (sign sign.Close ∷ []) rest))
-    ∙ ias (λ m. frame.Arguments w m) (arguments_separate w) fs out
-    (spelling a ++ (sign sign.Close ∷ rest))
-    ∙ ia (frame.Arguments w n ∷ fs) (out ++ all_postfix args) (sign sign.Close ∷ rest) (omega arith)
-    (level_literal a) (omega arith)
-    ∙ step_applied w n (level a) fs ((out ++ all_postfix args) ++ postfix a) rest
-    ∙ ap (λ xs. have atom_level fs xs rest)
-    (regrouped_3 out (all_postfix args) (postfix a) (applied w (suc n)))
-
-reach_in : (n : Bool) (ts : List Token) → reach (in_tokens n ++ ts) ≡ predicate_level
-reach_in true ts = refl
-reach_in false ts = refl
-
-list_written : (a b c d rest : List Token)
-    → (a ++ (b ++ (c ++ (d ++ (sign sign.Close ∷ []))))) ++ rest
-    ≡ a ++ (b ++ (c ++ (d ++ (sign sign.Close ∷ rest))))
-list_written a b c d rest = simp append_assoc
-
-read_listed : (n : Bool) (a : Syntax) (args : Arguments) (b : Syntax) → concat_level ≤ level a
-    → IsRead a → AreRead args → IsRead b → IsRead (tree.listed n a args b)
-read_listed n a args b h ia ias ib = λ fs out rest top under end.
-    let k = argument_count args in
-    let close : List Token = sign sign.Close ∷ rest in
-    let last : List Token = spelling b ++ close in
-    let items : List Token = all_spelled args ++ last in
-    let first : List Step = out ++ postfix a in
-    ap (want fs out)
-    (list_written (spelling a) (in_tokens n) (all_spelled args) (spelling b) rest)
-    ∙ ia fs out (in_tokens n ++ items) (omega (arith, top, h))
-    (beneath a fs predicate_level top (lit< tt)) (omega (arith, h, reach_in n items))
-    ∙ step_in n (level a) fs first items h top
-    ∙ ias (λ m. frame.Items n m) (items_separate n) fs first last
-    ∙ ib (frame.Items n k ∷ fs) (first ++ all_postfix args) close (omega arith) (level_literal b)
-    (omega arith)
-    ∙ step_listed n k (level b) fs ((first ++ all_postfix args) ++ postfix b) rest
-    ∙ ap (λ xs. have predicate_level fs xs rest)
-    (regrouped_4 out (postfix a) (all_postfix args) (postfix b) (listed n (suc k)))
+    ∙ step_cast_open p fs out (spelling a ++ last)
+    ∙ ia (frame.Cast p ∷ fs) out last (omega arith) (level_literal a) (omega arith)
+    ∙ step_cast p (level a) fs (out ++ postfix a) w n rest
+    ∙ ap (λ xs. have atom_level fs xs rest) (regrouped_2 out (postfix a) (cast p w n))
 
 mutual
   pub is_read : (t : Syntax) → Fits t → IsRead t
@@ -404,12 +302,13 @@ mutual
   is_read (tree.tested k n a) h = read_tested k n a h.2 h.0 (is_read a h.1)
   is_read (tree.null_tested n a) h = read_null_tested n a h.0 (is_read a h.1)
   is_read (tree.distinct n a b) h = read_distinct n a b h.0 h.1 (is_read a h.2) (is_read b h.3)
-  is_read (tree.between n a b c) h =
-      read_between n a b c h.0 h.1 h.2 (is_read a h.3) (is_read b h.4) (is_read c h.5)
+  is_read (tree.between k a b c) h =
+      read_between k a b c h.0 h.1 h.2 (is_read a h.3) (is_read b h.4) (is_read c h.5)
   is_read (tree.matched k a p e) h = read_matched k a p e h.0 h.1 (is_read a h.2) (is_read p h.3)
   is_read (tree.listed n a args b) h =
       read_listed n a args b h.0 (is_read a h.1) (are_read args h.2) (is_read b h.3)
-  is_read (tree.cast a w n) h = read_cast a w n (is_read a h)
+  is_read (tree.cast p a w n) h = read_cast p a w n (is_read a h)
+  is_read (tree.converted a w n) h = read_converted a w n h.0 h.1 (is_read a h.2)
   is_read (tree.chosen bs c v) h =
       read_chosen bs c v (branches_read bs h.0) (is_read c h.1) (is_read v h.2)
   is_read (tree.chosen_else bs c v e) h =

@@ -4,6 +4,7 @@ use Rattle.std.proofs.Common.{◌++◌, None, refl, ap, sym, subst, ◌∙◌, a
 use Rattle.std.proofs.lemmas.List.{append-nil}
 use Rattle.std.proofs.lemmas.Bool.Decides.{nat_tests}
 use Rattle.vortex_syntax.specs.declared.step.WrittenOperator.{WrittenOperator}
+use Rattle.vortex_syntax.specs.declared.step.BetweenKind.{BetweenKind}
 use Rattle.vortex_syntax.specs.declared.step.LikeKind.{LikeKind}
 use Rattle.vortex_syntax.specs.declared.step.Call.TheVariants as call
 use Rattle.vortex_syntax.specs.declared.token.Sign.TheVariants as sign
@@ -16,9 +17,9 @@ use Rattle.vortex_syntax.specs.Syntax as tree
 use Rattle.vortex_syntax.specs.Syntax.{Syntax, Arguments, Branches}
 use Rattle.vortex_syntax.specs.Levels.{left, level, Fits, AllFit, BranchesFit, is_level}
 use Rattle.vortex_syntax.specs.Levels.{concat_level}
-use Rattle.vortex_syntax.specs.Spelling.{spelling, all_spelled, operator_sign, with_not}
+use Rattle.vortex_syntax.specs.Spelling.{spelling, all_spelled, operator_sign}
 use Rattle.vortex_syntax.specs.Spelling.{distinct_tokens, in_tokens, like_sign, branches_spelled}
-use Rattle.vortex_syntax.specs.Spelling.{function_tokens}
+use Rattle.vortex_syntax.specs.Spelling.{function_tokens, between_tokens, cast_sign}
 use Rattle.vortex_syntax.specs.Postfix.{Step, called, argument_count, has_operand, branch_count}
 use Rattle.vortex_syntax.specs.Postfix.{postfix, all_postfix, branches_postfix}
 use Rattle.vortex_syntax.specs.Reading.{Operand, operand_of, settled}
@@ -26,15 +27,15 @@ use Rattle.vortex_syntax.proofs.Tables.{whole_atom, atom_ceiling}
 
 pub data Held : Type 0 where
   opened : Held
-  casting : Held
+  casting : Bool → Held
   negating : Held
   minusing : Held
   plusing : Held
   inverting : Held
   joining : WrittenOperator → Syntax → Held
   distinguishing : Bool → Syntax → Held
-  lower : Bool → Syntax → Held
-  upper : Bool → Syntax → Syntax → Held
+  lower : BetweenKind → Syntax → Held
+  upper : BetweenKind → Syntax → Syntax → Held
   matching : LikeKind → Syntax → Held
   calling : Bool → List ℕ → Arguments → Held
   listing : Bool → Syntax → Arguments → Held
@@ -45,15 +46,15 @@ pub data Held : Type 0 where
 
 abbrev pub frame_of : Held → Frame
 frame_of opened = frame.Open
-frame_of casting = frame.Cast
+frame_of (casting p) = frame.Cast p
 frame_of negating = frame.Not
 frame_of minusing = frame.Minus
 frame_of plusing = frame.Plus
 frame_of inverting = frame.BitNot
 frame_of (joining o a) = frame.Join o
 frame_of (distinguishing n a) = frame.Distinct n
-frame_of (lower n a) = frame.Between n
-frame_of (upper n a b) = frame.Bounded n
+frame_of (lower k a) = frame.Between k
+frame_of (upper k a b) = frame.Bounded k
 frame_of (matching k a) = frame.Like k
 frame_of (calling p w args) = frame.Arguments w (argument_count args)
 frame_of (listing n a args) = frame.Items n (argument_count args)
@@ -64,16 +65,16 @@ frame_of (defaulting bs c v) = frame.Case part.Else (has_operand bs) (suc (branc
 
 abbrev pub written : Held → List Token
 written opened = sign sign.Open ∷ []
-written casting = sign sign.Cast ∷ sign sign.Open ∷ []
+written (casting p) = sign (cast_sign p) ∷ sign sign.Open ∷ []
 written negating = sign sign.Not ∷ []
 written minusing = sign sign.Minus ∷ []
 written plusing = sign sign.Plus ∷ []
 written inverting = sign sign.BitNot ∷ []
 written (joining o a) = spelling a ++ (sign (operator_sign o) ∷ [])
 written (distinguishing n a) = spelling a ++ distinct_tokens n
-written (lower n a) = spelling a ++ with_not n sign.Between
-written (upper n a b) =
-    spelling a ++ (with_not n sign.Between ++ (spelling b ++ (sign sign.And ∷ [])))
+written (lower k a) = spelling a ++ between_tokens k
+written (upper k a b) =
+    spelling a ++ (between_tokens k ++ (spelling b ++ (sign sign.And ∷ [])))
 written (matching k a) = spelling a ++ like_sign k
 written (calling p w args) = function_tokens p w ++ all_spelled args
 written (listing n a args) = spelling a ++ (in_tokens n ++ all_spelled args)
@@ -87,7 +88,7 @@ written (defaulting bs c v) =
 
 abbrev pub held : Held → List Step
 held opened = []
-held casting = []
+held (casting p) = []
 held negating = []
 held minusing = []
 held plusing = []
@@ -106,7 +107,7 @@ held (defaulting bs c v) = (branches_postfix bs ++ postfix c) ++ postfix v
 
 abbrev pub IsSound : Held → Type 0
 IsSound opened = Unit {0}
-IsSound casting = Unit {0}
+IsSound (casting p) = Unit {0}
 IsSound negating = Unit {0}
 IsSound minusing = Unit {0}
 IsSound plusing = Unit {0}
@@ -150,7 +151,7 @@ pub record Plugged (h : Held) (e : Syntax) : Type 0 where
 pub plugged : (h : Held) (e : Syntax) → 0 < guard (frame_of h) → IsSound h → Fits e
     → hole (frame_of h) ≤ level e → level e ≤ ceiling (frame_of h) → Plugged h e
 plugged opened e g s f le under = absurd (let k : ⊥ = omega (arith, g) in k)
-plugged casting e g s f le under = absurd (let k : ⊥ = omega (arith, g) in k)
+plugged (casting p) e g s f le under = absurd (let k : ⊥ = omega (arith, g) in k)
 plugged negating e g s f le under =
     record { tree = tree.negated e; fits = (le, f); level = refl; steps = refl; tokens = refl }
 plugged minusing e g s f le under =
@@ -173,18 +174,18 @@ plugged (distinguishing n a) e g s f le under = record {
   steps = refl;
   tokens = append_assoc (spelling a) (distinct_tokens n) (spelling e);
 }
-plugged (lower n a) e g s f le under = absurd (let k : ⊥ = omega (arith, g) in k)
-plugged (upper n a b) e g s f le under = record {
-  tree = tree.between n a b e;
+plugged (lower k a) e g s f le under = absurd (let k : ⊥ = omega (arith, g) in k)
+plugged (upper k a b) e g s f le under = record {
+  tree = tree.between k a b e;
   fits = (s.0, s.1, le, s.2, s.3, f);
   level = refl;
-  steps = append_assoc (postfix a) (postfix b) (postfix e ++ (called (call.Between n) ∷ []));
+  steps = append_assoc (postfix a) (postfix b) (postfix e ++ (called (call.Between k) ∷ []));
   tokens =
-      append_assoc (spelling a) (with_not n sign.Between ++ (spelling b ++ (sign sign.And ∷ [])))
+      append_assoc (spelling a) (between_tokens k ++ (spelling b ++ (sign sign.And ∷ [])))
       (spelling e)
       ∙ ap (λ ts. spelling a ++ ts)
-      (append_assoc (with_not n sign.Between) (spelling b ++ (sign sign.And ∷ [])) (spelling e))
-      ∙ ap (λ ts. spelling a ++ (with_not n sign.Between ++ ts))
+      (append_assoc (between_tokens k) (spelling b ++ (sign sign.And ∷ [])) (spelling e))
+      ∙ ap (λ ts. spelling a ++ (between_tokens k ++ ts))
       (append_assoc (spelling b) (sign sign.And ∷ []) (spelling e));
 }
 plugged (matching k a) e g s f le under = record {

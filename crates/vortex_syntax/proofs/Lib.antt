@@ -16,6 +16,7 @@ pub mod Closes
 pub mod StepsRead
 pub mod CaseRead
 pub mod MinusRead
+pub mod ArgumentsRead
 pub mod Complete
 pub mod Held
 pub mod Before
@@ -23,8 +24,10 @@ pub mod Grown
 pub mod ItemsSound
 pub mod CaseSound
 pub mod BracketsSound
+pub mod BetweenSound
 pub mod SignsSound
 pub mod NameSound
+pub mod CastsSound
 pub mod OperandsSound
 pub mod Sound
 pub mod Whole

@@ -9,7 +9,7 @@ use Rattle.vortex_syntax.specs.Tokens.{Token, number, sign}
 use Rattle.vortex_syntax.specs.Syntax as tree
 use Rattle.vortex_syntax.specs.Syntax.{Syntax, Branches}
 use Rattle.vortex_syntax.specs.Levels.{sign_level, level, atom_level}
-use Rattle.vortex_syntax.specs.Spelling.{branches_spelled, spelling}
+use Rattle.vortex_syntax.specs.Spelling.{branches_spelled, spelling, type_token}
 use Rattle.vortex_syntax.specs.Postfix.{Step}
 use Rattle.vortex_syntax.specs.declared.frame.Mode.TheVariants as mode
 use Rattle.vortex_syntax.specs.Reading.{state, next, run}
@@ -53,7 +53,13 @@ signed_read (tree.grouped a) h k fs out ts = refl
 signed_read (tree.negated a) h k fs out ts = refl
 signed_read (tree.joined o a b) h k fs out ts =
     absurd (let j : ⊥ = omega (arith, h, own_product o) in j)
-signed_read (tree.cast a w n) h k fs out ts = refl
+signed_read (tree.cast true a w n) h k fs out ts = refl
+signed_read (tree.cast false a w n) h k fs out ts = refl
+signed_read (tree.converted a w n) h k fs out ts =
+    let last : List Token = sign sign.Typed ∷ type_token w n ∷ [] in
+    ap (run (state mode.Signed fs out)) (append_assoc (spelling a) last ts)
+    ∙ signed_read a h k fs out (last ++ ts)
+    ∙ ap (want (frame.Minus ∷ fs) out) (sym (append_assoc (spelling a) last ts))
 signed_read (tree.nullary true w) h k fs out ts = refl
 signed_read (tree.nullary false w) h k fs out ts = refl
 signed_read (tree.applied true w args a) h k fs out ts = refl

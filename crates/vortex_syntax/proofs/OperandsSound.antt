@@ -14,24 +14,25 @@ use Rattle.vortex_syntax.specs.declared.frame.Mode.TheVariants as mode
 use Rattle.vortex_syntax.specs.Tokens.{Token, name, nullable, function, quoted, number, text, sign}
 use Rattle.vortex_syntax.specs.Syntax as tree
 use Rattle.vortex_syntax.specs.Syntax.{Syntax, Tested, Arguments}
-use Rattle.vortex_syntax.specs.Levels.{typed_level, level, Fits, is_operand, operand_level}
+use Rattle.vortex_syntax.specs.Levels.{level, Fits, is_operand, operand_level}
 use Rattle.vortex_syntax.specs.Levels.{not_level, distinct_level, is_level, predicate_level}
 use Rattle.vortex_syntax.specs.Levels.{bit_not_level, concat_level, atom_level, literal_level}
-use Rattle.vortex_syntax.specs.Levels.{IsTested}
+use Rattle.vortex_syntax.specs.Levels.{IsTested, predicate_level}
 use Rattle.vortex_syntax.specs.Keywords.{same_word}
-use Rattle.vortex_syntax.specs.Spelling.{spelling, type_token, is_tokens, test_token, test_tokens}
+use Rattle.vortex_syntax.specs.Spelling.{spelling, is_tokens, test_token, test_tokens}
 use Rattle.vortex_syntax.specs.Spelling.{distinct_tokens, like_sign, function_tokens}
-use Rattle.vortex_syntax.specs.Postfix.{Step, operand, negative, typed, cast, escaped, applied}
+use Rattle.vortex_syntax.specs.Postfix.{Step, operand, negative, escaped, applied}
 use Rattle.vortex_syntax.specs.Postfix.{called, test_of, argument_count, postfix}
 use Rattle.vortex_syntax.specs.Reading as specs
 use Rattle.vortex_syntax.specs.Reading.{State, state}
 use Rattle.vortex_syntax.proofs.Tables.{top_atom, top_sign, atom_ceiling}
-use Rattle.vortex_syntax.proofs.Held.{Held, opened, casting, negating, minusing, distinguishing}
+use Rattle.vortex_syntax.proofs.Held.{Held, opened, negating, minusing, distinguishing}
 use Rattle.vortex_syntax.proofs.Held.{plusing, inverting, calling, written, held}
 use Rattle.vortex_syntax.proofs.Before.{Behind, more, more_tokens, as_tokens, as_steps, pushed}
 use Rattle.vortex_syntax.proofs.Before.{popped, call_is, HasOperand, Holds, HoldsIn, along, chosen}
 use Rattle.vortex_syntax.proofs.Before.{fits_below, operand_more, operand_is}
 use Rattle.vortex_syntax.proofs.CaseSound.{case_begun, when_first}
+use Rattle.vortex_syntax.proofs.BetweenSound.{symmetric_sound}
 
 pub operand_atom : (t : Token) → atom_level ≤ operand_level t
 operand_atom (name w) = lit≤ tt
@@ -112,8 +113,12 @@ sign_wanted_sound fs out sign.Open s before e b =
     (pushed opened fs out (before ++ (sign sign.Open ∷ []))
     (more_tokens fs out before [] [] (sign sign.Open ∷ []) b) tt (top_atom fs))
 sign_wanted_sound fs out sign.Cast s before e b =
-    along (state mode.Casting fs out) s (before ++ (sign sign.Cast ∷ [])) e
+    along (state (mode.Casting false) fs out) s (before ++ (sign sign.Cast ∷ [])) e
     (more_tokens fs out before [] [] (sign sign.Cast ∷ []) b)
+sign_wanted_sound fs out sign.TryCast s before e b =
+    along (state (mode.Casting true) fs out) s (before ++ (sign sign.TryCast ∷ [])) e
+    (more_tokens fs out before [] [] (sign sign.TryCast ∷ []) b)
+sign_wanted_sound fs out sign.Symmetric s before e b = symmetric_sound fs out s before e b
 sign_wanted_sound fs out sign.Close s before e b = nullary_sound fs out s before e b
 sign_wanted_sound fs out sign.Case s before e b = case_begun fs out s before e b
 sign_wanted_sound fs out sign.When s before e b = when_first fs out s before e b
@@ -188,35 +193,6 @@ pub signed_sound : (fs : List Frame) (out : List Step) (t : Token) (s : State)
     → Behind fs out before [] (sign sign.Minus ∷ []) → HoldsIn s (before ++ (t ∷ []))
 signed_sound fs out (number ds) s before e b = digits_sound fs out ds s before e b
 signed_sound fs out t s before e b = minus_sound fs out t s before e b
-
-pub typed_is : (l : ℕ) (fs : List Frame) (out : List Step) (before : List Token) (w : List ℕ)
-    (n : Bool) → HasOperand l fs out before (sign sign.Typed ∷ []) → literal_level ≤ l
-    → HasOperand typed_level fs (out ++ (typed w n ∷ [])) (before ++ (type_token w n ∷ [])) []
-typed_is l fs out before w n a le =
-    operand_is (tree.typed a.tree w n) fs (out ++ (typed w n ∷ []))
-    (before ++ (type_token w n ∷ [])) (subst (λ (m : ℕ). literal_level ≤ m) a.level le, a.fits)
-    (omega (arith, top_atom fs)) (omega (arith, le, a.under))
-    (as_tokens fs (out ++ (typed w n ∷ [])) (before ++ (type_token w n ∷ []))
-    (postfix a.tree ++ (typed w n ∷ []))
-    ((spelling a.tree ++ (sign sign.Typed ∷ [])) ++ (type_token w n ∷ []))
-    (spelling a.tree ++ (sign sign.Typed ∷ type_token w n ∷ []))
-    (append_assoc (spelling a.tree) (sign sign.Typed ∷ []) (type_token w n ∷ []))
-    (more fs out before (postfix a.tree) (spelling a.tree ++ (sign sign.Typed ∷ []))
-    (typed w n ∷ []) (type_token w n ∷ []) a.behind))
-
-pub type_sound : (l : ℕ) (fs : List Frame) (out : List Step) (t : Token) (s : State)
-    (before : List Token) → specs.type_expected fs out t ≡ Some s
-    → HasOperand l fs out before (sign sign.Typed ∷ []) → literal_level ≤ l
-    → HoldsIn s (before ++ (t ∷ []))
-type_sound l fs out (name w) s before e a le =
-    along (state (mode.Have typed_level) fs (out ++ (typed w false ∷ []))) s
-    (before ++ (name w ∷ [])) e
-    (typed_is l fs out before w false a le)
-type_sound l fs out (nullable w) s before e a le =
-    along (state (mode.Have typed_level) fs (out ++ (typed w true ∷ []))) s
-    (before ++ (nullable w ∷ [])) e
-    (typed_is l fs out before w true a le)
-type_sound l fs out t s before e a le = absurd cc
 
 pub tested_is : (k : Tested) (n : Bool) (l : ℕ) (fs : List Frame) (out : List Step)
     (before : List Token) → IsTested k → HasOperand l fs out before (is_tokens n) → is_level ≤ l
@@ -312,93 +288,6 @@ distinct_follows n l fs out (sign sign.From) s before e a le place =
     (more_tokens fs out before (postfix a.tree) here last a.behind))
     (subst (λ (m : ℕ). is_level ≤ m) a.level le, a.fits) place)
 distinct_follows n l fs out t s before e a le place = absurd cc
-
-pub cast_sign_sound : (fs : List Frame) (out : List Step) (u : Sign) (s : State)
-    (before : List Token) → specs.after_cast fs out (sign u) ≡ Some s
-    → Behind fs out before [] (sign sign.Cast ∷ [])
-    → HoldsIn s (before ++ (sign u ∷ []))
-cast_sign_sound fs out sign.Open s before e b =
-    along (state mode.Want (frame.Cast ∷ fs) out) s (before ++ (sign sign.Open ∷ [])) e
-    (pushed casting fs out (before ++ (sign sign.Open ∷ []))
-    (more_tokens fs out before [] (sign sign.Cast ∷ []) (sign sign.Open ∷ []) b) tt
-    (top_atom fs))
-cast_sign_sound fs out u s before e b = absurd cc
-
-pub cast_follows : (fs : List Frame) (out : List Step) (t : Token) (s : State) (before : List Token)
-    → specs.after_cast fs out t ≡ Some s → Behind fs out before [] (sign sign.Cast ∷ [])
-    → HoldsIn s (before ++ (t ∷ []))
-cast_follows fs out (sign u) s before e b = cast_sign_sound fs out u s before e b
-cast_follows fs out t s before e b = absurd cc
-
-pub cast_typed : (a : Syntax) (fs : List Frame) (out : List Step) (before : List Token) (w : List ℕ)
-    (n : Bool)
-    → Behind fs out before (postfix a)
-    (sign sign.Cast ∷ sign sign.Open ∷ (spelling a ++ (sign sign.As ∷ [])))
-    → Behind fs (out ++ (cast w n ∷ [])) (before ++ (type_token w n ∷ []))
-    (postfix a ++ (cast w n ∷ []))
-    (sign sign.Cast ∷ sign sign.Open ∷ (spelling a ++ (sign sign.As ∷ type_token w n ∷ [])))
-cast_typed a fs out before w n b =
-    as_tokens fs (out ++ (cast w n ∷ [])) (before ++ (type_token w n ∷ []))
-    (postfix a ++ (cast w n ∷ []))
-    (sign sign.Cast ∷ sign
-    sign.Open ∷ ((spelling a ++ (sign sign.As ∷ [])) ++ (type_token w n ∷ [])))
-    (sign sign.Cast ∷ sign sign.Open ∷ (spelling a ++ (sign sign.As ∷ type_token w n ∷ [])))
-    (ap (λ ts. sign sign.Cast ∷ sign sign.Open ∷ ts)
-    (append_assoc (spelling a) (sign sign.As ∷ []) (type_token w n ∷ [])))
-    (more fs out before (postfix a)
-    (sign sign.Cast ∷ sign sign.Open ∷ (spelling a ++ (sign sign.As ∷ []))) (cast w n ∷ [])
-    (type_token w n ∷ []) b)
-
-pub cast_type_sound : (a : Syntax) (fs : List Frame) (out : List Step) (t : Token) (s : State)
-    (before : List Token) → specs.cast_expected fs out t ≡ Some s → Fits a
-    → Behind fs out before (postfix a)
-    (sign sign.Cast ∷ sign sign.Open ∷ (spelling a ++ (sign sign.As ∷ [])))
-    → HoldsIn s (before ++ (t ∷ []))
-cast_type_sound a fs out (name w) s before e f b =
-    along (state mode.CastEnd fs (out ++ (cast w false ∷ []))) s (before ++ (name w ∷ [])) e
-    (a, w, false, f, cast_typed a fs out before w false b)
-cast_type_sound a fs out (nullable w) s before e f b =
-    along (state mode.CastEnd fs (out ++ (cast w true ∷ []))) s (before ++ (nullable w ∷ [])) e
-    (a, w, true, f, cast_typed a fs out before w true b)
-cast_type_sound a fs out t s before e f b = absurd cc
-
-pub cast_is_whole : (a : Syntax) (w : List ℕ) (n : Bool) (fs : List Frame) (out : List Step)
-    (before : List Token) → Fits a
-    → Behind fs out before (postfix a ++ (cast w n ∷ []))
-    (sign sign.Cast ∷ sign sign.Open ∷ (spelling a ++ (sign sign.As ∷ type_token w n ∷ [])))
-    → HasOperand atom_level fs out (before ++ (sign sign.Close ∷ [])) []
-cast_is_whole a w n fs out before f b =
-    operand_is (tree.cast a w n) fs out (before ++ (sign sign.Close ∷ [])) f (top_atom fs)
-    (atom_ceiling fs)
-    (as_tokens fs out (before ++ (sign sign.Close ∷ [])) (postfix a ++ (cast w n ∷ []))
-    (sign sign.Cast ∷ sign
-    sign.Open ∷ ((spelling a ++ (sign sign.As ∷ type_token w n ∷ [])) ++
-    (sign sign.Close ∷ []))) (spelling (tree.cast a w n))
-    (ap (λ ts. sign sign.Cast ∷ sign sign.Open ∷ ts)
-    (append_assoc (spelling a) (sign sign.As ∷ type_token w n ∷ []) (sign sign.Close ∷ [])))
-    (more_tokens fs out before (postfix a ++ (cast w n ∷ []))
-    (sign sign.Cast ∷ sign sign.Open ∷ (spelling a ++ (sign sign.As ∷ type_token w n ∷ [])))
-    (sign sign.Close ∷ []) b))
-
-pub cast_end_sign : (a : Syntax) (w : List ℕ) (n : Bool) (fs : List Frame) (out : List Step)
-    (u : Sign) (s : State) (before : List Token) → specs.after_cast_type fs out (sign u) ≡ Some s
-    → Fits a
-    → Behind fs out before (postfix a ++ (cast w n ∷ []))
-    (sign sign.Cast ∷ sign sign.Open ∷ (spelling a ++ (sign sign.As ∷ type_token w n ∷ [])))
-    → HoldsIn s (before ++ (sign u ∷ []))
-cast_end_sign a w n fs out sign.Close s before e f b =
-    along (state (mode.Have atom_level) fs out) s (before ++ (sign sign.Close ∷ [])) e
-    (cast_is_whole a w n fs out before f b)
-cast_end_sign a w n fs out u s before e f b = absurd cc
-
-pub cast_end_sound : (a : Syntax) (v : List ℕ) (n : Bool) (fs : List Frame) (out : List Step)
-    (t : Token) (s : State) (before : List Token) → specs.after_cast_type fs out t ≡ Some s
-    → Fits a
-    → Behind fs out before (postfix a ++ (cast v n ∷ []))
-    (sign sign.Cast ∷ sign sign.Open ∷ (spelling a ++ (sign sign.As ∷ type_token v n ∷ [])))
-    → HoldsIn s (before ++ (t ∷ []))
-cast_end_sound a v n fs out (sign u) s before e f b = cast_end_sign a v n fs out u s before e f b
-cast_end_sound a v n fs out t s before e f b = absurd cc
 
 pub escaped_is : (k : LikeKind) (a p : Syntax) (fs : List Frame) (out : List Step)
     (before : List Token) (c : List ℕ) → concat_level ≤ level a → concat_level ≤ level p → Fits a

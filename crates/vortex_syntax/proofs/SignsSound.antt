@@ -16,33 +16,27 @@ use Rattle.vortex_syntax.specs.Tokens.{Token, sign}
 use Rattle.vortex_syntax.specs.Syntax as tree
 use Rattle.vortex_syntax.specs.Syntax.{Syntax}
 use Rattle.vortex_syntax.specs.Levels.{own, left, level, Fits, or_level, and_level, is_level}
-use Rattle.vortex_syntax.specs.Levels.{predicate_level, concat_level, literal_level}
+use Rattle.vortex_syntax.specs.Levels.{predicate_level, concat_level, literal_level, atom_level}
+use Rattle.vortex_syntax.specs.Levels.{typed_level}
+use Rattle.std.proofs.lemmas.Bool.Decides.{nat_tests}
 use Rattle.vortex_syntax.specs.Spelling.{spelling, operator_sign, with_not, like_sign}
-use Rattle.vortex_syntax.specs.Spelling.{null_test_sign}
+use Rattle.vortex_syntax.specs.Spelling.{null_test_sign, cast_sign}
 use Rattle.vortex_syntax.specs.Postfix.{Step, called, postfix}
 use Rattle.vortex_syntax.specs.Reading as specs
 use Rattle.vortex_syntax.specs.Reading.{State, state, operand_of, settled, waiting, shifted}
 use Rattle.vortex_syntax.specs.Reading.{and_behind, is_behind, not_behind, as_behind, escape_behind}
-use Rattle.vortex_syntax.specs.Reading.{predicate, word_after, behind}
-use Rattle.vortex_syntax.proofs.Held.{Held, casting, joining, lower, upper, matching, frame_of}
+use Rattle.vortex_syntax.specs.Reading.{predicate, word_after, behind, typed_mode, typed_behind}
+use Rattle.vortex_syntax.proofs.Held.{Held, casting, joining, matching}
 use Rattle.vortex_syntax.proofs.Held.{written, held, IsSound}
-use Rattle.vortex_syntax.proofs.Before.{Behind, more_tokens, as_tokens, as_steps, pushed, popped}
-use Rattle.vortex_syntax.proofs.Before.{cast_is, lower_is, like_is, HasOperand, settled_operand}
+use Rattle.vortex_syntax.proofs.Before.{Behind, more_tokens, as_tokens, pushed, popped}
+use Rattle.vortex_syntax.proofs.Before.{cast_is, like_is, HasOperand, settled_operand}
 use Rattle.vortex_syntax.proofs.Before.{Holds, HoldsIn, along, both, chosen, fits_below}
 use Rattle.vortex_syntax.proofs.Before.{more, operand_more, operand_is}
 use Rattle.vortex_syntax.proofs.Tables.{atom_ceiling}
 use Rattle.vortex_syntax.proofs.CaseSound.{case_word_sound}
 use Rattle.vortex_syntax.proofs.BracketsSound.{comma_sound, close_sound}
-
--- a frame that takes an operand
-pub waits : (p m : ℕ) (f : Frame) (l : ℕ) (fs : List Frame) (out : List Step) (s : State)
-    (before : List Token) → waiting p m f (operand_of l fs out) ≡ Some s
-    → (m ≤ l → top_hole fs ≤ p → Behind (f ∷ fs) out before [] []) → HoldsIn s before
-waits p m f l fs out s before e h =
-    let c = chosen (nat_le m l && nat_le (top_hole fs) p) (state mode.Want (f ∷ fs) out) s e in
-    let t = both (nat_le m l) (nat_le (top_hole fs) p) c.0 in
-    along (state mode.Want (f ∷ fs) out) s before c.1
-    (h (fits_below m l t.0) (fits_below (top_hole fs) p t.1))
+use Rattle.vortex_syntax.proofs.BetweenSound.{waits, predicates, not_before, not_joined}
+use Rattle.vortex_syntax.proofs.BetweenSound.{between_sound, and_bound}
 
 pub joins : (o : WrittenOperator) (l : ℕ) (fs : List Frame) (out : List Step)
     (before : List Token)
@@ -64,38 +58,6 @@ joining_sound o l fs out s before e a =
     let b = settled (own o) l fs out in
     waits (own o) (left o) (frame.Join o) b.level b.frames b.steps s _ e
     (joins o b.level b.frames b.steps before (settled_operand (own o) l fs out before [] a))
-
--- BETWEEN and LIKE, after an operand and the tokens between
-pub predicates : (h : Held) (ts : List Token) (l : ℕ) (fs : List Frame) (out : List Step)
-    (before us : List Token) (a : HasOperand l fs out before us)
-    → held h ≡ postfix a.tree → written h ≡ spelling a.tree ++ (us ++ ts) → IsSound h
-    → top_hole fs ≤ whole (frame_of h) → Behind (frame_of h ∷ fs) out (before ++ ts) [] []
-predicates h ts l fs out before us a e k s place =
-    pushed h fs out (before ++ ts)
-    (as_tokens fs out (before ++ ts) (held h) ((spelling a.tree ++ us) ++ ts) (written h)
-    (append_assoc (spelling a.tree) us ts ∙ sym k)
-    (as_steps fs out (before ++ ts) (postfix a.tree) (held h) ((spelling a.tree ++ us) ++ ts)
-    (sym e) (more_tokens fs out before (postfix a.tree) (spelling a.tree ++ us) ts a.behind))) s
-    place
-
-abbrev pub not_before : Bool → List Token
-not_before n = cond n (sign sign.Not ∷ []) []
-
-pub not_joined : (n : Bool) (u : Sign) → with_not n u ≡ not_before n ++ (sign u ∷ [])
-not_joined true u = refl
-not_joined false u = refl
-
-pub between_sound : (n : Bool) (l : ℕ) (fs : List Frame) (out : List Step) (s : State)
-    (before : List Token) → shifted predicate_level concat_level (frame.Between n) l fs out ≡ Some s
-    → HasOperand l fs out before (not_before n) → HoldsIn s (before ++ (sign sign.Between ∷ []))
-between_sound n l fs out s before e a =
-    let b = settled predicate_level l fs out in
-    let r = settled_operand predicate_level l fs out before (not_before n) a in
-    waits predicate_level concat_level (frame.Between n) b.level b.frames b.steps s
-    (before ++ (sign sign.Between ∷ [])) e
-    (λ h k. predicates (lower n r.tree) (sign sign.Between ∷ []) b.level b.frames b.steps before
-    (not_before n) r refl (ap (λ ts. spelling r.tree ++ ts) (not_joined n sign.Between))
-    (subst (λ (m : ℕ). concat_level ≤ m) r.level h, r.fits) k)
 
 pub like_sound : (n i : Bool) (u : Sign) (l : ℕ) (fs : List Frame) (out : List Step) (s : State)
     (before : List Token) → like_sign (specs.like_kind n i) ≡ with_not n u
@@ -149,46 +111,10 @@ and_joined l fs out s before e a =
     (before ++ (sign sign.And ∷ [])) e
     (joins operator.And l fs out before a)
 
-pub upper_written : (n : Bool) (a b : Syntax)
-    → (written (lower n a) ++ (spelling b ++ [])) ++ (sign sign.And ∷ []) ≡ written (upper n a b)
-upper_written n a b =
-    ap (λ ts. (written (lower n a) ++ ts) ++ (sign sign.And ∷ [])) (append-nil (spelling b))
-    ∙ append_assoc (written (lower n a)) (spelling b) (sign sign.And ∷ [])
-    ∙ append_assoc (spelling a) (with_not n sign.Between) (spelling b ++ (sign sign.And ∷ []))
-
-pub bound_held : (n : Bool) (l : ℕ) (fs : List Frame) (out : List Step) (before : List Token)
-    (b : Syntax) → Fits b → concat_level ≤ level b → (h : Held) (a : Syntax) → h ≡ lower n a
-    → IsSound h → top_hole fs ≤ predicate_level
-    → Behind fs out before (held h ++ postfix b) (written h ++ (spelling b ++ []))
-    → Behind (frame.Bounded n ∷ fs) out (before ++ (sign sign.And ∷ [])) [] []
-bound_held n l fs out before b f k h a e s place r =
-    let sound : IsSound (lower n a) = subst (λ (v : Held). IsSound v) e s in
-    let behind : Behind fs out before (held (lower n a) ++ postfix b)
-    (written (lower n a) ++ (spelling b ++ [])) =
-    subst (λ (v : Held). Behind fs out before (held v ++ postfix b)
-    (written v ++ (spelling b ++ []))) e r in
-    pushed (upper n a b) fs out (before ++ (sign sign.And ∷ []))
-    (as_tokens fs out (before ++ (sign sign.And ∷ [])) (postfix a ++ postfix b)
-    ((written (lower n a) ++ (spelling b ++ [])) ++ (sign sign.And ∷ []))
-    (written (upper n a b)) (upper_written n a b)
-    (more_tokens fs out before (postfix a ++ postfix b) (written (lower n a) ++ (spelling b ++ []))
-    (sign sign.And ∷ []) behind)) (sound.0, k, sound.1, f) place
-
-pub and_bound : (n : Bool) (l : ℕ) (fs : List Frame) (out : List Step) (s : State)
-    (before : List Token) → Some (state mode.Want (frame.Bounded n ∷ fs) out) ≡ Some s
-    → HasOperand l (frame.Between n ∷ fs) out before [] → HoldsIn s (before ++ (sign sign.And ∷ []))
-and_bound n l fs out s before e a =
-    let r = popped (frame.Between n) fs out before (postfix a.tree)
-    (spelling a.tree ++ []) a.behind in
-    let i = lower_is n r.h r.is in
-    along (state mode.Want (frame.Bounded n ∷ fs) out) s (before ++ (sign sign.And ∷ [])) e
-    (bound_held n l fs out before a.tree a.fits
-    (subst (λ (m : ℕ). concat_level ≤ m) a.level a.place) r.h i.0 i.1 r.sound r.place r.behind)
-
 pub and_sound : (l : ℕ) (fs : List Frame) (out : List Step) (s : State) (before : List Token)
     → and_behind l fs out ≡ Some s → HasOperand l fs out before []
     → HoldsIn s (before ++ (sign sign.And ∷ []))
-and_sound l (frame.Between n ∷ fs) out s before e a = and_bound n l fs out s before e a
+and_sound l (frame.Between k ∷ fs) out s before e a = and_bound k l fs out s before e a
 and_sound l fs out s before e a = and_joined l fs out s before e a
 
 pub is_sound : (l : ℕ) (fs : List Frame) (out : List Step) (s : State) (before : List Token)
@@ -243,30 +169,30 @@ not_sound l fs out s before e a =
       fits_below (top_hole fs) predicate_level t.1,
     )
 
-pub cast_begun : (a : Syntax) (h : Held) (fs : List Frame) (out : List Step) (before : List Token)
-    → h ≡ casting → Behind fs out before (held h ++ postfix a) (written h ++ (spelling a ++ []))
+pub cast_begun : (p : Bool) (a : Syntax) (h : Held) (fs : List Frame) (out : List Step) (before : List Token)
+    → h ≡ casting p → Behind fs out before (held h ++ postfix a) (written h ++ (spelling a ++ []))
     → Behind fs out (before ++ (sign sign.As ∷ [])) (postfix a)
-    (sign sign.Cast ∷ sign sign.Open ∷ (spelling a ++ (sign sign.As ∷ [])))
-cast_begun a h fs out before e r =
+    (sign (cast_sign p) ∷ sign sign.Open ∷ (spelling a ++ (sign sign.As ∷ [])))
+cast_begun p a h fs out before e r =
     let b : Behind fs out before (postfix a)
-    (sign sign.Cast ∷ sign sign.Open ∷ (spelling a ++ [])) =
+    (sign (cast_sign p) ∷ sign sign.Open ∷ (spelling a ++ [])) =
     subst (λ (v : Held). Behind fs out before (held v ++ postfix a)
     (written v ++ (spelling a ++ []))) e r in
     as_tokens fs out (before ++ (sign sign.As ∷ [])) (postfix a)
-    (sign sign.Cast ∷ sign sign.Open ∷ ((spelling a ++ []) ++ (sign sign.As ∷ [])))
-    (sign sign.Cast ∷ sign sign.Open ∷ (spelling a ++ (sign sign.As ∷ [])))
-    (ap (λ ts. sign sign.Cast ∷ sign sign.Open ∷ (ts ++ (sign sign.As ∷ [])))
+    (sign (cast_sign p) ∷ sign sign.Open ∷ ((spelling a ++ []) ++ (sign sign.As ∷ [])))
+    (sign (cast_sign p) ∷ sign sign.Open ∷ (spelling a ++ (sign sign.As ∷ [])))
+    (ap (λ ts. sign (cast_sign p) ∷ sign sign.Open ∷ (ts ++ (sign sign.As ∷ [])))
     (append-nil (spelling a)))
-    (more_tokens fs out before (postfix a) (sign sign.Cast ∷ sign sign.Open ∷ (spelling a ++ []))
+    (more_tokens fs out before (postfix a) (sign (cast_sign p) ∷ sign sign.Open ∷ (spelling a ++ []))
     (sign sign.As ∷ []) b)
 
 pub as_sound : (l : ℕ) (fs : List Frame) (out : List Step) (s : State) (before : List Token)
     → as_behind fs out ≡ Some s → HasOperand l fs out before []
     → HoldsIn s (before ++ (sign sign.As ∷ []))
-as_sound l (frame.Cast ∷ fs) out s before e a =
-    let r = popped frame.Cast fs out before (postfix a.tree) (spelling a.tree ++ []) a.behind in
-    along (state mode.CastType fs out) s (before ++ (sign sign.As ∷ [])) e
-    (a.tree, a.fits, cast_begun a.tree r.h fs out before (cast_is r.h r.is) r.behind)
+as_sound l (frame.Cast p ∷ fs) out s before e a =
+    let r = popped (frame.Cast p) fs out before (postfix a.tree) (spelling a.tree ++ []) a.behind in
+    along (state (mode.CastType p) fs out) s (before ++ (sign sign.As ∷ [])) e
+    (a.tree, a.fits, cast_begun p a.tree r.h fs out before (cast_is p r.h r.is) r.behind)
 as_sound l fs out s before e a = absurd cc
 
 pub pattern_written : (k : LikeKind) (a p : Syntax)
@@ -315,13 +241,30 @@ escape_sound l (frame.Like k ∷ fs) out s before e a =
     (subst (λ (m : ℕ). concat_level ≤ m) a.level a.place) r.place r.behind)
 escape_sound l fs out s before e a = absurd cc
 
+below_literal : (l : ℕ) → nat_le literal_level l ≡ false → l ≤ typed_level
+below_literal l h = grind (arith, nat_tests)
+
+typed_if : (l : ℕ) (fs : List Frame) (out : List Step) (s : State) (before : List Token)
+    (b c : Bool) → nat_le literal_level l ≡ b → nat_le atom_level l ≡ c
+    → typed_behind fs out (cond b (Some mode.Typing) (cond c (Some (mode.Converting l)) None))
+    ≡ Some s
+    → HasOperand l fs out before [] → HoldsIn s (before ++ (sign sign.Typed ∷ []))
+typed_if l fs out s before true c h k e a =
+    along (state mode.Typing fs out) s (before ++ (sign sign.Typed ∷ [])) e
+    (l, operand_more l fs out before [] (sign sign.Typed ∷ []) a, fits_below literal_level l h)
+typed_if l fs out s before false true h k e a =
+    along (state (mode.Converting l) fs out) s (before ++ (sign sign.Typed ∷ [])) e (
+      operand_more l fs out before [] (sign sign.Typed ∷ []) a,
+      fits_below atom_level l k,
+      below_literal l h,
+    )
+typed_if l fs out s before false false h k e a = absurd cc
+
 pub typed_sound : (l : ℕ) (fs : List Frame) (out : List Step) (s : State) (before : List Token)
-    → cond (nat_le literal_level l) (Some (state mode.Typing fs out)) None ≡ Some s
+    → typed_behind fs out (typed_mode l) ≡ Some s
     → HasOperand l fs out before [] → HoldsIn s (before ++ (sign sign.Typed ∷ []))
 typed_sound l fs out s before e a =
-    let c = chosen (nat_le literal_level l) (state mode.Typing fs out) s e in
-    along (state mode.Typing fs out) s (before ++ (sign sign.Typed ∷ [])) c.1
-    (l, operand_more l fs out before [] (sign sign.Typed ∷ []) a, fits_below literal_level l c.0)
+    typed_if l fs out s before (nat_le literal_level l) (nat_le atom_level l) refl refl e a
 
 pub behind_sign : (l : ℕ) (fs : List Frame) (out : List Step) (u : Sign) (s : State)
     (before : List Token) → behind l fs out (sign u) ≡ Some s → HasOperand l fs out before []

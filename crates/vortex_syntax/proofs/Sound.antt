@@ -18,9 +18,11 @@ use Rattle.vortex_syntax.proofs.Before.{HasOperand, settled_operand, Holds, Hold
 use Rattle.vortex_syntax.proofs.ItemsSound.{in_follows}
 use Rattle.vortex_syntax.proofs.NameSound.{named_operand, named_sound}
 use Rattle.vortex_syntax.proofs.SignsSound.{behind_sound, negating_sound}
-use Rattle.vortex_syntax.proofs.OperandsSound.{wanted_sound, signed_sound, type_sound, is_follows}
-use Rattle.vortex_syntax.proofs.OperandsSound.{distinct_follows, cast_follows, cast_type_sound}
-use Rattle.vortex_syntax.proofs.OperandsSound.{cast_end_sound, escaping_sound}
+use Rattle.vortex_syntax.proofs.OperandsSound.{wanted_sound, signed_sound, is_follows}
+use Rattle.vortex_syntax.proofs.OperandsSound.{distinct_follows}
+use Rattle.vortex_syntax.proofs.OperandsSound.{escaping_sound}
+use Rattle.vortex_syntax.proofs.CastsSound.{type_sound, conversion_sound, cast_follows}
+use Rattle.vortex_syntax.proofs.CastsSound.{cast_type_sound, cast_end_sound}
 
 -- each token
 pub step_sound : (m : Mode) (fs : List Frame) (out : List Step) (t : Token) (s : State)
@@ -32,15 +34,18 @@ step_sound mode.Signed fs out t s before e h = signed_sound fs out t s before e 
 step_sound (mode.Have l) fs out t s before e h = behind_sound l fs out t s before e h
 step_sound mode.Named fs out t s before e h = named_sound fs out t s before e h
 step_sound mode.Typing fs out t s before e h = type_sound h.0 fs out t s before e h.1 h.2
+step_sound (mode.Converting l) fs out t s before e h =
+    conversion_sound l fs out t s before e h.0 h.1 h.2
 step_sound (mode.Is n) fs out t s before e h = is_follows n h.0 fs out t s before e h.1 h.2 h.3
 step_sound (mode.Distinct n) fs out t s before e h =
     distinct_follows n h.0 fs out t s before e h.1 h.2 h.3
 step_sound (mode.Listing n) fs out t s before e h = in_follows n h.0 fs out t s before e h.1 h.2 h.3
 step_sound (mode.Negating l) fs out t s before e h = negating_sound l fs out t s before e h.0
-step_sound mode.Casting fs out t s before e h = cast_follows fs out t s before e h
-step_sound mode.CastType fs out t s before e h = cast_type_sound h.0 fs out t s before e h.1 h.2
+step_sound (mode.Casting p) fs out t s before e h = cast_follows p fs out t s before e h
+step_sound (mode.CastType p) fs out t s before e h =
+    cast_type_sound p h.0 fs out t s before e h.1 h.2
 step_sound mode.CastEnd fs out t s before e h =
-    cast_end_sound h.0 h.1 h.2 fs out t s before e h.3 h.4
+    cast_end_sound h.3 h.0 h.1 h.2 fs out t s before e h.4 h.5
 step_sound (mode.Escaping k) fs out t s before e h = escaping_sound k fs out t s before e h
 
 -- the end

@@ -4,6 +4,7 @@ use Rattle.std.proofs.Common.{ap, ◌∙◌, append_assoc, arith}
 use Rattle.vortex_syntax.specs.declared.step.WrittenOperator.{WrittenOperator}
 use Rattle.vortex_syntax.specs.declared.step.WrittenOperator.TheVariants as operator
 use Rattle.vortex_syntax.specs.declared.step.Test.TheVariants as test
+use Rattle.vortex_syntax.specs.declared.step.BetweenKind.{BetweenKind}
 use Rattle.vortex_syntax.specs.declared.step.LikeKind.{LikeKind}
 use Rattle.vortex_syntax.specs.declared.step.Call.TheVariants as call
 use Rattle.vortex_syntax.specs.declared.token.Sign.TheVariants as sign
@@ -18,14 +19,16 @@ use Rattle.vortex_syntax.specs.Levels.{bit_not_level, IsTested}
 use Rattle.vortex_syntax.specs.Levels.{not_level, distinct_level, is_level, predicate_level}
 use Rattle.vortex_syntax.specs.Levels.{concat_level, atom_level, literal_level}
 use Rattle.vortex_syntax.specs.Spelling.{operator_sign, type_token, with_not, is_tokens, test_token}
-use Rattle.vortex_syntax.specs.Spelling.{null_test_sign, function_tokens}
+use Rattle.vortex_syntax.specs.Spelling.{null_test_sign, function_tokens, between_tokens, cast_sign}
 use Rattle.vortex_syntax.specs.Spelling.{test_tokens, distinct_tokens, in_tokens, like_sign}
 use Rattle.vortex_syntax.specs.Postfix.{Step, operand, negative, typed, cast, escaped, applied}
 use Rattle.vortex_syntax.specs.Postfix.{listed, called, test_of}
 use Rattle.vortex_syntax.specs.Reading as specs
 use Rattle.vortex_syntax.specs.Reading.{state, settled, shifted, joining, and_behind, predicate}
+use Rattle.std.proofs.Common.{cond}
+use Rattle.vortex_syntax.specs.Reading.{between_kind}
 use Rattle.vortex_syntax.specs.Reading.{word_after, next, finish, run, call_of, mode_behind}
-use Rattle.vortex_syntax.proofs.Tables.{reach, at_most, atom_ceiling}
+use Rattle.vortex_syntax.proofs.Tables.{reach, at_most, over, atom_ceiling}
 use Rattle.vortex_syntax.proofs.LastName.{name_last}
 use Rattle.vortex_syntax.proofs.Closes.{settled_none, shifts, ran, want, have}
 
@@ -34,7 +37,7 @@ and_joins : (l : ℕ) (fs : List Frame) (out : List Step) → and_level ≤ l �
 and_joins l [] out h k = rw (at_most and_level l h) refl
 and_joins l (frame.Between n ∷ fs) out h k = absurd (let j : ⊥ = omega (arith, k) in j)
 and_joins l (frame.Open ∷ fs) out h k = rw (at_most and_level l h) refl
-and_joins l (frame.Cast ∷ fs) out h k = rw (at_most and_level l h) refl
+and_joins l (frame.Cast p ∷ fs) out h k = rw (at_most and_level l h) refl
 and_joins l (frame.Not ∷ fs) out h k = absurd (let j : ⊥ = omega (arith, k) in j)
 and_joins l (frame.Minus ∷ fs) out h k = absurd (let j : ⊥ = omega (arith, k) in j)
 and_joins l (frame.Plus ∷ fs) out h k = absurd (let j : ⊥ = omega (arith, k) in j)
@@ -77,13 +80,33 @@ predicate_read : (f : Frame) (l : ℕ) (fs : List Frame) (out : List Step) (ts :
 predicate_read f l fs out ts h k =
     ap (ran ts) (shifts predicate_level concat_level f l fs out h k)
 
-pub step_between : (n : Bool) (l : ℕ) (fs : List Frame) (out : List Step) (ts : List Token)
+-- `between` without `symmetric`
+plain_between : (n : Bool) (l : ℕ) (fs : List Frame) (out : List Step) (ts : List Token)
     → concat_level ≤ l → top_hole fs ≤ predicate_level
-    → have l fs out (with_not n sign.Between ++ ts) ≡ want (frame.Between n ∷ fs) out ts
+    → have l fs out (with_not n sign.Between ++ ts)
+    ≡ want (frame.Between (between_kind n false) ∷ fs) out ts
 unfolding run next word_after predicate
-step_between true l fs out ts h k = step_negating l fs out (sign sign.Between ∷ ts) h k
-    ∙ predicate_read (frame.Between true) l fs out ts h k
-step_between false l fs out ts h k = predicate_read (frame.Between false) l fs out ts h k
+plain_between true l fs out ts h k = step_negating l fs out (sign sign.Between ∷ ts) h k
+    ∙ predicate_read (frame.Between (between_kind true false)) l fs out ts h k
+plain_between false l fs out ts h k =
+    predicate_read (frame.Between (between_kind false false)) l fs out ts h k
+
+symmetric_read : (n s : Bool) (fs : List Frame) (out : List Step) (ts : List Token)
+    → want (frame.Between (between_kind n false) ∷ fs) out
+    (cond s (sign sign.Symmetric ∷ []) [] ++ ts)
+    ≡ want (frame.Between (between_kind n s) ∷ fs) out ts
+unfolding run next
+symmetric_read n true fs out ts = refl
+symmetric_read n false fs out ts = refl
+
+pub step_between : (k : BetweenKind) (l : ℕ) (fs : List Frame) (out : List Step)
+    (ts : List Token) → concat_level ≤ l → top_hole fs ≤ predicate_level
+    → have l fs out (between_tokens k ++ ts) ≡ want (frame.Between k ∷ fs) out ts
+step_between k l fs out ts h j =
+    let last : List Token = cond k.symmetric (sign sign.Symmetric ∷ []) [] in
+    ap (have l fs out) (append_assoc (with_not k.negated sign.Between) last ts)
+    ∙ plain_between k.negated l fs out (last ++ ts) h j
+    ∙ symmetric_read k.negated k.symmetric fs out ts
 
 pub step_like : (n i : Bool) (l : ℕ) (fs : List Frame) (out : List Step) (ts : List Token)
     → concat_level ≤ l → top_hole fs ≤ predicate_level
@@ -115,10 +138,10 @@ step_in false l fs out ts h k =
     (settled_none predicate_level l fs out k)
     ∙ rw (at_most concat_level l h, at_most (top_hole fs) predicate_level k) refl
 
-pub step_bound : (n : Bool) (l : ℕ) (fs : List Frame) (out : List Step) (ts : List Token)
-    → have l (frame.Between n ∷ fs) out (sign sign.And ∷ ts) ≡ want (frame.Bounded n ∷ fs) out ts
+pub step_bound : (k : BetweenKind) (l : ℕ) (fs : List Frame) (out : List Step) (ts : List Token)
+    → have l (frame.Between k ∷ fs) out (sign sign.And ∷ ts) ≡ want (frame.Bounded k ∷ fs) out ts
 unfolding run next word_after settled
-step_bound n l fs out ts = refl
+step_bound k l fs out ts = refl
 
 is_read : (n : Bool) (l : ℕ) (fs : List Frame) (out : List Step) (ts : List Token) → is_level ≤ l
     → top_hole fs ≤ is_level → have l fs out (is_tokens n ++ ts) ≡ run (state (mode.Is n) fs out) ts
@@ -192,13 +215,24 @@ unfolding run next word_after
 step_typed l fs out w true ts h = rw (at_most literal_level l h) refl
 step_typed l fs out w false ts h = rw (at_most literal_level l h) refl
 
-pub step_cast : (l : ℕ) (fs : List Frame) (out : List Step) (w : List ℕ) (n : Bool)
+pub step_converted : (l : ℕ) (fs : List Frame) (out : List Step) (w : List ℕ) (n : Bool)
     (ts : List Token)
-    → have l (frame.Cast ∷ fs) out (sign sign.As ∷ type_token w n ∷ sign sign.Close ∷ ts)
-    ≡ have atom_level fs (out ++ (cast w n ∷ [])) ts
+    → atom_level ≤ l → l ≤ typed_level
+    → have l fs out (sign sign.Typed ∷ type_token w n ∷ ts)
+    ≡ have l fs (out ++ (cast false w n ∷ [])) ts
+unfolding run next word_after
+step_converted l fs out w true ts h k =
+    rw (over literal_level l (omega (arith, k)), at_most atom_level l h) refl
+step_converted l fs out w false ts h k =
+    rw (over literal_level l (omega (arith, k)), at_most atom_level l h) refl
+
+pub step_cast : (p : Bool) (l : ℕ) (fs : List Frame) (out : List Step) (w : List ℕ) (n : Bool)
+    (ts : List Token)
+    → have l (frame.Cast p ∷ fs) out (sign sign.As ∷ type_token w n ∷ sign sign.Close ∷ ts)
+    ≡ have atom_level fs (out ++ (cast p w n ∷ [])) ts
 unfolding run next word_after settled
-step_cast l fs out w true ts = refl
-step_cast l fs out w false ts = refl
+step_cast p l fs out w true ts = refl
+step_cast p l fs out w false ts = refl
 
 pub step_escape : (k : LikeKind) (e : List ℕ) (l : ℕ) (fs : List Frame) (out : List Step)
     (ts : List Token)
@@ -270,10 +304,11 @@ pub step_open : (fs : List Frame) (out : List Step) (ts : List Token)
 unfolding run next
 step_open fs out ts = refl
 
-pub step_cast_open : (fs : List Frame) (out : List Step) (ts : List Token)
-    → want fs out (sign sign.Cast ∷ sign sign.Open ∷ ts) ≡ want (frame.Cast ∷ fs) out ts
+pub step_cast_open : (p : Bool) (fs : List Frame) (out : List Step) (ts : List Token)
+    → want fs out (sign (cast_sign p) ∷ sign sign.Open ∷ ts) ≡ want (frame.Cast p ∷ fs) out ts
 unfolding run next
-step_cast_open fs out ts = refl
+step_cast_open true fs out ts = refl
+step_cast_open false fs out ts = refl
 
 together_read : (w : List ℕ) (fs : List Frame) (out : List Step) (ts : List Token)
     → want fs out (function w ∷ ts) ≡ want (frame.Arguments w 0 ∷ fs) out ts

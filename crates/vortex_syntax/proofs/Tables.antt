@@ -48,7 +48,7 @@ tight f n h le ne nb nm = absurd (let k : ⊥ = omega (arith, h) in k)
 
 pub guard_hole : (f : Frame) → guard f ≤ hole f
 guard_hole frame.Open = lit≤ tt
-guard_hole frame.Cast = lit≤ tt
+guard_hole (frame.Cast p) = lit≤ tt
 guard_hole frame.Not = lit≤ tt
 guard_hole frame.Minus = lit≤ tt
 guard_hole frame.Plus = lit≤ tt
@@ -102,6 +102,7 @@ operand_literal t = lit≤ tt
 pub level_literal : (t : Syntax) → level t ≤ literal_level
 level_literal (tree.operand t) = operand_literal t
 level_literal (tree.joined o a b) = omega (arith, own_product o)
+level_literal (tree.converted a w n) = level_literal a
 level_literal t = lit≤ tt
 
 -- the level of the sign that comes after an operand: only frames above it are closed. A bracket
@@ -134,7 +135,7 @@ reach_of sign.Minus = sum_level
 reach_of sign.Times = product_level
 reach_of sign.Divide = product_level
 reach_of sign.Modulo = product_level
-reach_of sign.Typed = literal_level
+reach_of sign.Typed = atom_level
 reach_of sign.Open = 15
 reach_of _ = or_level
 
@@ -178,6 +179,9 @@ lower m n h = grind (arith, nat_tests)
 
 pub not_lower : (m n : ℕ) → n ≤ m → nat_lt m n ≡ false
 not_lower m n h = grind (arith, nat_tests)
+
+pub over : (m n : ℕ) → n < m → nat_le m n ≡ false
+over m n h = grind (arith, nat_tests)
 
 pub at_most : (m n : ℕ) → m ≤ n → nat_le m n ≡ true
 at_most m n h = grind (arith, nat_tests)

@@ -118,6 +118,10 @@ plain_piece sign.Else rest s = known_piece (codes "else") rest (Some sign.Else) 
 plain_piece sign.End rest s = known_piece (codes "end") rest (Some sign.End) refl refl s
 plain_piece sign.IsNull rest s = known_piece (codes "isnull") rest (Some sign.IsNull) refl refl s
 plain_piece sign.NotNull rest s = known_piece (codes "notnull") rest (Some sign.NotNull) refl refl s
+plain_piece sign.TryCast rest s =
+    known_piece (codes "try_cast") rest (Some sign.TryCast) refl refl s
+plain_piece sign.Symmetric rest s =
+    known_piece (codes "symmetric") rest (Some sign.Symmetric) refl refl s
 plain_piece sign.From rest s = known_piece (codes "from") rest (Some sign.From) refl refl s
 plain_piece sign.Equal rest s = equal_piece rest s
 plain_piece sign.NotEqual rest s = refl
@@ -156,6 +160,7 @@ sign_piece e sign.Open rest f = open_piece rest
 sign_piece e sign.Typed rest f = typed_piece rest
 sign_piece e sign.Minus rest f = minus_piece rest (minus_follows e rest f)
 sign_piece e sign.Cast rest f = plain_piece sign.Cast rest f
+sign_piece e sign.TryCast rest f = plain_piece sign.TryCast rest f
 sign_piece e s rest f = plain_piece s rest f.0
 
 token_piece : (e : Ending) (t : Token) (rest : List ℕ) → IsWritable t

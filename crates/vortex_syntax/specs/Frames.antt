@@ -1,6 +1,7 @@
 -- Frames that wait for an operand while a text is read.
 use Rattle.std.specs.Prelude.{ℕ, List, [], ◌∷◌, Bool}
 use Rattle.vortex_syntax.specs.declared.step.WrittenOperator.{WrittenOperator}
+use Rattle.vortex_syntax.specs.declared.step.BetweenKind.{BetweenKind}
 use Rattle.vortex_syntax.specs.declared.step.LikeKind.{LikeKind}
 use Rattle.vortex_syntax.specs.declared.frame.CasePart.{CasePart}
 use Rattle.vortex_syntax.specs.declared.frame.Frame as held
@@ -11,20 +12,20 @@ use Rattle.vortex_syntax.specs.Levels.{predicate_level, concat_level, sign_level
 use Rattle.vortex_syntax.specs.Levels.{bit_not_level, literal_level}
 use Rattle.vortex_syntax.specs.Postfix.{Step, called}
 
--- Between is before its `and`, Bounded after it; Arguments is a call of that name, after as many
+-- Cast is by `try_cast` if the flag is true; Between is before its `and`, Bounded after it; Arguments is a call of that name, after as many
 -- arguments; Items are those of IN, after as many; Case is before that part of a CASE, which has an
 -- operand if the flag is true, after as many values
 pub data Frame : Type 0 where
   Open : Frame
-  Cast : Frame
+  Cast : Bool → Frame
   Not : Frame
   Minus : Frame
   Plus : Frame
   BitNot : Frame
   Join : WrittenOperator → Frame
   Distinct : Bool → Frame
-  Between : Bool → Frame
-  Bounded : Bool → Frame
+  Between : BetweenKind → Frame
+  Bounded : BetweenKind → Frame
   Like : LikeKind → Frame
   Arguments : List ℕ → ℕ → Frame
   Items : Bool → ℕ → Frame
@@ -32,15 +33,15 @@ pub data Frame : Type 0 where
 
 abbrev pub frame_in : held.Frame → Frame
 frame_in variant.Open = Open
-frame_in variant.Cast = Cast
+frame_in (variant.Cast p) = Cast p
 frame_in variant.Not = Not
 frame_in variant.Minus = Minus
 frame_in variant.Plus = Plus
 frame_in variant.BitNot = BitNot
 frame_in (variant.Join o) = Join o
 frame_in (variant.Distinct n) = Distinct n
-frame_in (variant.Between n) = Between n
-frame_in (variant.Bounded n) = Bounded n
+frame_in (variant.Between k) = Between k
+frame_in (variant.Bounded k) = Bounded k
 frame_in (variant.Like k) = Like k
 frame_in (variant.Arguments w n) = Arguments w.now n
 frame_in (variant.Items n k) = Items n k
@@ -49,15 +50,15 @@ frame_in (variant.Case p n k) = Case p n k
 -- the least level of an operand that a frame waits for
 abbrev pub hole : Frame → ℕ
 hole Open = 0
-hole Cast = 0
+hole (Cast p) = 0
 hole Not = not_level
 hole Minus = sign_level
 hole Plus = sign_level
 hole BitNot = bit_not_level
 hole (Join o) = right o
 hole (Distinct n) = comparison_level
-hole (Between n) = concat_level
-hole (Bounded n) = concat_level
+hole (Between k) = concat_level
+hole (Bounded k) = concat_level
 hole (Like k) = concat_level
 hole (Arguments w n) = 0
 hole (Items n k) = 0
@@ -80,15 +81,15 @@ top_ceiling (f ∷ fs) = ceiling f
 -- missing
 abbrev pub guard : Frame → ℕ
 guard Open = 0
-guard Cast = 0
+guard (Cast p) = 0
 guard Not = not_level
 guard Minus = sign_level
 guard Plus = sign_level
 guard BitNot = bit_not_level
 guard (Join o) = right o
 guard (Distinct n) = comparison_level
-guard (Between n) = 0
-guard (Bounded n) = concat_level
+guard (Between k) = 0
+guard (Bounded k) = concat_level
 guard (Like k) = concat_level
 guard (Arguments w n) = 0
 guard (Items n k) = 0
@@ -97,15 +98,15 @@ guard (Case p n k) = 0
 -- the level of a frame with its operand, and its step
 abbrev pub whole : Frame → ℕ
 whole Open = atom_level
-whole Cast = atom_level
+whole (Cast p) = atom_level
 whole Not = not_level
 whole Minus = sign_level
 whole Plus = sign_level
 whole BitNot = bit_not_level
 whole (Join o) = own o
 whole (Distinct n) = distinct_level
-whole (Between n) = predicate_level
-whole (Bounded n) = predicate_level
+whole (Between k) = predicate_level
+whole (Bounded k) = predicate_level
 whole (Like k) = predicate_level
 whole (Arguments w n) = atom_level
 whole (Items n k) = predicate_level
@@ -113,15 +114,15 @@ whole (Case p n k) = atom_level
 
 abbrev pub closing : Frame → Step
 closing Open = called call.Not
-closing Cast = called call.Not
+closing (Cast p) = called call.Not
 closing Not = called call.Not
 closing Minus = called call.Minus
 closing Plus = called call.Plus
 closing BitNot = called call.BitNot
 closing (Join o) = called (call.Join o)
 closing (Distinct n) = called (call.Distinct n)
-closing (Between n) = called (call.Between n)
-closing (Bounded n) = called (call.Between n)
+closing (Between k) = called (call.Between k)
+closing (Bounded k) = called (call.Between k)
 closing (Like k) = called (call.Like k)
 closing (Arguments w n) = called call.Not
 closing (Items n k) = called call.Not

@@ -34,4 +34,6 @@ keyword_of w =
     else (if same_word w (codes "end") then Some sign.End
     else (if same_word w (codes "isnull") then Some sign.IsNull
     else (if same_word w (codes "notnull") then Some sign.NotNull
-    else None))))))))))))))))))))))
+    else (if same_word w (codes "try_cast") then Some sign.TryCast
+    else (if same_word w (codes "symmetric") then Some sign.Symmetric
+    else None))))))))))))))))))))))))

@@ -9,7 +9,7 @@ use Rattle.vortex_syntax.specs.Keywords.{same_word}
 use Rattle.vortex_syntax.specs.Syntax.{Syntax, operand, negative, minus, typed, grouped, negated}
 use Rattle.vortex_syntax.specs.Syntax.{joined, tested, distinct, between, matched, listed, cast}
 use Rattle.vortex_syntax.specs.Syntax.{plus, bit_not, null_tested, Tested, Null, True, False}
-use Rattle.vortex_syntax.specs.Syntax.{Unknown}
+use Rattle.vortex_syntax.specs.Syntax.{Unknown, converted}
 use Rattle.vortex_syntax.specs.Syntax.{nullary, chosen, chosen_else, applied, Arguments}
 use Rattle.vortex_syntax.specs.Syntax.{no_arguments, argument, Branches, without_operand}
 use Rattle.vortex_syntax.specs.Syntax.{of_operand, branch}
@@ -152,10 +152,11 @@ level (joined o a b) = own o
 level (tested k n a) = is_level
 level (null_tested n a) = is_level
 level (distinct n a b) = distinct_level
-level (between n a low high) = predicate_level
+level (between k a low high) = predicate_level
 level (matched k a p e) = predicate_level
 level (listed n a args b) = predicate_level
-level (cast a w n) = atom_level
+level (cast p a w n) = atom_level
+level (converted a w n) = level a
 level (chosen bs c v) = atom_level
 level (chosen_else bs c v e) = atom_level
 level (nullary p w) = atom_level
@@ -183,12 +184,13 @@ abbrev mutual
   Fits (tested k n a) = (is_level ≤ level a) × Fits a × IsTested k
   Fits (null_tested n a) = (is_level ≤ level a) × Fits a
   Fits (distinct n a b) = (is_level ≤ level a) × (comparison_level ≤ level b) × Fits a × Fits b
-  Fits (between n a low high) =
+  Fits (between k a low high) =
       (concat_level ≤ level a) × (concat_level ≤ level low) × (concat_level ≤ level high) × Fits a
       × Fits low × Fits high
   Fits (matched k a p e) = (concat_level ≤ level a) × (concat_level ≤ level p) × Fits a × Fits p
   Fits (listed n a args b) = (concat_level ≤ level a) × Fits a × AllFit args × Fits b
-  Fits (cast a w n) = Fits a
+  Fits (cast p a w n) = Fits a
+  Fits (converted a w n) = (atom_level ≤ level a) × (level a ≤ typed_level) × Fits a
   Fits (chosen bs c v) = BranchesFit bs × Fits c × Fits v
   Fits (chosen_else bs c v e) = BranchesFit bs × Fits c × Fits v × Fits e
   Fits (nullary p w) = Unit {0}

@@ -16,7 +16,7 @@ pub data Step : Type 0 where
   operand : Token → Step
   negative : List ℕ → Step
   typed : List ℕ → Bool → Step
-  cast : List ℕ → Bool → Step
+  cast : Bool → List ℕ → Bool → Step
   escaped : LikeKind → List ℕ → Step
   applied : List ℕ → ℕ → Step
   listed : Bool → ℕ → Step
@@ -27,7 +27,7 @@ abbrev pub step_in : read.Step → Step
 step_in (variant.Operand t) = operand (token_in t)
 step_in (variant.Negative ds) = negative ds.now
 step_in (variant.Typed w n) = typed w.now n
-step_in (variant.Cast w n) = cast w.now n
+step_in (variant.Cast p w n) = cast p w.now n
 step_in (variant.Escaped k e) = escaped k e.now
 step_in (variant.Apply w n) = applied w.now n
 step_in (variant.In n k) = listed n k
@@ -72,12 +72,13 @@ abbrev mutual
   postfix (tree.tested k n a) = postfix a ++ (called (call.Is (test_of k) n) ∷ [])
   postfix (tree.null_tested n a) = postfix a ++ (called (call.Is test.Null n) ∷ [])
   postfix (tree.distinct n a b) = postfix a ++ (postfix b ++ (called (call.Distinct n) ∷ []))
-  postfix (tree.between n a low high) =
-      postfix a ++ (postfix low ++ (postfix high ++ (called (call.Between n) ∷ [])))
+  postfix (tree.between k a low high) =
+      postfix a ++ (postfix low ++ (postfix high ++ (called (call.Between k) ∷ [])))
   postfix (tree.matched k a p e) = postfix a ++ (postfix p ++ (like_step k e ∷ []))
   postfix (tree.listed n a args b) =
       postfix a ++ (all_postfix args ++ (postfix b ++ (listed n (suc (argument_count args)) ∷ [])))
-  postfix (tree.cast a w n) = postfix a ++ (cast w n ∷ [])
+  postfix (tree.cast p a w n) = postfix a ++ (cast p w n ∷ [])
+  postfix (tree.converted a w n) = postfix a ++ (cast false w n ∷ [])
   postfix (tree.chosen bs c v) =
       branches_postfix bs ++ (postfix c ++ (postfix v
       ++ (chosen (has_operand bs) (suc (branch_count bs)) false ∷ [])))

@@ -8,6 +8,7 @@ use Rattle.vortex_syntax.specs.declared.step.WrittenOperator.{WrittenOperator}
 use Rattle.vortex_syntax.specs.declared.step.WrittenOperator.TheVariants as operator
 use Rattle.vortex_syntax.specs.declared.step.Test.{Test}
 use Rattle.vortex_syntax.specs.declared.step.Test.TheVariants as test
+use Rattle.vortex_syntax.specs.declared.step.BetweenKind.{BetweenKind}
 use Rattle.vortex_syntax.specs.declared.step.LikeKind.{LikeKind}
 use Rattle.vortex_syntax.specs.declared.step.Call.TheVariants as call
 use Rattle.vortex_syntax.specs.declared.token.Sign.{Sign}
@@ -89,7 +90,7 @@ joining o = shifted (own o) (left o) (frame.Join o)
 -- `and` ends the lower bound of a pending BETWEEN, or else joins
 abbrev pub and_behind : ℕ → List Frame → List Step → Option State
 and_behind l [] out = waiting and_level and_level (frame.Join operator.And) (operand_of l [] out)
-and_behind l (frame.Between n ∷ fs) out = Some (state mode.Want (frame.Bounded n ∷ fs) out)
+and_behind l (frame.Between k ∷ fs) out = Some (state mode.Want (frame.Bounded k ∷ fs) out)
 and_behind l (f ∷ fs) out =
     waiting and_level and_level (frame.Join operator.And) (operand_of l (f ∷ fs) out)
 
@@ -157,7 +158,7 @@ case_word (f ∷ fs) out s = None
 
 abbrev pub as_behind : List Frame → List Step → Option State
 as_behind [] out = None
-as_behind (frame.Cast ∷ fs) out = Some (state mode.CastType fs out)
+as_behind (frame.Cast p ∷ fs) out = Some (state (mode.CastType p) fs out)
 as_behind (f ∷ fs) out = None
 
 abbrev pub escape_behind : List Frame → List Step → Option State
@@ -173,9 +174,12 @@ end_behind (f ∷ fs) out = None
 abbrev pub like_kind : Bool → Bool → LikeKind
 like_kind n i = record { negated = n; case_insensitive = i }
 
+abbrev pub between_kind : Bool → Bool → BetweenKind
+between_kind n s = record { negated = n; symmetric = s }
+
 unfoldable pub predicate : Bool → ℕ → List Frame → List Step → Sign → Option State
 predicate n level fs out sign.Between =
-    shifted predicate_level concat_level (frame.Between n) level fs out
+    shifted predicate_level concat_level (frame.Between (between_kind n false)) level fs out
 predicate n level fs out sign.Like =
     shifted predicate_level concat_level (frame.Like (like_kind n false)) level fs out
 predicate n level fs out sign.Ilike =
@@ -183,6 +187,15 @@ predicate n level fs out sign.Ilike =
 predicate n level fs out sign.In =
     let a = settled predicate_level level fs out in in_behind n a.level a.frames a.steps
 predicate n level fs out s = None
+
+-- two colons give a literal its type, and cast what else binds as tightly
+abbrev pub typed_mode : ℕ → Option Mode
+typed_mode level =
+    if nat_le literal_level level then Some mode.Typing
+    else (if nat_le atom_level level then Some (mode.Converting level) else None)
+
+abbrev pub typed_behind : List Frame → List Step → Option Mode → Option State
+typed_behind fs out m = option_map (λ t. state t fs out) m
 
 unfoldable pub word_after : ℕ → List Frame → List Step → Sign → Option State
 word_after level fs out sign.And =
@@ -212,7 +225,7 @@ word_after level fs out sign.End =
 word_after level fs out sign.Escape =
     let a = settled concat_level level fs out in escape_behind a.frames a.steps
 word_after level fs out sign.Typed =
-    if nat_le literal_level level then Some (state mode.Typing fs out) else None
+    typed_behind fs out (typed_mode level)
 word_after level fs out s = predicate false level fs out s
 
 abbrev pub operator_or_word : ℕ → List Frame → List Step → Sign → Option WrittenOperator
@@ -253,6 +266,14 @@ when_expected [] out = None
 when_expected (frame.Case part.Operand n k ∷ fs) out = case_waits part.When false 0 fs out
 when_expected (f ∷ fs) out = None
 
+-- the `symmetric` after `between`
+abbrev pub symmetric_expected : List Frame → List Step → Option State
+symmetric_expected [] out = None
+symmetric_expected (frame.Between k ∷ fs) out =
+    if k.symmetric then None
+    else Some (state mode.Want (frame.Between (between_kind k.negated true) ∷ fs) out)
+symmetric_expected (f ∷ fs) out = None
+
 -- an operand's first token
 abbrev pub sign_expected : List Frame → List Step → Sign → Option State
 sign_expected fs out sign.Minus = Some (state mode.Signed fs out)
@@ -263,7 +284,9 @@ sign_expected fs out sign.BitNot =
 sign_expected fs out sign.Not =
     if nat_le (top_hole fs) not_level then Some (state mode.Want (frame.Not ∷ fs) out) else None
 sign_expected fs out sign.Open = Some (state mode.Want (frame.Open ∷ fs) out)
-sign_expected fs out sign.Cast = Some (state mode.Casting fs out)
+sign_expected fs out sign.Cast = Some (state (mode.Casting false) fs out)
+sign_expected fs out sign.TryCast = Some (state (mode.Casting true) fs out)
+sign_expected fs out sign.Symmetric = symmetric_expected fs out
 sign_expected fs out sign.Case = case_waits part.Operand false 0 fs out
 sign_expected fs out sign.When = when_expected fs out
 sign_expected fs out sign.Close = close_expected fs out
@@ -303,10 +326,17 @@ type_expected fs out (nullable w) =
     Some (state (mode.Have typed_level) fs (out ++ (typed w true ∷ [])))
 type_expected fs out t = None
 
-abbrev pub cast_expected : List Frame → List Step → Token → Option State
-cast_expected fs out (name w) = Some (state mode.CastEnd fs (out ++ (cast w false ∷ [])))
-cast_expected fs out (nullable w) = Some (state mode.CastEnd fs (out ++ (cast w true ∷ [])))
-cast_expected fs out t = None
+abbrev pub conversion_expected : ℕ → List Frame → List Step → Token → Option State
+conversion_expected l fs out (name w) =
+    Some (state (mode.Have l) fs (out ++ (cast false w false ∷ [])))
+conversion_expected l fs out (nullable w) =
+    Some (state (mode.Have l) fs (out ++ (cast false w true ∷ [])))
+conversion_expected l fs out t = None
+
+abbrev pub cast_expected : Bool → List Frame → List Step → Token → Option State
+cast_expected p fs out (name w) = Some (state mode.CastEnd fs (out ++ (cast p w false ∷ [])))
+cast_expected p fs out (nullable w) = Some (state mode.CastEnd fs (out ++ (cast p w true ∷ [])))
+cast_expected p fs out t = None
 
 -- the words and signs that have only one possible successor
 abbrev pub tested : Test → Bool → List Frame → List Step → Option State
@@ -341,9 +371,9 @@ abbrev pub after_in : Bool → List Frame → List Step → Token → Option Sta
 after_in n fs out (sign sign.Open) = Some (state mode.Want (frame.Items n 0 ∷ fs) out)
 after_in n fs out t = None
 
-abbrev pub after_cast : List Frame → List Step → Token → Option State
-after_cast fs out (sign sign.Open) = Some (state mode.Want (frame.Cast ∷ fs) out)
-after_cast fs out t = None
+abbrev pub after_cast : Bool → List Frame → List Step → Token → Option State
+after_cast p fs out (sign sign.Open) = Some (state mode.Want (frame.Cast p ∷ fs) out)
+after_cast p fs out t = None
 
 abbrev pub after_cast_type : List Frame → List Step → Token → Option State
 after_cast_type fs out (sign sign.Close) = Some (state (mode.Have atom_level) fs out)
@@ -364,8 +394,9 @@ next (mode.Is n) fs out t = after_is n fs out t
 next (mode.Distinct n) fs out t = after_distinct n fs out t
 next (mode.Listing n) fs out t = after_in n fs out t
 next (mode.Negating level) fs out t = negating level fs out t
-next mode.Casting fs out t = after_cast fs out t
-next mode.CastType fs out t = cast_expected fs out t
+next (mode.Converting l) fs out t = conversion_expected l fs out t
+next (mode.Casting p) fs out t = after_cast p fs out t
+next (mode.CastType p) fs out t = cast_expected p fs out t
 next mode.CastEnd fs out t = after_cast_type fs out t
 next (mode.Escaping k) fs out t = after_escape k fs out t
 

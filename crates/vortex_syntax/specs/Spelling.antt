@@ -3,6 +3,7 @@ use Rattle.std.specs.Prelude.{ℕ, List, [], ◌∷◌, ◌++◌, Bool, true, fa
 use Rattle.std.specs.Prelude.{if◌then◌else◌}
 use Rattle.vortex_syntax.specs.declared.step.WrittenOperator.{WrittenOperator}
 use Rattle.vortex_syntax.specs.declared.step.WrittenOperator.TheVariants as operator
+use Rattle.vortex_syntax.specs.declared.step.BetweenKind.{BetweenKind}
 use Rattle.vortex_syntax.specs.declared.step.LikeKind.{LikeKind}
 use Rattle.vortex_syntax.specs.declared.token.Sign.{Sign}
 use Rattle.vortex_syntax.specs.declared.token.Sign.TheVariants as sign
@@ -10,7 +11,7 @@ use Rattle.vortex_syntax.specs.Tokens.{Token, name, nullable, function, number, 
 use Rattle.vortex_syntax.specs.Syntax.{Syntax, operand, negative, minus, typed, grouped, negated}
 use Rattle.vortex_syntax.specs.Syntax.{joined, tested, distinct, between, matched, listed, cast}
 use Rattle.vortex_syntax.specs.Syntax.{plus, bit_not, null_tested, Tested, Null, True, False}
-use Rattle.vortex_syntax.specs.Syntax.{Unknown}
+use Rattle.vortex_syntax.specs.Syntax.{Unknown, converted}
 use Rattle.vortex_syntax.specs.Syntax.{nullary, chosen, chosen_else, applied, Arguments}
 use Rattle.vortex_syntax.specs.Syntax.{no_arguments, argument, Branches, without_operand}
 use Rattle.vortex_syntax.specs.Syntax.{of_operand, branch}
@@ -88,6 +89,15 @@ distinct_tokens n = is_tokens n ++ (sign sign.Distinct ∷ sign sign.From ∷ []
 abbrev pub in_tokens : Bool → List Token
 in_tokens n = with_not n sign.In ++ (sign sign.Open ∷ [])
 
+-- `between`, with `not` and `symmetric` where they are meant
+abbrev pub between_tokens : BetweenKind → List Token
+between_tokens k =
+    with_not k.negated sign.Between ++ (if k.symmetric then sign sign.Symmetric ∷ [] else [])
+
+-- `try_cast` where that is true
+abbrev pub cast_sign : Bool → Sign
+cast_sign p = if p then sign.TryCast else sign.Cast
+
 abbrev pub like_sign : LikeKind → List Token
 like_sign k = with_not k.negated (if k.case_insensitive then sign.Ilike else sign.Like)
 
@@ -114,13 +124,14 @@ abbrev mutual
   spelling (tested k n a) = spelling a ++ test_tokens k n
   spelling (null_tested n a) = spelling a ++ (sign (null_test_sign n) ∷ [])
   spelling (distinct n a b) = spelling a ++ (distinct_tokens n ++ spelling b)
-  spelling (between n a low high) =
-      spelling a ++ (with_not n sign.Between ++ (spelling low ++ (sign sign.And ∷ spelling high)))
+  spelling (between k a low high) =
+      spelling a ++ (between_tokens k ++ (spelling low ++ (sign sign.And ∷ spelling high)))
   spelling (matched k a p e) = spelling a ++ (like_sign k ++ (spelling p ++ escape_tokens e))
   spelling (listed n a args b) =
       spelling a ++ (in_tokens n ++ (all_spelled args ++ (spelling b ++ (sign sign.Close ∷ []))))
-  spelling (cast a w n) =
-      sign sign.Cast ∷ sign sign.Open
+  spelling (converted a w n) = spelling a ++ (sign sign.Typed ∷ type_token w n ∷ [])
+  spelling (cast p a w n) =
+      sign (cast_sign p) ∷ sign sign.Open
       ∷ (spelling a ++ (sign sign.As ∷ type_token w n ∷ sign sign.Close ∷ []))
   spelling (chosen bs c v) =
       branches_spelled bs

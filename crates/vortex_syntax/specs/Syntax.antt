@@ -1,6 +1,7 @@
 -- Syntax trees, with the brackets as written.
 use Rattle.std.specs.Prelude.{ℕ, List, Bool, Option}
 use Rattle.vortex_syntax.specs.declared.step.WrittenOperator.{WrittenOperator}
+use Rattle.vortex_syntax.specs.declared.step.BetweenKind.{BetweenKind}
 use Rattle.vortex_syntax.specs.declared.step.LikeKind.{LikeKind}
 use Rattle.vortex_syntax.specs.Tokens.{Token}
 
@@ -21,10 +22,12 @@ pub data Tested : Type 0 where
 -- tested: IS NOT with that test, or IS where the flag is false
 -- null_tested: NOTNULL, or ISNULL where the flag is false
 -- distinct: IS NOT DISTINCT FROM, or IS DISTINCT FROM where the flag is false
--- between: NOT BETWEEN, or BETWEEN where the flag is false, of an operand and its two bounds
+-- between: BETWEEN of an operand and its two bounds
 -- matched: LIKE of an operand and a pattern, and the escape as written, if there is one
 -- listed: NOT IN, or IN where the flag is false, of an operand, some items and a last one
--- cast: a tree, cast to the type of that name, nullable if the flag is true
+-- cast: a tree, cast to the type of that name, nullable if the second flag is true; by `try_cast`
+-- where the first flag is true
+-- converted: cast by two colons, after a tree that is no literal without a type
 -- chosen: CASE of some branches and a last one, a condition and a value
 -- chosen_else: the same with a value after ELSE
 -- nullary: the function of that name, without arguments; its bracket stands apart where the flag is
@@ -44,10 +47,11 @@ mutual
     tested : Tested → Bool → Syntax → Syntax
     null_tested : Bool → Syntax → Syntax
     distinct : Bool → Syntax → Syntax → Syntax
-    between : Bool → Syntax → Syntax → Syntax → Syntax
+    between : BetweenKind → Syntax → Syntax → Syntax → Syntax
     matched : LikeKind → Syntax → Syntax → Option (List ℕ) → Syntax
     listed : Bool → Syntax → Arguments → Syntax → Syntax
-    cast : Syntax → List ℕ → Bool → Syntax
+    cast : Bool → Syntax → List ℕ → Bool → Syntax
+    converted : Syntax → List ℕ → Bool → Syntax
     chosen : Branches → Syntax → Syntax → Syntax
     chosen_else : Branches → Syntax → Syntax → Syntax → Syntax
     nullary : Bool → List ℕ → Syntax

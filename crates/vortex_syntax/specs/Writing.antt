@@ -36,6 +36,8 @@ sign_text sign.Else = codes "else"
 sign_text sign.End = codes "end"
 sign_text sign.IsNull = codes "isnull"
 sign_text sign.NotNull = codes "notnull"
+sign_text sign.TryCast = codes "try_cast"
+sign_text sign.Symmetric = codes "symmetric"
 sign_text sign.Equal = codes "="
 sign_text sign.NotEqual = codes "<>"
 sign_text sign.Less = codes "<"
@@ -116,6 +118,7 @@ abbrev pub sign_ending : Ending → Sign → Ending
 sign_ending e sign.Open = at.Tight
 sign_ending e sign.Typed = at.Tight
 sign_ending e sign.Cast = at.Called
+sign_ending e sign.TryCast = at.Called
 sign_ending e sign.Minus = minus_ending e
 sign_ending e sign.Close = at.Operand
 sign_ending e sign.Null = at.Operand

@@ -10,7 +10,7 @@ ghost use Rattle.vortex_syntax.specs.Reading.{frames_in, steps_in, seen, Gives, 
 use crate::frame::{Frame, Mode};
 use crate::levels::{AND, ATOM, CONCAT, IS, LITERAL, OR, PREDICATE, left, own};
 use crate::reading::Reading;
-use crate::step::{Call, LikeKind, Step, Test, WrittenOperator};
+use crate::step::{BetweenKind, Call, LikeKind, Step, Test, WrittenOperator};
 use crate::token::{Sign, Token};
 use std::alloc::AllocError;
 
@@ -41,6 +41,19 @@ fn operator_of(sign: Sign) -> Option<WrittenOperator>
     }
 }
 
+/// What follows two colons after an operand of that level.
+fn type_of(level: u8) -> Option<Mode>
+    ensures { result ≡ specs.typed_mode level }
+{
+    if level >= LITERAL {
+        Some(Mode::Typing)
+    } else if level >= ATOM {
+        Some(Mode::Converting(level))
+    } else {
+        None
+    }
+}
+
 /// The count after one more argument, item or value. Memory runs out before counts do.
 pub(crate) fn one_more(count: usize) -> Result<usize, AllocError>
     ensures { IfOk result (λ n. n ≡ suc count) }
@@ -57,10 +70,10 @@ impl<'a> Reading<'a> {
         ensures { Gives result self.new
             (and_behind level (frames_in self.old) (steps_in self.old)) }
     {
-        if let Some(Frame::Between(negated)) = self.top() {
+        if let Some(Frame::Between(kind)) = self.top() {
             self.at = self.top_sign();
             self.drop_top();
-            self.wait(Frame::Bounded(negated))?;
+            self.wait(Frame::Bounded(kind))?;
             return Ok(Some(Mode::Want));
         }
         self.wait_if(AND, AND, Frame::Join(WrittenOperator::And), level)
@@ -161,9 +174,9 @@ impl<'a> Reading<'a> {
             ≡ specs.as_behind (frames_in self.old) (steps_in self.old) }
     {
         match self.top() {
-            Some(Frame::Cast) => {
+            Some(Frame::Cast(tried)) => {
                 self.drop_top();
-                Some(Mode::CastType)
+                Some(Mode::CastType(tried))
             }
             _ => None,
         }
@@ -207,7 +220,10 @@ impl<'a> Reading<'a> {
             (specs.predicate negated level (frames_in self.old) (steps_in self.old) sign) }
     {
         let frame = match sign {
-            Sign::Between => Frame::Between(negated),
+            Sign::Between => Frame::Between(BetweenKind {
+                negated,
+                symmetric: false,
+            }),
             Sign::Like => Frame::Like(LikeKind {
                 negated,
                 case_insensitive: false,
@@ -272,11 +288,7 @@ impl<'a> Reading<'a> {
                 let _level = self.settle(OR, level)?;
                 self.case_word(sign)
             }
-            Sign::Typed => Ok(if level < LITERAL {
-                None
-            } else {
-                Some(Mode::Typing)
-            }),
+            Sign::Typed => Ok(type_of(level)),
             _ => self.predicate(false, level, sign),
         }
     }

@@ -10,7 +10,7 @@ use crate::levels::{
 };
 use crate::pieces::is_same_word;
 use crate::reading::Reading;
-use crate::step::{Call, LikeKind, Step, Test};
+use crate::step::{BetweenKind, Call, LikeKind, Step, Test};
 use crate::token::{Sign, Token};
 use std::alloc::AllocError;
 
@@ -36,6 +36,25 @@ impl<'a> Reading<'a> {
                 self.drop_top();
                 self.emit(Step::Apply(name, 0))?;
                 Ok(Some(Mode::Have(ATOM)))
+            }
+            _ => Ok(None),
+        }
+    }
+
+    /// `symmetric` after `between`.
+    fn symmetric_expected(&mut self) -> Result<Option<Mode>, AllocError>
+        ensures { Gives result self.new
+            (specs.symmetric_expected (frames_in self.old) (steps_in self.old)) }
+    {
+        match self.top() {
+            Some(Frame::Between(kind)) if !kind.symmetric => {
+                self.at = self.top_sign();
+                self.drop_top();
+                self.wait(Frame::Between(BetweenKind {
+                    negated: kind.negated,
+                    symmetric: true,
+                }))?;
+                Ok(Some(Mode::Want))
             }
             _ => Ok(None),
         }
@@ -69,7 +88,9 @@ impl<'a> Reading<'a> {
                 self.wait(Frame::Open)?;
                 Ok(Some(Mode::Want))
             }
-            Sign::Cast => Ok(Some(Mode::Casting)),
+            Sign::Cast => Ok(Some(Mode::Casting(false))),
+            Sign::TryCast => Ok(Some(Mode::Casting(true))),
+            Sign::Symmetric => self.symmetric_expected(),
             Sign::Case => {
                 self.wait(Frame::Case(CasePart::Operand, false, 0))?;
                 Ok(Some(Mode::Want))
@@ -160,18 +181,44 @@ impl<'a> Reading<'a> {
         }
     }
 
-    /// The type to cast to.
-    pub fn cast_expected(&mut self, token: Token<'a>) -> Result<Option<Mode>, AllocError>
-        ensures { Gives result self.new
-            (specs.cast_expected (frames_in self.old) (steps_in self.old) (token_in token.entry)) }
+    /// The type to which two colons cast.
+    pub fn conversion_expected(
+        &mut self,
+        level: u8,
+        token: Token<'a>,
+    ) -> Result<Option<Mode>, AllocError>
+        ensures { Gives result self.new (specs.conversion_expected level (frames_in self.old)
+            (steps_in self.old) (token_in token.entry)) }
     {
         match token {
             Token::Name(word) => {
-                self.emit(Step::Cast(word, false))?;
+                self.emit(Step::Cast(false, word, false))?;
+                Ok(Some(Mode::Have(level)))
+            }
+            Token::Nullable(word) => {
+                self.emit(Step::Cast(false, word, true))?;
+                Ok(Some(Mode::Have(level)))
+            }
+            _ => Ok(None),
+        }
+    }
+
+    /// The type to cast to.
+    pub fn cast_expected(
+        &mut self,
+        tried: bool,
+        token: Token<'a>,
+    ) -> Result<Option<Mode>, AllocError>
+        ensures { Gives result self.new (specs.cast_expected tried (frames_in self.old)
+            (steps_in self.old) (token_in token.entry)) }
+    {
+        match token {
+            Token::Name(word) => {
+                self.emit(Step::Cast(tried, word, false))?;
                 Ok(Some(Mode::CastEnd))
             }
             Token::Nullable(word) => {
-                self.emit(Step::Cast(word, true))?;
+                self.emit(Step::Cast(tried, word, true))?;
                 Ok(Some(Mode::CastEnd))
             }
             _ => Ok(None),
@@ -267,14 +314,14 @@ impl<'a> Reading<'a> {
         }
     }
 
-    /// The bracket after `cast`.
-    pub fn after_cast(&mut self, token: Token<'a>) -> Result<Option<Mode>, AllocError>
-        ensures { Gives result self.new
-            (specs.after_cast (frames_in self.old) (steps_in self.old) (token_in token.entry)) }
+    /// The bracket after `cast`, or after `try_cast`.
+    pub fn after_cast(&mut self, tried: bool, token: Token<'a>) -> Result<Option<Mode>, AllocError>
+        ensures { Gives result self.new (specs.after_cast tried (frames_in self.old)
+            (steps_in self.old) (token_in token.entry)) }
     {
         match token {
             Token::Sign(Sign::Open) => {
-                self.wait(Frame::Cast)?;
+                self.wait(Frame::Cast(tried))?;
                 Ok(Some(Mode::Want))
             }
             _ => Ok(None),

@@ -44,8 +44,8 @@ pub enum Expected {
     /// At a comparison, `is`, `between`, `in`, `like`, or `not` before one, after an operand that
     /// binds no tighter: a comparison, a test by `is`, `between`, `in` or `like`.
     Brackets,
-    /// At two colons after anything but a literal without a type.
-    LiteralBeforeType,
+    /// At two colons after an operand that binds less tightly.
+    BracketsBeforeType,
     /// After two colons, and after the `as` of `cast`.
     TypeName,
     /// After `is`.
@@ -93,7 +93,7 @@ impl Expected {
             Expected::OperatorOrAnd => "an operator that binds tighter, or the and of between",
             Expected::Brackets =>
                 "brackets round the comparison, is, between, in or like before it",
-            Expected::LiteralBeforeType => "a literal before ::, or else cast(.. as ..)",
+            Expected::BracketsBeforeType => "brackets round what is before ::",
             Expected::TypeName => "the name of a type",
             Expected::TestOrNot => "null, true, false, unknown, distinct from or not",
             Expected::Test => "null, true, false, unknown or distinct from",

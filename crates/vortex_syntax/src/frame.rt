@@ -7,7 +7,7 @@ ghost use Rattle.vortex_syntax.specs.Frames as specs;
 use crate::levels::{
     ATOM, BIT_NOT, COMPARISON, CONCAT, DISTINCT, LITERAL, NOT, OR, PREDICATE, SIGN, own, right,
 };
-use crate::step::{Call, LikeKind, WrittenOperator};
+use crate::step::{BetweenKind, Call, LikeKind, WrittenOperator};
 
 /// The part of a CASE that comes next.
 #[derive(Clone, Copy, Debug, PartialEq, Eq)]
@@ -27,8 +27,8 @@ pub enum CasePart {
 pub enum Frame<'a> {
     /// An opening bracket.
     Open,
-    /// The bracket after `cast`.
-    Cast,
+    /// The bracket after `cast`, or after `try_cast`.
+    Cast(bool),
     Not,
     /// A minus sign before what is no literal.
     Minus,
@@ -38,10 +38,10 @@ pub enum Frame<'a> {
     Join(WrittenOperator),
     /// IS DISTINCT FROM, or IS NOT DISTINCT FROM.
     Distinct(bool),
-    /// BETWEEN before its `and`, or NOT BETWEEN.
-    Between(bool),
-    /// BETWEEN after its `and`, or NOT BETWEEN.
-    Bounded(bool),
+    /// BETWEEN before its `and`.
+    Between(BetweenKind),
+    /// BETWEEN after its `and`.
+    Bounded(BetweenKind),
     Like(LikeKind),
     /// A call of the function of that name, after as many arguments.
     Arguments(&'a [u8], usize),
@@ -62,8 +62,10 @@ pub enum Mode {
     Have(u8),
     /// What follows a bare name, of which a bracket makes a call.
     Named,
-    /// The type after two colons.
+    /// The type after two colons that follow a literal without a type.
     Typing,
+    /// The type after two colons that follow another operand of that level, which cast it.
+    Converting(u8),
     /// What follows `is`, or `is not`.
     Is(bool),
     /// The `from` after `is distinct`, or after `is not distinct`.
@@ -72,10 +74,10 @@ pub enum Mode {
     Listing(bool),
     /// What follows a `not` after an operand of that level.
     Negating(u8),
-    /// The bracket after `cast`.
-    Casting,
-    /// The type after `as`.
-    CastType,
+    /// The bracket after `cast`, or after `try_cast`.
+    Casting(bool),
+    /// The type after the `as` of `cast`, or of `try_cast`.
+    CastType(bool),
     /// The bracket after that type.
     CastEnd,
     /// The text after `escape`.
@@ -87,7 +89,8 @@ pub fn hole(frame: Frame<'_>) -> u8
     ensures { result ≡ specs.hole (frame_in frame.entry) }
 {
     match frame {
-        Frame::Open | Frame::Cast | Frame::Arguments(..) | Frame::Items(..) | Frame::Case(..) => OR,
+        Frame::Open | Frame::Cast(_) | Frame::Arguments(..) | Frame::Items(..) | Frame::Case(..) =>
+            OR,
         Frame::Not => NOT,
         Frame::Join(operator) => right(operator),
         Frame::Minus | Frame::Plus => SIGN,
@@ -122,7 +125,7 @@ pub fn whole(frame: Frame<'_>) -> u8
     ensures { result ≡ specs.whole (frame_in frame.entry) }
 {
     match frame {
-        Frame::Open | Frame::Cast | Frame::Arguments(..) | Frame::Case(..) => ATOM,
+        Frame::Open | Frame::Cast(_) | Frame::Arguments(..) | Frame::Case(..) => ATOM,
         Frame::Not => NOT,
         Frame::Join(operator) => own(operator),
         Frame::Minus | Frame::Plus => SIGN,
@@ -137,7 +140,7 @@ pub fn closing(frame: Frame<'_>) -> Call
 {
     match frame {
         Frame::Open
-        | Frame::Cast
+        | Frame::Cast(_)
         | Frame::Not
         | Frame::Arguments(..)
         | Frame::Items(..)
@@ -147,7 +150,7 @@ pub fn closing(frame: Frame<'_>) -> Call
         Frame::Plus => Call::Plus,
         Frame::BitNot => Call::BitNot,
         Frame::Distinct(negated) => Call::Distinct(negated),
-        Frame::Between(negated) | Frame::Bounded(negated) => Call::Between(negated),
+        Frame::Between(kind) | Frame::Bounded(kind) => Call::Between(kind),
         Frame::Like(kind) => Call::Like(kind),
     }
 }

@@ -1,15 +1,16 @@
 //! The pieces of a text: gaps and tokens.
-ghost use Rattle.std.specs.Prelude.{◌==◌, ◌&&◌, ◌≡◌, ◌<◌, ◌≤◌, suc, length, option_map, IfSome, take, drop};
+ghost use Rattle.std.specs.Prelude.{◌≡◌, ◌<◌, ◌≤◌, suc, length, option_map, IfSome, take, drop};
 ghost use Rattle.vortex_syntax.specs.Keywords.{same_word, keyword_of};
 ghost use Rattle.vortex_syntax.specs.Tokens.{token_in};
 ghost use Rattle.vortex_syntax.specs.Pieces.{piece_in, is_blank, begins_word, is_in, front, behind};
 ghost use Rattle.vortex_syntax.specs.Pieces.{name_before, keyword_or_name, word_before, number_before, closed};
 ghost use Rattle.vortex_syntax.specs.Pieces.{quoted_by, sign_of_two, sign_of_one, longest_sign};
-ghost use Rattle.vortex_syntax.specs.Pieces.{minus_or_comment, first_piece, behind_fraction};
+ghost use Rattle.vortex_syntax.specs.Pieces.{first_piece, behind_fraction};
 ghost use Rattle.vortex_syntax.specs.Pieces.{behind_sign, begins_digits, begins_exponent};
 ghost use Rattle.vortex_syntax.specs.Pieces.{behind_exponent, begins_number, behind_number};
-ghost use Rattle.vortex_syntax.specs.Pieces.{front_number, behind_comment, divide_or_comment};
+ghost use Rattle.vortex_syntax.specs.Pieces.{front_number};
 
+use crate::gaps::{divide_or_comment, minus_or_comment};
 use crate::token::{Sign, Token};
 
 /// Classes of bytes that continue a run.
@@ -67,7 +68,7 @@ fn run_len(run: Run, text: &[u8]) -> usize
 }
 
 /// The bytes of the run at the start of the text, and the bytes after them.
-fn split_run(run: Run, text: &[u8]) -> (&[u8], &[u8])
+pub(crate) fn split_run(run: Run, text: &[u8]) -> (&[u8], &[u8])
     ensures front { result.0.now ≡ front run text.now }
     ensures behind { result.1.now ≡ behind run text.now }
     ensures shorter { length result.1.now ≤ length text.now }
@@ -132,6 +133,10 @@ pub(crate) fn keyword_of(word: &[u8]) -> Option<Sign>
         Some(Sign::IsNull)
     } else if is_same_word(word, b"notnull") {
         Some(Sign::NotNull)
+    } else if is_same_word(word, b"try_cast") {
+        Some(Sign::TryCast)
+    } else if is_same_word(word, b"symmetric") {
+        Some(Sign::Symmetric)
     } else {
         None
     }
@@ -329,74 +334,6 @@ fn longest_sign(first: u8, rest: &[u8]) -> Option<(Piece<'_>, &[u8])>
     }
     let sign = sign_of_one(first)?;
     Some((Piece::Token(Token::Sign(sign)), rest))
-}
-
-/// Minus, or a comment if a second minus follows.
-fn minus_or_comment(rest: &[u8]) -> Option<(Piece<'_>, &[u8])>
-    ensures piece { option_map (λ x. (piece_in x.0, x.1.now)) result ≡ minus_or_comment rest.now }
-    ensures shorter { IfSome result (λ x. length x.1.now ≤ length rest.now) }
-{
-    match rest {
-        [b'-', comment @ ..] => {
-            let (_, behind) = split_run(Run::Line, comment);
-            Some((Piece::Gap, behind))
-        }
-        _ => Some((Piece::Token(Token::Sign(Sign::Minus)), rest)),
-    }
-}
-
-/// Whether two bytes are these.
-fn are_bytes(first: u8, second: u8, one: u8, other: u8) -> bool
-    ensures { result ≡ ((first == one) && (second == other)) }
-{
-    first == one && second == other
-}
-
-/// How many bytes there are up to the end of a comment, after its `/*`. Comments nest.
-fn comment_len(text: &[u8]) -> Option<usize>
-    ensures behind { option_map (λ n. drop n text.now) result ≡ behind_comment 0 text.now }
-    ensures within { IfSome result (λ n. n ≤ length text.now) }
-{
-    let mut depth = 0usize;
-    let mut i = 0usize;
-    while i + 1 < text.len() {
-        if are_bytes(text[i], text[i + 1], b'/', b'*') {
-            depth += 1;
-            i += 2;
-        } else if are_bytes(text[i], text[i + 1], b'*', b'/') {
-            if depth == 0 {
-                return Some(i + 2);
-            }
-            depth -= 1;
-            i += 2;
-        } else {
-            i += 1;
-        }
-    }
-    None
-}
-
-/// What follows a comment, after its `/*`.
-fn behind_comment(text: &[u8]) -> Option<&[u8]>
-    ensures behind { option_map (λ x. x.now) result ≡ behind_comment 0 text.now }
-    ensures shorter { IfSome result (λ x. length x.now ≤ length text.now) }
-{
-    let n = comment_len(text)?;
-    Some(&text[n..])
-}
-
-/// Divide, or a comment if an asterisk follows.
-fn divide_or_comment(rest: &[u8]) -> Option<(Piece<'_>, &[u8])>
-    ensures piece { option_map (λ x. (piece_in x.0, x.1.now)) result ≡ divide_or_comment rest.now }
-    ensures shorter { IfSome result (λ x. length x.1.now ≤ length rest.now) }
-{
-    match rest {
-        [b'*', comment @ ..] => {
-            let behind = behind_comment(comment)?;
-            Some((Piece::Gap, behind))
-        }
-        _ => Some((Piece::Token(Token::Sign(Sign::Divide)), rest)),
-    }
 }
 
 /// The first piece of the text, and what follows it; nothing where none begins.

@@ -53,8 +53,9 @@ impl<'a> Reading<'a> {
             Mode::Distinct(negated) => self.after_distinct(negated, token),
             Mode::Listing(negated) => self.after_in(negated, token),
             Mode::Negating(level) => self.negating(level, token),
-            Mode::Casting => self.after_cast(token),
-            Mode::CastType => self.cast_expected(token),
+            Mode::Converting(level) => self.conversion_expected(level, token),
+            Mode::Casting(tried) => self.after_cast(tried, token),
+            Mode::CastType(tried) => self.cast_expected(tried, token),
             Mode::CastEnd => self.after_cast_type(token),
             Mode::Escaping(kind) => self.after_escape(kind, token),
         }

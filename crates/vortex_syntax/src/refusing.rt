@@ -31,7 +31,7 @@ fn in_place_of(sign: Sign, expected: Expected) -> Expected {
     match (sign, expected) {
         (_, Expected::OperatorOrAnd) => expected,
         (Sign::As, Expected::OperatorOrName) => Expected::AnswerName,
-        (Sign::Typed, _) => Expected::LiteralBeforeType,
+        (Sign::Typed, _) => Expected::BracketsBeforeType,
         _ => {
             if is_unchained(sign) {
                 Expected::Brackets
@@ -58,7 +58,7 @@ impl<'a> Reading<'a> {
         for frame in self.frames.iter().rev() {
             match frame {
                 Frame::Open => return Expected::OperatorOrClose,
-                Frame::Cast => return Expected::OperatorOrAs,
+                Frame::Cast(_) => return Expected::OperatorOrAs,
                 Frame::Arguments(..) | Frame::Items(..) => return Expected::OperatorOrComma,
                 Frame::Case(part, ..) => return expected_in(*part),
                 Frame::Between(_) => return Expected::OperatorOrAnd,
@@ -100,12 +100,12 @@ impl<'a> Reading<'a> {
                 in_place_of(sign, self.expected_after(whole))
             }
             (Mode::Have(_) | Mode::Named, _) => self.expected_after(whole),
-            (Mode::Typing | Mode::CastType, _) => Expected::TypeName,
+            (Mode::Typing | Mode::Converting(_) | Mode::CastType(_), _) => Expected::TypeName,
             (Mode::Is(false), _) => Expected::TestOrNot,
             (Mode::Is(true), _) => Expected::Test,
             (Mode::Distinct(_), _) => Expected::From,
             (Mode::Negating(_), _) => Expected::PredicateWord,
-            (Mode::Casting | Mode::Listing(_), _) => Expected::OpenBracket,
+            (Mode::Casting(_) | Mode::Listing(_), _) => Expected::OpenBracket,
             (Mode::CastEnd, _) => Expected::CloseBracket,
             (Mode::Escaping(_), _) => Expected::EscapeText,
         }

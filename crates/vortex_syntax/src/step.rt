@@ -42,6 +42,14 @@ pub struct LikeKind {
     pub case_insensitive: bool,
 }
 
+/// Which BETWEEN is meant.
+#[derive(Clone, Copy, Debug, PartialEq, Eq)]
+pub struct BetweenKind {
+    pub negated: bool,
+    /// Whether either bound may be the lower one.
+    pub symmetric: bool,
+}
+
 /// A call of the trees before it.
 #[derive(Clone, Copy, Debug, PartialEq, Eq)]
 pub enum Call {
@@ -56,8 +64,8 @@ pub enum Call {
     Is(Test, bool),
     /// IS DISTINCT FROM of two trees, or IS NOT DISTINCT FROM.
     Distinct(bool),
-    /// BETWEEN of three trees, or NOT BETWEEN.
-    Between(bool),
+    /// BETWEEN of three trees.
+    Between(BetweenKind),
     /// LIKE without an escape.
     Like(LikeKind),
 }
@@ -71,8 +79,9 @@ pub enum Step<'a> {
     Negative(&'a [u8]),
     /// The literal before it is of the type of that name, nullable if the flag is true.
     Typed(&'a [u8], bool),
-    /// The tree before it, cast to a type.
-    Cast(&'a [u8], bool),
+    /// The tree before it, cast to the type of that name, nullable if the second flag is true; null
+    /// where the cast fails if the first flag is true.
+    Cast(bool, &'a [u8], bool),
     /// LIKE of the two trees before it, with the escape as written.
     Escaped(LikeKind, &'a [u8]),
     /// The function of that name, of as many trees before it.

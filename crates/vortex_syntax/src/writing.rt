@@ -51,6 +51,7 @@ fn sign_text(sign: Sign) -> &'static str
         Sign::True => "true",
         Sign::False => "false",
         Sign::Cast => "cast",
+        Sign::TryCast => "try_cast",
         Sign::As => "as",
         Sign::Distinct => "distinct",
         Sign::From => "from",
@@ -62,6 +63,7 @@ fn sign_text(sign: Sign) -> &'static str
         Sign::End => "end",
         Sign::IsNull => "isnull",
         Sign::NotNull => "notnull",
+        Sign::Symmetric => "symmetric",
         Sign::Equal => "=",
         Sign::NotEqual => "<>",
         Sign::Less => "<",
@@ -153,7 +155,7 @@ fn sign_ending(ending: Ending, sign: Sign) -> Ending
 {
     match sign {
         Sign::Open | Sign::Typed => Ending::Tight,
-        Sign::Cast => Ending::Called,
+        Sign::Cast | Sign::TryCast => Ending::Called,
         Sign::Minus => minus_ending(ending),
         Sign::Close
         | Sign::Null

@@ -1,6 +1,6 @@
 use Rattle.std.proofs.Common.{sym, arith}
 use Rattle.vortex_syntax.proofs.Comments.{inner, to_inner, to_outer, to_next, no_end}
-use Rattle.vortex_syntax.proofs.pieces.comment_len.Goals as goal
+use Rattle.vortex_syntax.proofs.gaps.comment_len.Goals as goal
 
 pub loop-i-preserved-then-are_bytes : goal.loop-i-preserved-then-are_bytes
 loop-i-preserved-then-are_bytes c =

@@ -1,0 +1,142 @@
+-- Arguments and items are read as they are spelled.
+use Rattle.std.proofs.Common.{◌≡◌, ℕ, suc, ◌<◌, ◌≤◌, Bool, true, false, List, [], ◌∷◌, ◌++◌}
+use Rattle.std.proofs.Common.{refl, ap, sym, ◌∙◌, append_assoc, arith, lit<, lit≤}
+use Rattle.std.proofs.lemmas.List.{append-nil}
+use Rattle.vortex_syntax.specs.declared.token.Sign.TheVariants as sign
+use Rattle.vortex_syntax.specs.Frames.{Frame, hole, top_hole, ceiling, top_ceiling, guard, whole}
+use Rattle.vortex_syntax.specs.Frames as frame
+use Rattle.vortex_syntax.specs.Tokens.{Token, sign}
+use Rattle.vortex_syntax.specs.Syntax as tree
+use Rattle.vortex_syntax.specs.Syntax.{Syntax, Tested, Arguments, Branches}
+use Rattle.vortex_syntax.specs.Levels.{sign_level, level}
+use Rattle.vortex_syntax.specs.Levels.{predicate_level, concat_level}
+use Rattle.vortex_syntax.specs.Levels.{atom_level, literal_level}
+use Rattle.vortex_syntax.specs.Spelling.{spelling, all_spelled}
+use Rattle.vortex_syntax.specs.Spelling.{in_tokens}
+use Rattle.vortex_syntax.specs.Spelling.{function_tokens}
+use Rattle.vortex_syntax.specs.Postfix.{Step, applied, listed}
+use Rattle.vortex_syntax.specs.Postfix.{argument_count, postfix, all_postfix}
+use Rattle.vortex_syntax.proofs.Tables.{level_literal}
+use Rattle.vortex_syntax.proofs.Tables.{ceiling_below}
+use Rattle.vortex_syntax.proofs.Tables.{reach}
+use Rattle.vortex_syntax.proofs.Closes.{want, have, IsRead}
+use Rattle.vortex_syntax.proofs.StepsRead.{step_function}
+use Rattle.vortex_syntax.proofs.StepsRead.{step_nullary, step_comma, step_applied, step_in}
+use Rattle.vortex_syntax.proofs.StepsRead.{step_item, step_listed}
+
+pub regrouped_2 : (out a : List Step) (x : Step) → (out ++ a) ++ (x ∷ []) ≡ out ++ (a ++ (x ∷ []))
+regrouped_2 out a x = append_assoc out a (x ∷ [])
+
+pub regrouped_3 : (out a b : List Step) (x : Step)
+    → ((out ++ a) ++ b) ++ (x ∷ []) ≡ out ++ (a ++ (b ++ (x ∷ [])))
+regrouped_3 out a b x = simp append_assoc
+
+pub regrouped_4 : (out a b c : List Step) (x : Step)
+    → (((out ++ a) ++ b) ++ c) ++ (x ∷ []) ≡ out ++ (a ++ (b ++ (c ++ (x ∷ []))))
+regrouped_4 out a b c x = simp append_assoc
+
+-- any tree may come where a frame looser than a minus sign waits
+pub beneath : (a : Syntax) (fs : List Frame) (n : ℕ) → top_hole fs ≤ n → n < sign_level
+    → level a ≤ top_ceiling fs
+beneath a fs n h k = omega (arith, level_literal a, ceiling_below fs n h k)
+
+-- a frame for each number of arguments or items before the next
+pub record Separates (f : ℕ → Frame) : Type 0 where
+  pub any : (n : ℕ) → hole (f n) ≡ 0
+  pub all : (n : ℕ) → literal_level ≤ ceiling (f n)
+  pub comma : (n l : ℕ) (fs : List Frame) (out : List Step) (ts : List Token)
+      → have l (f n ∷ fs) out (sign sign.Comma ∷ ts) ≡ want (f (suc n) ∷ fs) out ts
+
+arguments_separate : (w : List ℕ) → Separates (λ n. frame.Arguments w n)
+arguments_separate w =
+    record {
+      any = λ n. refl;
+      all = λ n. lit≤ tt;
+      comma = λ n l fs out ts. step_comma w n l fs out ts;
+    }
+
+items_separate : (m : Bool) → Separates (λ n. frame.Items m n)
+items_separate m =
+    record {
+      any = λ n. refl;
+      all = λ n. lit≤ tt;
+      comma = λ n l fs out ts. step_item m n l fs out ts;
+    }
+
+-- arguments and their commas
+abbrev pub AreRead : Arguments → Type 0
+AreRead args = (f : ℕ → Frame) → Separates f → (fs : List Frame) (out : List Step)
+    (rest : List Token)
+    → want (f 0 ∷ fs) out (all_spelled args ++ rest)
+    ≡ want (f (argument_count args) ∷ fs) (out ++ all_postfix args) rest
+
+pub read_no_arguments : AreRead tree.no_arguments
+read_no_arguments = λ f s fs out rest. ap (λ xs. want (f 0 ∷ fs) xs rest) (sym (append-nil out))
+
+pub read_argument : (args : Arguments) (a : Syntax) → AreRead args → IsRead a
+    → AreRead (tree.argument args a)
+read_argument args a ias ia = λ f s fs out rest.
+    let n = argument_count args in
+    ap (want (f 0 ∷ fs) out)
+    (append_assoc (all_spelled args) (spelling a ++ (sign sign.Comma ∷ [])) rest
+    ∙ ap (λ ts. all_spelled args ++ ts) (append_assoc (spelling a) (sign sign.Comma ∷ []) rest))
+    ∙ ias f s fs out (spelling a ++ (sign sign.Comma ∷ rest))
+    ∙ ia (f n ∷ fs) (out ++ all_postfix args) (sign sign.Comma ∷ rest) (omega (arith, s.any n))
+    (omega (arith, level_literal a, s.all n)) (omega arith)
+    ∙ s.comma n (level a) fs ((out ++ all_postfix args) ++ postfix a) rest
+    ∙ ap (λ xs. want (f (suc n) ∷ fs) xs rest) (append_assoc out (all_postfix args) (postfix a))
+
+pub read_nullary : (p : Bool) (w : List ℕ) → IsRead (tree.nullary p w)
+read_nullary p w = λ fs out rest top under end.
+    ap (want fs out) (append_assoc (function_tokens p w) (sign sign.Close ∷ []) rest)
+    ∙ step_function p w fs out (sign sign.Close ∷ rest)
+    ∙ step_nullary w fs out rest
+
+pub read_applied : (p : Bool) (w : List ℕ) (args : Arguments) (a : Syntax) → AreRead args → IsRead a
+    → IsRead (tree.applied p w args a)
+read_applied p w args a ias ia = λ fs out rest top under end.
+    let n = argument_count args in
+    ap (want fs out)
+    (append_assoc (function_tokens p w)
+    (all_spelled args ++ (spelling a ++ (sign sign.Close ∷ []))) rest)
+    ∙ step_function p w fs out
+    ((all_spelled args ++ (spelling a ++ (sign sign.Close ∷ []))) ++ rest)
+    ∙ ap (want (frame.Arguments w 0 ∷ fs) out)
+    (append_assoc (all_spelled args) (spelling a ++ (sign sign.Close ∷ [])) rest
+    ∙ ap (λ ts. all_spelled args ++ ts) (append_assoc (spelling a) (sign sign.Close ∷ []) rest))
+    ∙ ias (λ m. frame.Arguments w m) (arguments_separate w) fs out
+    (spelling a ++ (sign sign.Close ∷ rest))
+    ∙ ia (frame.Arguments w n ∷ fs) (out ++ all_postfix args) (sign sign.Close ∷ rest) (omega arith)
+    (level_literal a) (omega arith)
+    ∙ step_applied w n (level a) fs ((out ++ all_postfix args) ++ postfix a) rest
+    ∙ ap (λ xs. have atom_level fs xs rest)
+    (regrouped_3 out (all_postfix args) (postfix a) (applied w (suc n)))
+
+reach_in : (n : Bool) (ts : List Token) → reach (in_tokens n ++ ts) ≡ predicate_level
+reach_in true ts = refl
+reach_in false ts = refl
+
+list_written : (a b c d rest : List Token)
+    → (a ++ (b ++ (c ++ (d ++ (sign sign.Close ∷ []))))) ++ rest
+    ≡ a ++ (b ++ (c ++ (d ++ (sign sign.Close ∷ rest))))
+list_written a b c d rest = simp append_assoc
+
+pub read_listed : (n : Bool) (a : Syntax) (args : Arguments) (b : Syntax) → concat_level ≤ level a
+    → IsRead a → AreRead args → IsRead b → IsRead (tree.listed n a args b)
+read_listed n a args b h ia ias ib = λ fs out rest top under end.
+    let k = argument_count args in
+    let close : List Token = sign sign.Close ∷ rest in
+    let last : List Token = spelling b ++ close in
+    let items : List Token = all_spelled args ++ last in
+    let first : List Step = out ++ postfix a in
+    ap (want fs out)
+    (list_written (spelling a) (in_tokens n) (all_spelled args) (spelling b) rest)
+    ∙ ia fs out (in_tokens n ++ items) (omega (arith, top, h))
+    (beneath a fs predicate_level top (lit< tt)) (omega (arith, h, reach_in n items))
+    ∙ step_in n (level a) fs first items h top
+    ∙ ias (λ m. frame.Items n m) (items_separate n) fs first last
+    ∙ ib (frame.Items n k ∷ fs) (first ++ all_postfix args) close (omega arith) (level_literal b)
+    (omega arith)
+    ∙ step_listed n k (level b) fs ((first ++ all_postfix args) ++ postfix b) rest
+    ∙ ap (λ xs. have predicate_level fs xs rest)
+    (regrouped_4 out (postfix a) (all_postfix args) (postfix b) (listed n (suc k)))
