@@ -1,3 +1,3 @@
 mod Columns
-mod MadeRows
-mod Rows
+pub mod MadeRows
+pub mod Rows

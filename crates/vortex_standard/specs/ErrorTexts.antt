@@ -6,6 +6,11 @@ use Rattle.vortex_errors.specs.Errors.{error_text}
 use Rattle.vortex_sql_rows.specs.declared.faults.RowFault.{RowFault}
 use Rattle.vortex_sql_rows.specs.Faults.{fault_of, fault_text}
 
+-- the fault with the number that E10 has
+abbrev pub fault_in : VortexError → Option RowFault
+fault_in (Custom n) = fault_of n
+fault_in e = None
+
 abbrev pub text_or : List ℕ → Option RowFault → List ℕ
 text_or words None = words
 text_or words (Some f) = fault_text f

@@ -56,6 +56,26 @@ first_text U16 = refl
 first_text U32 = refl
 first_text U64 = refl
 
+first_try_cast : (p : PType) → IsFirst (standard.TryCast (record { ptype = p }))
+first_try_cast I8 = refl
+first_try_cast I16 = refl
+first_try_cast I32 = refl
+first_try_cast I64 = refl
+first_try_cast U8 = refl
+first_try_cast U16 = refl
+first_try_cast U32 = refl
+first_try_cast U64 = refl
+
+first_try_text : (p : PType) → IsFirst (standard.TryTextToInt (record { ptype = p }))
+first_try_text I8 = refl
+first_try_text I16 = refl
+first_try_text I32 = refl
+first_try_text I64 = refl
+first_try_text U8 = refl
+first_try_text U16 = refl
+first_try_text U32 = refl
+first_try_text U64 = refl
+
 first_truth : (p : PType) → IsFirst (standard.TruthToInt (record { ptype = p }))
 first_truth I8 = refl
 first_truth I16 = refl
@@ -89,6 +109,8 @@ first standard.Replace = refl
 first standard.Repeat = refl
 first standard.Reverse = refl
 first standard.ConcatAll = refl
+first standard.TryTextToTruth = refl
+first standard.RegexpLike = refl
 first (standard.Extreme Greatest) = refl
 first (standard.Extreme Least) = refl
 first (standard.TruthTest IsTrue) = refl
@@ -110,6 +132,8 @@ first (standard.Trim Both) = refl
 first (standard.Trim Start) = refl
 first (standard.Trim End) = refl
 first (standard.TextToInt f) = first_text f.ptype
+first (standard.TryCast f) = first_try_cast f.ptype
+first (standard.TryTextToInt f) = first_try_text f.ptype
 first (standard.Letters Lower) = refl
 first (standard.Letters Upper) = refl
 

@@ -23,6 +23,7 @@ use Rattle.vortex_sql_choices.specs.NullIf.{nullif_row, nullif_lawful}
 use Rattle.vortex_sql_numbers.specs.Remainder.{remainder_row, remainder_lawful}
 use Rattle.vortex_sql_rows.specs.Row.{Row, LawfulRow, row_type, row_means}
 use Rattle.vortex_sql_numbers.specs.Sign.{sign_row, sign_lawful}
+use Rattle.vortex_sql_patterns.specs.RegexpLike.{regexp_like_row, regexp_like_lawful}
 use Rattle.vortex_sql_texts.specs.Concats.{concat_all_row, concat_all_lawful}
 use Rattle.vortex_sql_texts.specs.Fields.{split_part_row, split_part_lawful}
 use Rattle.vortex_sql_texts.specs.Repeats.{repeat_row, repeat_lawful, reverse_row, reverse_lawful}
@@ -31,6 +32,8 @@ use Rattle.vortex_sql_texts.specs.Places.{strpos_row, strpos_lawful}
 use Rattle.vortex_sql_texts.specs.TextCasts.{int_cast_row, int_cast_lawful, truth_cast_row}
 use Rattle.vortex_sql_texts.specs.TextCasts.{truth_cast_lawful}
 use Rattle.vortex_sql_texts.specs.Trims.{trim_row, trim_lawful}
+use Rattle.vortex_sql_try_casts.specs.TryCasts.{try_cast_row, try_cast_lawful, try_text_row}
+use Rattle.vortex_sql_try_casts.specs.TryCasts.{try_text_lawful, try_truth_row, try_truth_lawful}
 use Rattle.vortex_sql_texts.specs.Texts.{begins_row, begins_lawful, measure_row, measure_lawful}
 
 abbrev pub row_of : Standard → Row
@@ -56,6 +59,8 @@ row_of standard.Replace = replace_row
 row_of standard.Repeat = repeat_row
 row_of standard.Reverse = reverse_row
 row_of standard.ConcatAll = concat_all_row
+row_of standard.TryTextToTruth = try_truth_row
+row_of standard.RegexpLike = regexp_like_row
 row_of (standard.Extreme x) = extreme_row x
 row_of (standard.TruthTest t) = test_row t
 row_of (standard.BitOperator o) = operator_row o
@@ -67,6 +72,8 @@ row_of (standard.Measure m) = measure_row m
 row_of (standard.Side s) = side_row s
 row_of (standard.Trim t) = trim_row t
 row_of (standard.TextToInt f) = int_cast_row f.ptype
+row_of (standard.TryCast f) = try_cast_row f.ptype
+row_of (standard.TryTextToInt f) = try_text_row f.ptype
 row_of (standard.Letters l) = letters_row l
 
 pub lawful_of : (f : Standard) → LawfulRow (row_of f)
@@ -92,6 +99,8 @@ lawful_of standard.Replace = replace_lawful
 lawful_of standard.Repeat = repeat_lawful
 lawful_of standard.Reverse = reverse_lawful
 lawful_of standard.ConcatAll = concat_all_lawful
+lawful_of standard.TryTextToTruth = try_truth_lawful
+lawful_of standard.RegexpLike = regexp_like_lawful
 lawful_of (standard.Extreme x) = extreme_lawful x
 lawful_of (standard.TruthTest t) = test_lawful t
 lawful_of (standard.BitOperator o) = operator_lawful o
@@ -103,6 +112,8 @@ lawful_of (standard.Measure m) = measure_lawful m
 lawful_of (standard.Side s) = side_lawful s
 lawful_of (standard.Trim t) = trim_lawful t
 lawful_of (standard.TextToInt f) = int_cast_lawful f.ptype
+lawful_of (standard.TryCast f) = try_cast_lawful f.ptype
+lawful_of (standard.TryTextToInt f) = try_text_lawful f.ptype
 lawful_of (standard.Letters l) = letters_lawful l
 
 -- What follows comes of the list.

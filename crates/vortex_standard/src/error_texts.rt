@@ -11,6 +11,7 @@ pub struct ErrorText<'a> {
 
 impl<'a> ErrorText<'a> {
     ghost use Rattle.std.specs.Prelude.{◌≡◌};
+    ghost use Rattle.vortex_standard.specs.ErrorTexts.{fault_in};
 
     pub fn new(error: &'a VortexError) -> ErrorText<'a>
         ensures { result.error.now ≡ error.now }
@@ -18,8 +19,10 @@ impl<'a> ErrorText<'a> {
         ErrorText { error }
     }
 
-    /// The fault of a function of the list.
-    pub fn fault(self) -> Option<RowFault> {
+    /// The fault of a function of the list: that with the number that E10 has.
+    pub fn fault(self) -> Option<RowFault>
+        ensures { result ≡ fault_in self.entry.error.now }
+    {
         match self.error {
             VortexError::Custom(code) => RowFault::of_number(*code),
             _ => None,

@@ -19,7 +19,7 @@ use vortex_sql_texts::texts::Measure;
 use vortex_sql_texts::trims::Trim;
 
 /// The functions, each once.
-pub const FUNCTIONS: [Standard; 73] = [
+pub const FUNCTIONS: [Standard; 91] = [
     Standard::Coalesce,
     Standard::NullIf,
     Standard::Case,
@@ -42,6 +42,8 @@ pub const FUNCTIONS: [Standard; 73] = [
     Standard::Repeat,
     Standard::Reverse,
     Standard::ConcatAll,
+    Standard::TryTextToTruth,
+    Standard::RegexpLike,
     Standard::Extreme(Extreme::Greatest),
     Standard::Extreme(Extreme::Least),
     Standard::TruthTest(TruthTest::IsTrue),
@@ -91,6 +93,22 @@ pub const FUNCTIONS: [Standard; 73] = [
     Standard::TextToInt(TextToInt { ptype: PType::U16 }),
     Standard::TextToInt(TextToInt { ptype: PType::U32 }),
     Standard::TextToInt(TextToInt { ptype: PType::U64 }),
+    Standard::TryCast(Cast { ptype: PType::I8 }),
+    Standard::TryCast(Cast { ptype: PType::I16 }),
+    Standard::TryCast(Cast { ptype: PType::I32 }),
+    Standard::TryCast(Cast { ptype: PType::I64 }),
+    Standard::TryCast(Cast { ptype: PType::U8 }),
+    Standard::TryCast(Cast { ptype: PType::U16 }),
+    Standard::TryCast(Cast { ptype: PType::U32 }),
+    Standard::TryCast(Cast { ptype: PType::U64 }),
+    Standard::TryTextToInt(TextToInt { ptype: PType::I8 }),
+    Standard::TryTextToInt(TextToInt { ptype: PType::I16 }),
+    Standard::TryTextToInt(TextToInt { ptype: PType::I32 }),
+    Standard::TryTextToInt(TextToInt { ptype: PType::I64 }),
+    Standard::TryTextToInt(TextToInt { ptype: PType::U8 }),
+    Standard::TryTextToInt(TextToInt { ptype: PType::U16 }),
+    Standard::TryTextToInt(TextToInt { ptype: PType::U32 }),
+    Standard::TryTextToInt(TextToInt { ptype: PType::U64 }),
     Standard::Letters(Letters::Lower),
     Standard::Letters(Letters::Upper),
 ];

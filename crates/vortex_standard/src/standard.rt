@@ -16,6 +16,7 @@ use vortex_sql_calls::call::{execute_rows, row_dtype};
 use vortex_sql_calls::maker::{execute_texts, text_dtype};
 use vortex_sql_choices::extremes::Extreme;
 use vortex_sql_choices::truth_tests::TruthTest;
+use vortex_sql_in_list::execute_in_list;
 use vortex_sql_numbers::bits::{BitOperator, Shift};
 use vortex_sql_numbers::integer_casts::{Cast, Widen};
 use vortex_sql_numbers::truth_casts::TruthToInt;
@@ -23,14 +24,18 @@ use vortex_sql_rows::row::{RowFn, TextFn};
 use vortex_sql_rows::types::Takes;
 use vortex_sql_texts::letters::Letters;
 use vortex_sql_texts::parts::Side;
-use vortex_sql_texts::text_casts::TextToInt;
+use vortex_sql_texts::text_casts::{TextToInt, TextToTruth};
 use vortex_sql_texts::texts::Measure;
 use vortex_sql_texts::trims::Trim;
+use vortex_sql_try_casts::try_fn::Try;
 
 /// Runs the first expression for a function whose results are cells, the second for one that makes
-/// texts.
+/// texts, and the third, which else is the first, for one that keeps a pattern from row to row.
 macro_rules! with_row {
     ($function:expr, $f:ident => $rows:expr, $texts:expr) => {
+        with_row!($function, $f => $rows, $texts, $rows)
+    };
+    ($function:expr, $f:ident => $rows:expr, $texts:expr, $patterns:expr) => {
         match $function {
             Standard::Coalesce => {
                 let $f = &vortex_sql_choices::coalesce::Coalesce;
@@ -120,6 +125,22 @@ macro_rules! with_row {
                 let $f = &vortex_sql_texts::concats::ConcatAll;
                 $texts
             }
+            Standard::TryTextToTruth => {
+                let $f = &Try { function: &TextToTruth };
+                $rows
+            }
+            Standard::TryTextToInt(cast) => {
+                let $f = &Try { function: cast };
+                $rows
+            }
+            Standard::TryCast(cast) => {
+                let $f = &Try { function: cast };
+                $rows
+            }
+            Standard::RegexpLike => {
+                let $f = &vortex_sql_patterns::regexp_like::RegexpLike;
+                $patterns
+            }
             Standard::Extreme($f) => $rows,
             Standard::TruthTest($f) => $rows,
             Standard::BitOperator($f) => $rows,
@@ -161,6 +182,8 @@ pub enum Standard {
     Repeat,
     Reverse,
     ConcatAll,
+    TryTextToTruth,
+    RegexpLike,
     Extreme(Extreme),
     TruthTest(TruthTest),
     BitOperator(BitOperator),
@@ -172,6 +195,8 @@ pub enum Standard {
     Side(Side),
     Trim(Trim),
     TextToInt(TextToInt),
+    TryCast(Cast),
+    TryTextToInt(TextToInt),
     Letters(Letters),
 }
 
@@ -209,7 +234,12 @@ impl ScalarFnVTable for Standard {
         _options: &EmptyOptions,
         types: &[DType],
     ) -> VortexResult<DType> {
-        with_row!(self, f => row_dtype(alloc, f, types), text_dtype(alloc, f, types))
+        with_row!(
+            self,
+            f => row_dtype(alloc, f, types),
+            text_dtype(alloc, f, types),
+            f.return_dtype(alloc, types)
+        )
     }
 
     fn execute<A: ExecutionArgs>(
@@ -218,7 +248,15 @@ impl ScalarFnVTable for Standard {
         args: &A,
         ctx: &mut ExecutionCtx,
     ) -> VortexResult<Column> {
-        with_row!(self, f => execute_rows(f, args, ctx), execute_texts(f, args, ctx))
+        if let Standard::InList = self {
+            return execute_in_list(args, ctx);
+        }
+        with_row!(
+            self,
+            f => execute_rows(f, args, ctx),
+            execute_texts(f, args, ctx),
+            f.execute(args, ctx)
+        )
     }
 
     fn is_strict(&self, _options: &EmptyOptions) -> bool {

@@ -1,0 +1,2 @@
+mod FoundRows
+mod ListedItems

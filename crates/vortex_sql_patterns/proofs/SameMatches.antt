@@ -1,0 +1,62 @@
+-- What a compiled pattern matches.
+use Rattle.std.proofs.Common.{◌≡◌, ◌≢◌, ◌≤◌, ◌<◌, ◌⊎◌, inl, inr, ℕ, true, List, Option, Some, None}
+use Rattle.std.proofs.Common.{is_some, IsSomeAnd, length, get_or, refl, ap, sym, ◌∙◌, cond, subst}
+use Rattle.std.specs.Prelude.{chars, IfSome}
+use Rattle.std.proofs.lemmas.Bool.{le-leb, lt-leb}
+use Rattle.regex.specs.Patterns.{Re, SameCaptures, default_config, find_str, Reads, Refuses}
+use Rattle.regex.specs.Strings.{regex_pattern, regex_source, regex_config, IsReadFromSource}
+use Rattle.regex.specs.Names.{names_of}
+use Rattle.regex.specs.Failures.{IsRightKind}
+use Rattle.regex.specs.Sources.{IsRefusal}
+use Rattle.regex.specs.declared.error.Error.{Error}
+use Rattle.regex.specs.declared.error.Error.TheVariants.{Syntax}
+use Rattle.regex_syntax.specs.declared.error.Error as parser
+use Rattle.regex.specs.declared.string.regex.Regex.{Regex}
+use Rattle.regex.proofs.ForCallers.{is_match_alike}
+use Rattle.regex_syntax.specs.Brackets.{Nested}
+use Rattle.regex_syntax.specs.Grammar.{Names, group_count, read}
+use Rattle.regex_syntax.specs.declared.error.ErrorKind.{ErrorKind}
+use Rattle.regex_syntax.specs.declared.error.ErrorKind.TheVariants.{OutOfMemory, NestLimitExceeded}
+use Rattle.vortex_types.specs.Values.{truth}
+use Rattle.vortex_interface.specs.Outcomes.{gives}
+use Rattle.vortex_sql_patterns.specs.Patterns.{IsPatternOf, pattern_in, shallow}
+use Rattle.vortex_sql_patterns.specs.RegexpLike.{matched, regexp_like}
+
+-- what the grammar reads, where it is nested at most so deep, and else none
+shallow_read : (o : Option (Nested Re × Names)) (a : Re) (names : Names)
+    → IsSomeAnd o (λ (re, found). (re.depth ≤ 250) × SameCaptures a re.value × (names ≡ found)
+    × (group_count a ≤ length names))
+    → (re : Re) × (shallow o ≡ Some re) × SameCaptures a re
+shallow_read None a names h = absurd h
+shallow_read (Some (re, found)) a names h =
+    (re.value, ap (λ b. cond b (Some re.value) None) (le-leb re.depth 250 h.0), h.1)
+
+pub pattern_of_regex : (r : Regex) (ps : List ℕ) → regex_source r ≡ ps
+    → regex_config r ≡ default_config → IsReadFromSource r → IsPatternOf ps (regex_pattern r)
+unfolding Reads
+pattern_of_regex r ps is_source is_config is_read =
+    shallow_read (read default_config (chars ps)) (regex_pattern r) (names_of r.pattern.names.items)
+    (rw (is_source, is_config) at is_read)
+
+refused : (o : Option (Nested Re × Names)) (k : ErrorKind) → k ≢ OutOfMemory
+    → (k ≡ OutOfMemory) ⊎ ((o ≡ None)
+    ⊎ ((k ≡ NestLimitExceeded) × IfSome o (λ (re, _). 250 < re.depth)))
+    → shallow o ≡ None
+refused o k right (inl e) = absurd (right e)
+refused o k right (inr (inl e)) = ap shallow e
+refused None k right (inr (inr h)) = refl
+refused (Some (re, found)) k right (inr (inr h)) =
+    ap (λ b. cond b (Some re.value) None) (lt-leb re.depth 250 h.1)
+
+pub no_pattern : (ps : List ℕ) (x : Error) (e : parser.Error) → x ≡ Syntax e
+    → IsRightKind default_config ps x → IsRefusal default_config ps x → pattern_in ps ≡ None
+unfolding Refuses
+no_pattern ps x e is right refusal =
+    refused (read default_config (chars ps)) e.kind (subst (IsRightKind default_config ps) is right)
+    (refusal e is)
+
+-- an expression that matches as the pattern does has a match in the same texts
+pub same_match : (bs ps : List ℕ) (re : Re) → IsPatternOf ps re → ((k : ℕ) → get_or bs k 0 < 256)
+    → regexp_like bs ps ≡ gives (truth (is_some (find_str re bs 0)))
+same_match bs ps re (as_read, e, same) bytes =
+    ap (matched bs) e ∙ ap (λ b. gives (truth b)) (sym (is_match_alike same bs bytes true 0))

@@ -1,0 +1,2 @@
+pub mod TriedRows
+pub mod TryCasts
