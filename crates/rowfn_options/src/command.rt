@@ -12,14 +12,16 @@ const AFTER_HELP: &str = "Rows are CSV. EXPRESSION is one answer or more:
   a & b, a | b, a # b, ~a, a << n    operations on bits; a >> n
   s || t                             one text after the other
   = <> != < <= > >=                  two values of one type; texts by their bytes
-  a between x and y                  both ends count; not between
+  a between x and y                  both ends count; not between; between symmetric
   a like 'b%', a ilike 'B_'          not like, not ilike; like p escape '!'
   a in (x, y), a is null, a is true  not in, is not; a is distinct from b
   and or not                         three-valued, as in SQL
   case when a > 0 then x else y end  the value of the first condition that is true
-  coalesce(a, 0), substr(s, 1, 3)    and nullif greatest least abs sign length lower upper left
-                                     right trim strpos starts_with bit_and shift_left ..
-  cast(a as int)                     between integers, truth values and texts
+  coalesce(a, 0), substr(s, 1, 3)    and nullif if greatest least mod abs sign length octet_length
+                                     lower upper left right btrim ltrim rtrim strpos starts_with
+                                     replace split_part repeat reverse concat regexp_like
+  cast(a as int), a::int             between integers, truth values and texts; try_cast gives null
+                                     where cast fails
 Types are bool, i8 to i64, u8 to u64 and utf8; a ? after one allows null.
 There are no fractions, dates or times.
 

@@ -38,6 +38,7 @@ use Rattle.vortex_expressions.specs.Calls.{between_item, escape_said, liked_item
 use Rattle.vortex_expressions.specs.Binding.{item_of, tree_of}
 use Rattle.vortex_expressions.specs.Writing.{at_level, joined_syntax, written_operator}
 use Rattle.vortex_expressions.specs.Writing.{is_non_strict, is_within, between_syntax, like_kind}
+use Rattle.vortex_expressions.specs.Writing.{plain_kind}
 use Rattle.vortex_expressions.specs.Writing.{escape_written, matched_syntax, all_three}
 use Rattle.vortex_expressions.specs.Writing.{shipped_syntax, syntax_of, syntaxes_of, IsOver}
 use Rattle.vortex_expressions.specs.Writing.{AllOver}
@@ -147,14 +148,14 @@ module _ (scope : Fields) where
       absurd (not_one (length (list_of ts))
       (arity_is (ours Cast) (trees.tree x (trees.tree y ts)) h))
   cast_stands (trees.tree x no_trees) a h k e =
-      let m = mapped_is (λ b. cast b (codes "bool") true) (syntax_of x) a e in
+      let m = mapped_is (λ b. cast false b (codes "bool") true) (syntax_of x) a e in
       let s = k.0 m.a m.there in
       let t = typed_one (ours Cast) x h in
       let p = operand_of m.a x s t.first t.first_typed in
       tree_standing scope a (call (ours Cast) (trees.tree x no_trees))
       (ap (item_of scope) (sym m.made)
-      ∙ ap (λ i. and_then i (cast_item (codes "bool") true)) s.is
-      ∙ ap (λ v. as_item (and_then v (cast_to p.item))) (bool_back true)
+      ∙ ap (λ i. and_then i (cast_item false (codes "bool") true)) s.is
+      ∙ ap (λ v. as_item (and_then v (cast_to false p.item))) (bool_back true)
       ∙ ap as_item
       (one_called (ours Cast) (Some (bool_type true)) p.item x
       (settled_operand (Some (bool_type true)) p (other_beside (bool_type true) p.dtype refl))
@@ -265,10 +266,10 @@ module _ (scope : Fields) where
       (ap (item_of scope) (sym m.made)
       ∙ ap (λ i. and_then i
       (λ v. and_then (item_of scope low)
-      (λ l. and_then (item_of scope high) (between_item false v l)))) (placed concat_level m.a x s)
-      ∙ ap (λ i. and_then i (λ l. and_then (item_of scope high) (between_item false p.item l)))
+      (λ l. and_then (item_of scope high) (between_item plain_kind v l)))) (placed concat_level m.a x s)
+      ∙ ap (λ i. and_then i (λ l. and_then (item_of scope high) (between_item plain_kind p.item l)))
       (placed concat_level m.b y r)
-      ∙ ap (λ i. and_then i (between_item false p.item q.item)) (placed concat_level m.c z u)
+      ∙ ap (λ i. and_then i (between_item plain_kind p.item q.item)) (placed concat_level m.c z u)
       ∙ ap (λ v. as_item (and_then (called (ours (Between v)) beside is) (λ t. answers t)))
       (within_is o g.so)
       ∙ ap (λ v. as_item (and_then v (λ t. answers t)))

@@ -15,7 +15,6 @@ use Rattle.vortex_types.specs.ScalarView.{ScalarView}
 use Rattle.vortex_types.specs.Typing.{HasType}
 use Rattle.vortex_types.specs.Values as value
 use Rattle.vortex_types.specs.Values.{Value}
-use Rattle.vortex_interface.specs.Meaning.{fits}
 use Rattle.vortex_cells.specs.Ranges.{in_range}
 use Rattle.vortex_cells.specs.CellValues.{integer_of, number_of, number_where}
 use Rattle.vortex_cells.proofs.Numbers as numbers
@@ -25,7 +24,6 @@ use Rattle.vortex_expressions.specs.Outcomes.{Outcome, answers, refuses, missing
 use Rattle.vortex_expressions.specs.Outcomes.{or_refuses}
 use Rattle.vortex_expressions.specs.declared.refusal.Refusal.{Refusal}
 use Rattle.vortex_expressions.specs.declared.refusal.Refusal.TheVariants.{NotUtf8}
-use Rattle.vortex_expressions.specs.Items.{literal}
 use Rattle.vortex_expressions.specs.Calls.{text_of}
 
 -- outcomes with a result

@@ -1,10 +1,9 @@
 -- A call by its name is read back: its arguments are bound in their order, its literals keep their
 -- types, and the name means its function.
-use Rattle.std.proofs.Common.{◌≡◌, Bool, true, false, ◌&&◌, ◌⊎◌, List, [], ◌∷◌, ◌++◌, map, ℕ}
+use Rattle.std.proofs.Common.{◌≡◌, true, false, ◌&&◌, List, [], ◌∷◌, ◌++◌, ℕ}
 use Rattle.std.proofs.Common.{Option, Some, None, refl, ap, sym, subst, ◌∙◌, append_assoc, reverse}
 use Rattle.std.proofs.Common.{length, option_map}
 use Rattle.std.specs.Prelude.{is_some}
-use Rattle.std.specs.List.{list_all}
 use Rattle.std.proofs.lemmas.Bool.{and_parts}
 use Rattle.std.proofs.lemmas.List.{reverse-append}
 use Rattle.vortex_types.specs.LogicalTypes.{LogicalType, Fields, bool_type}
@@ -17,7 +16,6 @@ use Rattle.vortex_interface.specs.Trees.{call, no_trees, trees_of, list_of}
 use Rattle.vortex_interface.specs.declared.options.EmptyOptions.{EmptyOptions}
 use Rattle.vortex_interface.proofs.StepPlaces.{same_trees}
 use Rattle.vortex_standard.specs.declared.standard.Standard.{Standard}
-use Rattle.vortex_sql_rows.specs.declared.types.Kind.{Kind}
 use Rattle.vortex_sql_rows.specs.declared.types.Kind.TheVariants as kind
 use Rattle.vortex_sql_rows.specs.declared.types.Takes.{Takes}
 use Rattle.vortex_sql_rows.specs.declared.types.Takes.TheVariants.{Alike, Each, Cases}
@@ -25,9 +23,9 @@ use Rattle.vortex_sql_rows.specs.Types.{is_kind, all_alike, are_cases, are_taken
 use Rattle.vortex_sql_rows.specs.AcceptedTypes.{accepted}
 use Rattle.vortex_sql_rows.specs.Row.{row_type}
 use Rattle.vortex_standard.specs.Standard.{row_of}
-use Rattle.vortex_standard.specs.Names.{name_of, standard_named}
+use Rattle.vortex_standard.specs.Names.{name_of}
 use Rattle.vortex_standard.specs.NameLaws.{named_back}
-use Rattle.vortex_syntax.specs.Syntax.{Syntax, nullary, applied, Arguments, no_arguments, argument}
+use Rattle.vortex_syntax.specs.Syntax.{Syntax, Arguments, no_arguments, argument}
 use Rattle.vortex_expressions.specs.declared.refusal.Refusal.TheVariants.{NoFunction}
 use Rattle.vortex_expressions.specs.Outcomes.{answers, and_then, or_refuses}
 use Rattle.vortex_expressions.specs.Items.{Item, Tree, meaning, callable, common_type, truth_type}

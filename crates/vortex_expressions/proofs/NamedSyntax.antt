@@ -4,7 +4,7 @@ use Rattle.std.proofs.Common.{◌∙◌, append_assoc, nat_lt}
 use Rattle.vortex_syntax.specs.Nesting.{nesting_limit}
 use Rattle.vortex_syntax.specs.declared.token.Sign.TheVariants as sign
 use Rattle.vortex_syntax.specs.Tokens.{Token, function, sign}
-use Rattle.vortex_syntax.specs.Syntax.{Syntax, nullary, applied, Arguments, no_arguments, argument}
+use Rattle.vortex_syntax.specs.Syntax.{Syntax, Arguments, no_arguments, argument}
 use Rattle.vortex_syntax.specs.Levels.{level, Fits, AllFit}
 use Rattle.vortex_syntax.specs.Spelling.{spelling, all_spelled}
 use Rattle.vortex_expressions.specs.Writing.{applied_from, named_syntax}

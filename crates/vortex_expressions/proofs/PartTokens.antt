@@ -240,9 +240,9 @@ call_tokens d (ours (NullTest n)) ts =
     ap (λ x. option_and_then (tokens_behind d) (option_map (λ a. tested Null n (at_level is_level a)) x))
     (nth_is ts 0) ∙ test_case d n (slice_get (list_of ts) 0)
 call_tokens d (ours Cast) ts =
-    ap (λ x. option_and_then (tokens_behind d) (option_map (λ a. cast a (codes "bool") true) x))
+    ap (λ x. option_and_then (tokens_behind d) (option_map (λ a. cast false a (codes "bool") true) x))
     (nth_is ts 0)
-    ∙ fused (tokens_behind d) (λ a. cast a (codes "bool") true)
+    ∙ fused (tokens_behind d) (λ a. cast false a (codes "bool") true)
     (option_and_then syntax_of (slice_get (list_of ts) 0))
     ∙ cast_case (nat_lt d nesting_limit) d (slice_get (list_of ts) 0)
 call_tokens d (ours (Between o)) ts =

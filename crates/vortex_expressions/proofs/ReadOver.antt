@@ -33,12 +33,12 @@ use Rattle.vortex_syntax.specs.Tokens as token
 use Rattle.vortex_syntax.specs.Syntax.{Syntax, operand, negative, typed, grouped, negated, joined}
 use Rattle.vortex_syntax.specs.Syntax.{minus, tested, distinct, between, matched, listed, cast}
 use Rattle.vortex_syntax.specs.Syntax.{chosen, chosen_else, nullary, applied, Arguments}
-use Rattle.vortex_syntax.specs.Syntax.{plus, bit_not, null_tested}
+use Rattle.vortex_syntax.specs.Syntax.{plus, bit_not, null_tested, converted}
 use Rattle.vortex_syntax.specs.Syntax.{no_arguments, argument, Branches, without_operand}
 use Rattle.vortex_syntax.specs.Syntax.{of_operand, branch}
 use Rattle.vortex_expressions.specs.Literals as literal
 use Rattle.vortex_expressions.specs.Literals.{Literal, type_beside, value_at}
-use Rattle.vortex_expressions.specs.Outcomes.{Outcome, answers, refuses, missing, and_then}
+use Rattle.vortex_expressions.specs.Outcomes.{Outcome, answers, refuses, and_then}
 use Rattle.vortex_expressions.specs.Outcomes.{or_refuses}
 use Rattle.vortex_expressions.specs.declared.refusal.Refusal.TheVariants.{UntypedNull, NotHeld}
 use Rattle.vortex_expressions.specs.declared.refusal.Refusal.TheVariants.{NoEscape, NoCast}
@@ -67,7 +67,12 @@ use Rattle.vortex_expressions.specs.Calls.{equal_cases, conditions_of, chosen_it
 use Rattle.vortex_expressions.specs.Applied.{values_of, cases_settled, arguments_settled}
 use Rattle.vortex_expressions.specs.Applied.{function_call, applied_item}
 use Rattle.vortex_expressions.specs.Meeting.{widened_to}
-use Rattle.vortex_expressions.specs.Casts.{cast_function, cast_by, cast_from, cast_tree}
+use Rattle.vortex_expressions.specs.Casts.{cast_function, cast_by, cast_from, cast_tree, cast_hint}
+use Rattle.vortex_expressions.specs.Casts.{tried_if}
+use Rattle.vortex_expressions.specs.Calls.{between_tree}
+use Rattle.vortex_operators.specs.declared.operators.Operator.TheVariants as operator
+use Rattle.std.specs.Option.{option_map}
+use Rattle.vortex_syntax.specs.declared.step.BetweenKind.{BetweenKind}
 use Rattle.vortex_types.specs.TypeEquality.{alike_types}
 use Rattle.vortex_expressions.specs.Binding.{with_item, item_of, items_after, branch_items}
 use Rattle.vortex_expressions.specs.Binding.{tree_of}
@@ -205,10 +210,11 @@ module _ (scope : Fields) where
       (λ t g. let m = then_is (type_of_name w n) (constant_at l) t g in
       constant_over l m.a t h m.second) e
 
-  cast_from_over : (o : Option LogicalType) (ty : LogicalType) (u t : Tree) → IsOver scope u
-      → cast_from o ty u ≡ answers t → IsOver scope t
-  cast_from_over None ty u t h e = absurd cc
-  cast_from_over (Some k) ty u t h e = by (alike_types k ty) (cast_function k ty) e
+  cast_from_over : (p : Bool) (o : Option LogicalType) (ty : LogicalType) (u t : Tree) → IsOver scope u
+      → cast_from p o ty u ≡ answers t → IsOver scope t
+  cast_from_over p None ty u t h e = absurd cc
+  cast_from_over p (Some k) ty u t h e =
+      by (alike_types k ty) (option_map (tried_if p) (cast_function k ty)) e
     where
       by : (b : Bool) (o : Option Standard)
           → (if b then answers u else cast_by o u) ≡ answers t → IsOver scope t
@@ -216,26 +222,26 @@ module _ (scope : Fields) where
       by false None g = absurd cc
       by false (Some f) g = made_over (callable f) (u ∷ []) t tt (h, tt) g
 
-  cast_to_over : (j : Item) (ty : LogicalType) (t : Tree) → ItemOver j → cast_to j ty ≡ answers t
-      → IsOver scope t
-  cast_to_over j ty t h e = by (is_nullable ty) (is_bool_type ty) e
+  cast_to_over : (p : Bool) (j : Item) (ty : LogicalType) (t : Tree) → ItemOver j
+      → cast_to p j ty ≡ answers t → IsOver scope t
+  cast_to_over p j ty t h e = by (is_nullable ty) (is_bool_type ty) e
     where
       by : (a b : Bool)
           → (if a then (if b then called (ours Cast) (Some ty) (j ∷ []) else refuses NoCast) else
-          and_then (settled (Some ty) j) (cast_tree ty)) ≡ answers t → IsOver scope t
+          and_then (settled (cast_hint p j ty) j) (cast_tree p ty)) ≡ answers t → IsOver scope t
       by true true g = called_over (ours Cast) (Some ty) (j ∷ []) t tt (h, tt) g
       by true false g = absurd cc
       by false b g =
-          let m = then_is (settled (Some ty) j) (cast_tree ty) t g in
-          cast_from_over (tree_type meaning m.a) ty m.a t (settled_over (Some ty) j m.a h m.first)
-          m.second
+          let m = then_is (settled (cast_hint p j ty) j) (cast_tree p ty) t g in
+          cast_from_over p (tree_type meaning m.a) ty m.a t
+          (settled_over (cast_hint p j ty) j m.a h m.first) m.second
 
-  cast_over : (w : List ℕ) (n : Bool) (j i : Item) → ItemOver j → cast_item w n j ≡ answers i
-      → ItemOver i
-  cast_over w n j i h e =
-      as_item_over (and_then (type_of_name w n) (cast_to j)) i
-      (λ t g. let m = then_is (type_of_name w n) (cast_to j) t g in
-      cast_to_over j m.a t h m.second) e
+  cast_over : (p : Bool) (w : List ℕ) (n : Bool) (j i : Item) → ItemOver j
+      → cast_item p w n j ≡ answers i → ItemOver i
+  cast_over p w n j i h e =
+      as_item_over (and_then (type_of_name w n) (cast_to p j)) i
+      (λ t g. let m = then_is (type_of_name w n) (cast_to p j) t g in
+      cast_to_over p j m.a t h m.second) e
 
   not_over : (j i : Item) → ItemOver j → not_item j ≡ answers i → ItemOver i
   not_over j i h e =
@@ -336,16 +342,32 @@ module _ (scope : Fields) where
   tested_over test.False n j i h e = truth_over (standard.TruthTest IsFalse) n j i h e
   tested_over test.Unknown n j i h e = truth_over (standard.TruthTest IsUnknown) n j i h e
 
-  between_over : (n : Bool) (j k l i : Item) → ItemOver j → ItemOver k → ItemOver l
+  within_over : (j k l : Item) (t : Tree) → ItemOver j → ItemOver k → ItemOver l
+      → between_all (j ∷ k ∷ l ∷ []) ≡ answers t → IsOver scope t
+  within_over j k l t h g m e =
+      let is = j ∷ k ∷ l ∷ [] in
+      called_over (ours (Between within_bounds)) (common_type is) is t tt (h, (g, (m, tt))) e
+
+  bounds_over : (s : Bool) (j k l : Item) (t : Tree) → ItemOver j → ItemOver k → ItemOver l
+      → between_tree s j k l ≡ answers t → IsOver scope t
+  bounds_over false j k l t h g m e = within_over j k l t h g m e
+  bounds_over true j k l t h g m e =
+      let f : Callable = ours (Binary operator.Or) in
+      let x = then_is (between_all (j ∷ k ∷ l ∷ []))
+      (λ u. and_then (between_all (j ∷ l ∷ k ∷ []))
+      (λ v. called f None (bound u ∷ bound v ∷ []))) t e in
+      let y = then_is (between_all (j ∷ l ∷ k ∷ []))
+      (λ v. called f None (bound x.a ∷ bound v ∷ [])) t x.second in
+      called_over f None (bound x.a ∷ bound y.a ∷ []) t tt
+      (within_over j k l x.a h g m x.first, (within_over j l k y.a h m g y.first, tt)) y.second
+
+  between_over : (n : BetweenKind) (j k l i : Item) → ItemOver j → ItemOver k → ItemOver l
       → between_item n j k l ≡ answers i → ItemOver i
   between_over n j k l i h g m e =
-      let is = j ∷ k ∷ l ∷ [] in
-      let f : Callable = ours (Between within_bounds) in
-      as_item_over (and_then (between_all is) (negated_if n)) i
+      as_item_over (and_then (between_tree n.symmetric j k l) (negated_if n.negated)) i
       (λ t x.
-      let y = then_is (between_all is) (negated_if n) t x in
-      negated_over n y.a t
-      (called_over f (common_type is) is y.a tt (h, (g, (m, tt))) y.first) y.second) e
+      let y = then_is (between_tree n.symmetric j k l) (negated_if n.negated) t x in
+      negated_over n.negated y.a t (bounds_over n.symmetric j k l y.a h g m y.first) y.second) e
 
   liked_over : (k : LikeKind) (c : Option ℕ) (j l i : Item) → MatchOption c ⊤ IsScalar → ItemOver j
       → ItemOver l → liked_item k c j l ≡ answers i → ItemOver i
@@ -495,8 +517,11 @@ module _ (scope : Fields) where
         (λ x. and_then (item_of scope p) (matched_item k e x)) i g in
         let n = then_is (item_of scope p) (matched_item k e m.a) i m.second in
         matched_over k e m.a n.a i (item_over a m.a m.first) (item_over p n.a n.first) n.second
-    item_over (cast a w n) i e = let m = then_is (item_of scope a) (cast_item w n) i e in
-        cast_over w n m.a i (item_over a m.a m.first) m.second
+    item_over (converted a w n) i e =
+        let m = then_is (item_of scope a) (cast_item false w n) i e in
+        cast_over false w n m.a i (item_over a m.a m.first) m.second
+    item_over (cast p a w n) i e = let m = then_is (item_of scope a) (cast_item p w n) i e in
+        cast_over p w n m.a i (item_over a m.a m.first) m.second
     item_over (minus a) i e = let m = then_is (item_of scope a) minus_item i e in
         joined_over written.Sub (literal (literal.number (codes "0"))) m.a i tt
         (item_over a m.a m.first) m.second

@@ -45,7 +45,10 @@ use Rattle.vortex_expressions.specs.Items.{call_of, called, callable, common_typ
 use Rattle.vortex_expressions.specs.Calls as calls
 use Rattle.vortex_expressions.specs.Applied.{values_of, cases_settled, arguments_settled}
 use Rattle.vortex_expressions.specs.Applied.{function_call, applied_item}
-use Rattle.vortex_expressions.specs.Casts.{cast_function, cast_by, cast_from, cast_tree}
+use Rattle.vortex_expressions.specs.Casts.{cast_function, cast_by, cast_from, cast_tree, cast_hint}
+use Rattle.std.specs.Option.{option_map}
+use Rattle.vortex_expressions.specs.Casts.{tried_if}
+use Rattle.vortex_syntax.specs.declared.step.BetweenKind.{BetweenKind}
 use Rattle.vortex_types.specs.TypeEquality.{alike_types}
 use Rattle.vortex_expressions.specs.Binding.{with_item, item_of, items_after, branch_items}
 use Rattle.vortex_expressions.specs.Binding.{tree_of}
@@ -115,7 +118,8 @@ module _ (scope : Fields) where
   sure_literal (tree.distinct n a b) f le = absurd (let k : ⊥ = omega (arith, le) in k)
   sure_literal (tree.between n a b c) f le = absurd (let k : ⊥ = omega (arith, le) in k)
   sure_literal (tree.matched k a p e) f le = absurd (let j : ⊥ = omega (arith, le) in j)
-  sure_literal (tree.cast a w n) f le = absurd (let k : ⊥ = omega (arith, le) in k)
+  sure_literal (tree.cast p a w n) f le = absurd (let k : ⊥ = omega (arith, le) in k)
+  sure_literal (tree.converted a w n) f le = absurd (let k : ⊥ = omega (arith, le, f.1) in k)
   sure_literal (tree.minus a) f le = absurd (let k : ⊥ = omega (arith, le) in k)
   sure_literal (tree.plus a) f le = absurd (let k : ⊥ = omega (arith, le) in k)
   sure_literal (tree.bit_not a) f le = absurd (let k : ⊥ = omega (arith, le) in k)
@@ -170,23 +174,27 @@ module _ (scope : Fields) where
   sure_cast_by None u = tt
   sure_cast_by (Some f) u = sure_named_call f (u ∷ [])
 
-  sure_cast_from : (o : Option LogicalType) (t : LogicalType) (u : Tree) → IsTyped u
-      → Sure IsTyped (cast_from o t u)
-  sure_cast_from None t u h = tt
-  sure_cast_from (Some k) t u h =
-      sure_if IsTyped (alike_types k t) _ _ h (sure_cast_by (cast_function k t) u)
+  sure_cast_from : (p : Bool) (o : Option LogicalType) (t : LogicalType) (u : Tree) → IsTyped u
+      → Sure IsTyped (cast_from p o t u)
+  sure_cast_from p None t u h = tt
+  sure_cast_from p (Some k) t u h =
+      sure_if IsTyped (alike_types k t) _ _ h
+      (sure_cast_by (option_map (tried_if p) (cast_function k t)) u)
 
-  sure_cast_tree : (t : LogicalType) (u : Tree) → IsTyped u → Sure IsTyped (cast_tree t u)
-  sure_cast_tree t u h = sure_cast_from (tree_type meaning u) t u h
+  sure_cast_tree : (p : Bool) (t : LogicalType) (u : Tree) → IsTyped u
+      → Sure IsTyped (cast_tree p t u)
+  sure_cast_tree p t u h = sure_cast_from p (tree_type meaning u) t u h
 
-  sure_cast : (w : List ℕ) (n : Bool) (i : Item) → IsItem i → Sure IsItem (calls.cast_item w n i)
-  sure_cast w n i h =
+  sure_cast : (p : Bool) (w : List ℕ) (n : Bool) (i : Item) → IsItem i
+      → Sure IsItem (calls.cast_item p w n i)
+  sure_cast p w n i h =
       sure_item _ (sure_then _ IsTyped (calls.type_of_name w n) _ (sure_named w n)
       (λ t k. sure_if IsTyped (is_nullable t) _ _
       (sure_if IsTyped (is_bool_type t) _ _
       (sure_called Cast (Some t) (i ∷ []) refl (λ ks. refl) (h, tt)) tt)
-      (sure_then IsTyped IsTyped (settled (Some t) i) _ (sure_settled (Some t) i h)
-      (λ u j. sure_cast_tree t u j))))
+      (sure_then IsTyped IsTyped (settled (cast_hint p i t) i) _
+      (sure_settled (cast_hint p i t) i h)
+      (λ u j. sure_cast_tree p t u j))))
 
   sure_operator : (o : Operator) (u : Option LogicalType) (is : List Item) → length is ≡ 2
       → AllItems is → Sure IsTyped (called (ours (Binary o)) u is)
@@ -229,12 +237,26 @@ module _ (scope : Fields) where
   sure_negated true t h = sure_not None (bound t) h
   sure_negated false t h = h
 
-  sure_between : (n : Bool) (a b c : Item) → IsItem a → IsItem b → IsItem c
+  sure_within : (a b c : Item) → IsItem a → IsItem b → IsItem c
+      → Sure IsTyped (calls.between_all (a ∷ b ∷ c ∷ []))
+  sure_within a b c h k j =
+      sure_called (Between calls.within_bounds) _ (a ∷ b ∷ c ∷ []) refl (λ ks. refl)
+      (h, (k, (j, tt)))
+
+  sure_bounds : (s : Bool) (a b c : Item) → IsItem a → IsItem b → IsItem c
+      → Sure IsTyped (calls.between_tree s a b c)
+  sure_bounds false a b c h k j = sure_within a b c h k j
+  sure_bounds true a b c h k j =
+      sure_then IsTyped IsTyped (calls.between_all (a ∷ b ∷ c ∷ [])) _ (sure_within a b c h k j)
+      (λ t x. sure_then IsTyped IsTyped (calls.between_all (a ∷ c ∷ b ∷ [])) _
+      (sure_within a c b h j k)
+      (λ u y. sure_operator operator.Or None (bound t ∷ bound u ∷ []) refl (x, (y, tt))))
+
+  sure_between : (n : BetweenKind) (a b c : Item) → IsItem a → IsItem b → IsItem c
       → Sure IsItem (calls.between_item n a b c)
   sure_between n a b c h k j =
-      sure_item _ (sure_then IsTyped IsTyped (calls.between_all (a ∷ b ∷ c ∷ [])) _
-      (sure_called (Between calls.within_bounds) _ (a ∷ b ∷ c ∷ []) refl (λ ks. refl)
-      (h, (k, (j, tt)))) (sure_negated n))
+      sure_item _ (sure_then IsTyped IsTyped (calls.between_tree n.symmetric a b c) _
+      (sure_bounds n.symmetric a b c h k j) (sure_negated n.negated))
 
   sure_liked : (k : LikeKind) (e : Option ℕ) (a p : Item) → IsItem a → IsItem p
       → Sure IsItem (calls.liked_item k e a p)
@@ -369,8 +391,10 @@ module _ (scope : Fields) where
         sure_then IsItem IsItem (item_of scope a) _ (sure a f.2)
         (λ x h. sure_then IsItem IsItem (item_of scope p) _ (sure p f.3)
         (λ y k. sure_matched l e x y h k))
-    sure (tree.cast a w n) f =
-        sure_then IsItem IsItem (item_of scope a) _ (sure a f) (λ i h. sure_cast w n i h)
+    sure (tree.converted a w n) f =
+        sure_then IsItem IsItem (item_of scope a) _ (sure a f.2) (λ i h. sure_cast false w n i h)
+    sure (tree.cast p a w n) f =
+        sure_then IsItem IsItem (item_of scope a) _ (sure a f) (λ i h. sure_cast p w n i h)
     sure (tree.minus a) f =
         sure_then IsItem IsItem (item_of scope a) _ (sure a f.2)
         (λ i h. sure_joined signs.Sub (literal (literals.number (codes "0"))) i tt h)

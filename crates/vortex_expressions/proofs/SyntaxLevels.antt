@@ -92,7 +92,7 @@ shipped_level_is Not os a e = let m =
     mapped_is (λ b. negated (at_level not_level b)) (nth 0 os) a e in ap level (sym m.made)
 shipped_level_is (NullTest n) os a e = let m =
     mapped_is (λ b. tested Null n (at_level is_level b)) (nth 0 os) a e in ap level (sym m.made)
-shipped_level_is Cast os a e = let m = mapped_is (λ b. cast b (codes "bool") true) (nth 0 os) a e in
+shipped_level_is Cast os a e = let m = mapped_is (λ b. cast false b (codes "bool") true) (nth 0 os) a e in
     ap level (sym m.made)
 shipped_level_is (Between o) os a e =
     let h = where_is (is_within o)
@@ -238,7 +238,7 @@ shipped_fits (NullTest n) os a h e =
     let x = fits_at is_level m.a (lit≤ tt) (at_place Fits 0 os m.a h m.there) in
     subst Fits m.made (x.high, x.fits, tt)
 shipped_fits Cast os a h e =
-    let m = mapped_is (λ b. cast b (codes "bool") true) (nth 0 os) a e in
+    let m = mapped_is (λ b. cast false b (codes "bool") true) (nth 0 os) a e in
     subst Fits m.made (at_place Fits 0 os m.a h m.there)
 shipped_fits (Between o) os a h e =
     let g = where_is (is_within o)

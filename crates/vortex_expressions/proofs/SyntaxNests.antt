@@ -13,12 +13,12 @@ use Rattle.vortex_syntax.specs.Syntax.{Syntax, operand, negative, typed, grouped
 use Rattle.vortex_syntax.specs.Syntax.{minus, tested, distinct, between, matched, listed, cast}
 use Rattle.vortex_syntax.specs.Syntax.{chosen, chosen_else, nullary, applied, Arguments}
 use Rattle.vortex_syntax.specs.Syntax.{no_arguments, argument, Branches, without_operand}
-use Rattle.vortex_syntax.specs.Syntax.{of_operand, branch, plus, bit_not, null_tested, Tested}
+use Rattle.vortex_syntax.specs.Syntax.{of_operand, branch, plus, bit_not, null_tested, converted, Tested}
 use Rattle.vortex_syntax.specs.Syntax.{Null, True, False, Unknown}
 use Rattle.vortex_syntax.specs.Levels.{is_operand, Fits, AllFit, BranchesFit}
 use Rattle.vortex_syntax.specs.Spelling.{spelling, all_spelled, branches_spelled, operator_sign}
 use Rattle.vortex_syntax.specs.Spelling.{type_token, with_not, in_tokens, null_test_sign}
-use Rattle.vortex_syntax.specs.Spelling.{function_tokens}
+use Rattle.vortex_syntax.specs.Spelling.{function_tokens, between_tokens, cast_sign}
 use Rattle.vortex_syntax.specs.Spelling.{test_tokens, distinct_tokens, like_sign, escape_tokens}
 use Rattle.vortex_syntax.specs.Nesting.{nests, nests_from}
 use Rattle.vortex_expressions.specs.WritingSteps.{nests_behind, all_nest_behind}
@@ -102,10 +102,13 @@ distinct_nests : (n : Bool) (d : ℕ) (us : List Token)
 distinct_nests true d us = refl
 distinct_nests false d us = refl
 
-between_nests : (n : Bool) (d : ℕ) (us : List Token)
-    → nests_from d (with_not n sign.Between ++ us) ≡ nests_from d us
-between_nests true d us = refl
-between_nests false d us = refl
+between_nests : (n s : Bool) (d : ℕ) (us : List Token)
+    → nests_from d (between_tokens (record { negated = n; symmetric = s }) ++ us)
+    ≡ nests_from d us
+between_nests true true d us = refl
+between_nests true false d us = refl
+between_nests false true d us = refl
+between_nests false false d us = refl
 
 like_nests : (n i : Bool) (d : ℕ) (us : List Token)
     → nests_from d (like_sign (record { negated = n; case_insensitive = i }) ++ us)
@@ -221,6 +224,24 @@ pair_grouped c v ts us =
     (append_assoc (spelling c) (sign sign.Then ∷ (spelling v ++ ts)) us
     ∙ ap (λ xs. spelling c ++ (sign sign.Then ∷ xs)) (append_assoc (spelling v) ts us))
 
+cast_opens : (p : Bool) (d : ℕ) (us : List Token)
+    → nests_from d (sign (cast_sign p) ∷ us) ≡ nests_from d us
+cast_opens true d us = refl
+cast_opens false d us = refl
+
+cast_nests : (p : Bool) (a : Syntax) (w : List ℕ) (n : Bool) → NestsAs a
+    → NestsAs (cast p a w n)
+cast_nests p a w n ia d us =
+    let last : List Token = sign sign.As ∷ type_token w n ∷ sign sign.Close ∷ us in
+    cast_opens p d (sign sign.Open ∷ ((spelling a ++ (sign sign.As ∷ type_token w n ∷ sign
+    sign.Close ∷ [])) ++ us))
+    ∙ ap (λ ts. nat_lt d nesting_limit && nests_from (suc d) ts)
+    (append_assoc (spelling a) (sign sign.As ∷ type_token w n ∷ sign sign.Close ∷ []) us)
+    ∙ ap (λ b. nat_lt d nesting_limit && b)
+    (ia (suc d) last
+    ∙ ap (λ v. nests_behind (suc d) a && v) (type_nests w n (suc d) (sign sign.Close ∷ us)))
+    ∙ sym (and_grouped (nat_lt d nesting_limit) (nests_behind (suc d) a) (nests_from d us))
+
 mutual
   pub nests_spelled : (a : Syntax) → Fits a → (d : ℕ) (us : List Token)
       → nests_from d (spelling a ++ us) ≡ (nests_behind d a && nests_from d us)
@@ -254,20 +275,20 @@ mutual
       ∙ ap (λ v. nests_behind d a && v)
       (distinct_nests n d (spelling b ++ us) ∙ nests_spelled b f.3 d us)
       ∙ sym (and_grouped (nests_behind d a) (nests_behind d b) (nests_from d us))
-  nests_spelled (between n a low high) f d us =
+  nests_spelled (between k a low high) f d us =
       let upper : List Token = spelling high ++ us in
       let lower : List Token = spelling low ++ (sign sign.And ∷ upper) in
       ap (nests_from d)
       (append_assoc (spelling a)
-      (with_not n sign.Between ++ (spelling low ++ (sign sign.And ∷ spelling high))) us
+      (between_tokens k ++ (spelling low ++ (sign sign.And ∷ spelling high))) us
       ∙ ap (λ ts. spelling a ++ ts)
-      (append_assoc (with_not n sign.Between)
+      (append_assoc (between_tokens k)
       (spelling low ++ (sign sign.And ∷ spelling high)) us)
-      ∙ ap (λ ts. spelling a ++ (with_not n sign.Between ++ ts))
+      ∙ ap (λ ts. spelling a ++ (between_tokens k ++ ts))
       (append_assoc (spelling low) (sign sign.And ∷ spelling high) us))
-      ∙ nests_spelled a f.3 d (with_not n sign.Between ++ lower)
+      ∙ nests_spelled a f.3 d (between_tokens k ++ lower)
       ∙ ap (λ v. nests_behind d a && v)
-      (between_nests n d lower ∙ nests_spelled low f.4 d (sign sign.And ∷ upper)
+      (between_nests k.negated k.symmetric d lower ∙ nests_spelled low f.4 d (sign sign.And ∷ upper)
       ∙ ap (λ v. nests_behind d low && v) (nests_spelled high f.5 d us)
       ∙ sym (and_grouped (nests_behind d low) (nests_behind d high) (nests_from d us)))
       ∙ sym (and_grouped (nests_behind d a) (nests_behind d low && nests_behind d high)
@@ -283,14 +304,12 @@ mutual
       (like_nests k.negated k.case_insensitive d (spelling p ++ last) ∙ nests_spelled p f.3 d last
       ∙ ap (λ v. nests_behind d p && v) (escape_nests e d us))
       ∙ sym (and_grouped (nests_behind d a) (nests_behind d p) (nests_from d us))
-  nests_spelled (cast a w n) f d us =
-      let last : List Token = sign sign.As ∷ type_token w n ∷ sign sign.Close ∷ us in
-      ap (λ ts. nat_lt d nesting_limit && nests_from (suc d) ts)
-      (append_assoc (spelling a) (sign sign.As ∷ type_token w n ∷ sign sign.Close ∷ []) us)
-      ∙ ap (λ b. nat_lt d nesting_limit && b)
-      (nests_spelled a f (suc d) last
-      ∙ ap (λ v. nests_behind (suc d) a && v) (type_nests w n (suc d) (sign sign.Close ∷ us)))
-      ∙ sym (and_grouped (nat_lt d nesting_limit) (nests_behind (suc d) a) (nests_from d us))
+  nests_spelled (converted a w n) f d us =
+      let last : List Token = sign sign.Typed ∷ type_token w n ∷ [] in
+      ap (nests_from d) (append_assoc (spelling a) last us)
+      ∙ nests_spelled a f.2 d (last ++ us)
+      ∙ ap (λ v. nests_behind d a && v) (type_nests w n d us)
+  nests_spelled (cast p a w n) f d us = cast_nests p a w n (nests_spelled a f) d us
   nests_spelled (minus a) f d us = nests_spelled a f.2 d us
   nests_spelled (plus a) f d us = nests_spelled a f.1 d us
   nests_spelled (bit_not a) f d us = nests_spelled a f.1 d us

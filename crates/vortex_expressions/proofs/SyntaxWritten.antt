@@ -248,7 +248,7 @@ shipped_written (NullTest n) os a h e =
     subst Writes m.made
     (all_written (spelling (at_level is_level m.a)) (null_test n) x (null_written n))
 shipped_written Cast os a h e =
-    let m = mapped_is (λ b. cast b (codes "bool") true) (nth 0 os) a e in
+    let m = mapped_is (λ b. cast false b (codes "bool") true) (nth 0 os) a e in
     let x = at_place Writes 0 os m.a h m.there in
     subst Writes m.made (
       tt,

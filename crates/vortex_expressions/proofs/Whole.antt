@@ -8,7 +8,7 @@ use Rattle.vortex_syntax.specs.Syntax.{Syntax, operand, negative, typed, grouped
 use Rattle.vortex_syntax.specs.Syntax.{minus, tested, distinct, between, matched, listed, cast}
 use Rattle.vortex_syntax.specs.Syntax.{chosen, chosen_else, nullary, applied, Arguments}
 use Rattle.vortex_syntax.specs.Syntax.{no_arguments, argument, Branches, without_operand}
-use Rattle.vortex_syntax.specs.Syntax.{of_operand, branch, plus, bit_not, null_tested}
+use Rattle.vortex_syntax.specs.Syntax.{of_operand, branch, plus, bit_not, null_tested, converted}
 use Rattle.vortex_syntax.specs.declared.step.Test.TheVariants as test
 use Rattle.vortex_syntax.specs.Postfix as step
 use Rattle.vortex_syntax.specs.Postfix.{Step, postfix, all_postfix, argument_count}
@@ -175,13 +175,13 @@ module _ (scope : Fields) where
         next [] (postfix a) _ _ (λ x. and_then (item_of scope b) (distinct_item n x)) (leaves a)
         (λ x. next (x ∷ []) (postfix b) _ _ (distinct_item n x) (leaves b)
         (λ y. last (y ∷ x ∷ []) _ _ (λ st. refl)))
-    leaves (between n a low high) =
+    leaves (between k a low high) =
         next [] (postfix a) _ _
-        (λ x. and_then (item_of scope low) (λ y. and_then (item_of scope high) (between_item n x y)))
+        (λ x. and_then (item_of scope low) (λ y. and_then (item_of scope high) (between_item k x y)))
         (leaves a)
         (λ x. next (x ∷ []) (postfix low) _ _
-        (λ y. and_then (item_of scope high) (between_item n x y)) (leaves low)
-        (λ y. next (y ∷ x ∷ []) (postfix high) _ _ (between_item n x y) (leaves high)
+        (λ y. and_then (item_of scope high) (between_item k x y)) (leaves low)
+        (λ y. next (y ∷ x ∷ []) (postfix high) _ _ (between_item k x y) (leaves high)
         (λ z. last (z ∷ y ∷ x ∷ []) _ _ (λ st. refl))))
     leaves (matched k a p None) =
         next [] (postfix a) _ _ (λ x. and_then (item_of scope p) (matched_item k None x)) (leaves a)
@@ -192,8 +192,11 @@ module _ (scope : Fields) where
         (leaves a)
         (λ x. next (x ∷ []) (postfix p) _ _ (matched_item k (Some e) x) (leaves p)
         (λ y. last (y ∷ x ∷ []) _ _ (λ st. refl)))
-    leaves (cast a w n) =
-        next [] (postfix a) _ _ (cast_item w n) (leaves a) (λ i. last (i ∷ []) _ _ (λ st. refl))
+    leaves (converted a w n) =
+        next [] (postfix a) _ _ (cast_item false w n) (leaves a)
+        (λ i. last (i ∷ []) _ _ (λ st. refl))
+    leaves (cast p a w n) =
+        next [] (postfix a) _ _ (cast_item p w n) (leaves a) (λ i. last (i ∷ []) _ _ (λ st. refl))
     leaves (minus a) =
         next [] (postfix a) _ _ minus_item (leaves a) (λ i. last (i ∷ []) _ _ (λ st. refl))
     leaves (nullary p w) =

@@ -1,11 +1,11 @@
 -- The tree that an expression binds to over the columns of a scope.
-use Rattle.std.specs.Prelude.{◌≡◌, ℕ, List, [], ◌∷◌, None, reverse}
+use Rattle.std.specs.Prelude.{◌≡◌, ℕ, List, [], ◌∷◌, false, None, reverse}
 use Rattle.vortex_types.specs.LogicalTypes.{Fields}
 use Rattle.vortex_syntax.specs.Syntax.{Syntax, operand, negative, typed, grouped, negated, joined}
 use Rattle.vortex_syntax.specs.Syntax.{minus, tested, distinct, between, matched, listed, cast}
 use Rattle.vortex_syntax.specs.Syntax.{chosen, chosen_else, nullary, applied, Arguments}
 use Rattle.vortex_syntax.specs.Syntax.{no_arguments, argument, Branches, without_operand}
-use Rattle.vortex_syntax.specs.Syntax.{of_operand, branch, plus, bit_not, null_tested}
+use Rattle.vortex_syntax.specs.Syntax.{of_operand, branch, plus, bit_not, null_tested, converted}
 use Rattle.vortex_syntax.specs.declared.step.Test.TheVariants as test
 use Rattle.vortex_syntax.specs.Grammar.{Reads}
 use Rattle.vortex_expressions.specs.declared.refusal.Refusal.{Refusal}
@@ -43,12 +43,13 @@ module _ (scope : Fields) where
     item_of (null_tested n a) = and_then (item_of a) (tested_item test.Null n)
     item_of (distinct n a b) =
         and_then (item_of a) (λ x. and_then (item_of b) (distinct_item n x))
-    item_of (between n a low high) =
+    item_of (between k a low high) =
         and_then (item_of a) (λ x. and_then (item_of low) (λ y. and_then (item_of high)
-        (between_item n x y)))
+        (between_item k x y)))
     item_of (matched k a p e) =
         and_then (item_of a) (λ x. and_then (item_of p) (matched_item k e x))
-    item_of (cast a w n) = and_then (item_of a) (cast_item w n)
+    item_of (cast p a w n) = and_then (item_of a) (cast_item p w n)
+    item_of (converted a w n) = and_then (item_of a) (cast_item false w n)
     item_of (listed n a args b) =
         of_items (listed_item n)
         (with_item (items_after (with_item (answers []) (item_of a)) args) (item_of b))

@@ -9,12 +9,13 @@ use Rattle.vortex_operators.specs.declared.between.BetweenOptions.{BetweenOption
 use Rattle.vortex_operators.specs.declared.between.StrictComparison.TheVariants.{NonStrict}
 use Rattle.vortex_like.specs.declared.options.LikeOptions.{LikeOptions}
 use Rattle.vortex_like.specs.Tokens.{backslash}
-use Rattle.vortex_interface.specs.Shipped.{Binary, Not, NullTest, Cast, Between, Like}
+use Rattle.vortex_interface.specs.Shipped.{Binary, Not, NullTest, Between, Like}
 use Rattle.vortex_interface.specs.Functions.{ours}
 use Rattle.vortex_interface.specs.Trees.{leaf, place}
 use Rattle.vortex_cells.specs.Escapes.{escape_of}
 use Rattle.vortex_syntax.specs.declared.step.WrittenOperator as syntax
 use Rattle.vortex_syntax.specs.declared.step.WrittenOperator.TheVariants as written
+use Rattle.vortex_syntax.specs.declared.step.BetweenKind.{BetweenKind}
 use Rattle.vortex_syntax.specs.declared.step.LikeKind.{LikeKind}
 use Rattle.vortex_syntax.specs.declared.step.Test.{Test}
 use Rattle.vortex_syntax.specs.declared.step.Test.TheVariants as test
@@ -96,8 +97,8 @@ abbrev pub typed_item : List ℕ → Bool → Item → Outcome Item
 typed_item w n (bound t) = missing
 typed_item w n (literal l) = as_item (and_then (type_of_name w n) (constant_at l))
 
-abbrev pub cast_item : List ℕ → Bool → Item → Outcome Item
-cast_item w n i = as_item (and_then (type_of_name w n) (cast_to i))
+abbrev pub cast_item : Bool → List ℕ → Bool → Item → Outcome Item
+cast_item p w n i = as_item (and_then (type_of_name w n) (cast_to p i))
 
 -- the function that an operator is
 abbrev pub written_function : syntax.WrittenOperator → Callable
@@ -196,9 +197,20 @@ within_bounds = record { lower_strict = NonStrict; upper_strict = NonStrict }
 abbrev pub between_all : List Item → Outcome Tree
 between_all is = called (ours (Between within_bounds)) (common_type is) is
 
-abbrev pub between_item : Bool → Item → Item → Item → Outcome Item
-between_item n a low high =
-    as_item (and_then (between_all (a ∷ low ∷ high ∷ [])) (negated_if n))
+-- between the bounds in either order
+abbrev pub either_between : Item → Item → Item → Outcome Tree
+either_between a low high =
+    and_then (between_all (a ∷ low ∷ high ∷ [])) (λ t.
+    and_then (between_all (a ∷ high ∷ low ∷ [])) (λ u.
+    called (ours (Binary operator.Or)) None (bound t ∷ bound u ∷ [])))
+
+abbrev pub between_tree : Bool → Item → Item → Item → Outcome Tree
+between_tree s a low high =
+    if s then either_between a low high else between_all (a ∷ low ∷ high ∷ [])
+
+abbrev pub between_item : BetweenKind → Item → Item → Item → Outcome Item
+between_item k a low high =
+    as_item (and_then (between_tree k.symmetric a low high) (negated_if k.negated))
 
 abbrev pub like_options : LikeKind → Option ℕ → LikeOptions
 like_options k escape = record {

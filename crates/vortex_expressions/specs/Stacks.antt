@@ -58,7 +58,7 @@ call_made call.BitNot = with_one bit_not_item
 call_made (call.Join o) = with_two (joined_item o)
 call_made (call.Is k n) = with_one (tested_item k n)
 call_made (call.Distinct n) = with_two (distinct_item n)
-call_made (call.Between n) = with_three (between_item n)
+call_made (call.Between k) = with_three (between_item k)
 call_made (call.Like k) = with_two (matched_item k None)
 
 module _ (scope : Fields) where
@@ -66,7 +66,7 @@ module _ (scope : Fields) where
   stepped (operand t) st = pushed st (operand_item scope t)
   stepped (negative ds) st = pushed st (negative_item ds)
   stepped (typed w n) st = with_one (typed_item w n) st
-  stepped (cast w n) st = with_one (cast_item w n) st
+  stepped (cast p w n) st = with_one (cast_item p w n) st
   stepped (escaped k e) st = with_two (matched_item k (Some e)) st
   stepped (applied w n) st = with_last (applied_item w) n st
   stepped (listed n k) st = with_last (listed_item n) (suc k) st

@@ -30,6 +30,7 @@ use Rattle.vortex_interface.specs.Trees as trees
 use Rattle.vortex_interface.specs.Trees.{Leaf, place, held, leaf, constant, call, no_trees, tree}
 use Rattle.vortex_syntax.specs.declared.step.WrittenOperator as syntax
 use Rattle.vortex_syntax.specs.declared.step.WrittenOperator.TheVariants as written
+use Rattle.vortex_syntax.specs.declared.step.BetweenKind.{BetweenKind}
 use Rattle.vortex_syntax.specs.declared.step.LikeKind.{LikeKind}
 use Rattle.vortex_syntax.specs.declared.token.Sign.{Sign}
 use Rattle.vortex_syntax.specs.declared.token.Sign.TheVariants as sign
@@ -115,9 +116,13 @@ is_non_strict NonStrict = true
 abbrev pub is_within : BetweenOptions → Bool
 is_within o = is_non_strict o.lower_strict && is_non_strict o.upper_strict
 
+-- neither NOT nor SYMMETRIC is written
+abbrev pub plain_kind : BetweenKind
+plain_kind = record { negated = false; symmetric = false }
+
 abbrev pub between_syntax : Syntax → Syntax → Syntax → Syntax
 between_syntax a low high =
-    between false (at_level concat_level a) (at_level concat_level low) (at_level concat_level high)
+    between plain_kind (at_level concat_level a) (at_level concat_level low) (at_level concat_level high)
 
 abbrev pub like_kind : LikeOptions → LikeKind
 like_kind o = record { negated = o.negated; case_insensitive = o.case_insensitive }
@@ -159,7 +164,7 @@ shipped_syntax (Binary o) os = both (joined_syntax (written_operator o)) (nth 0 
 shipped_syntax Not os = option_map (λ a. negated (at_level not_level a)) (nth 0 os)
 shipped_syntax (NullTest n) os =
     option_map (λ a. tested Null n (at_level is_level a)) (nth 0 os)
-shipped_syntax Cast os = option_map (λ a. cast a (codes "bool") true) (nth 0 os)
+shipped_syntax Cast os = option_map (λ a. cast false a (codes "bool") true) (nth 0 os)
 shipped_syntax (Between o) os =
     if is_within o then all_three between_syntax (nth 0 os) (nth 1 os) (nth 2 os) else None
 shipped_syntax (Like o) os = both (matched_syntax o) (nth 0 os) (nth 1 os)

@@ -23,7 +23,7 @@ use Rattle.vortex_syntax.specs.Syntax.{Syntax, operand, negative, typed, grouped
 use Rattle.vortex_syntax.specs.Syntax.{minus, tested, distinct, between, matched, listed, cast}
 use Rattle.vortex_syntax.specs.Syntax.{chosen, chosen_else, nullary, applied, Arguments}
 use Rattle.vortex_syntax.specs.Syntax.{no_arguments, argument, Branches, without_operand}
-use Rattle.vortex_syntax.specs.Syntax.{of_operand, branch, plus, bit_not, null_tested}
+use Rattle.vortex_syntax.specs.Syntax.{of_operand, branch, plus, bit_not, null_tested, converted}
 use Rattle.vortex_syntax.specs.Levels.{own, left, right, not_level, is_level, predicate_level}
 use Rattle.vortex_syntax.specs.Levels.{concat_level, atom_level, typed_level, literal_level}
 use Rattle.vortex_syntax.specs.Spelling.{spelling, operator_sign, like_sign}
@@ -75,10 +75,11 @@ abbrev mutual
   nests_behind d (tested k n a) = nests_behind d a
   nests_behind d (null_tested n a) = nests_behind d a
   nests_behind d (distinct n a b) = nests_behind d a && nests_behind d b
-  nests_behind d (between n a low high) =
+  nests_behind d (between k a low high) =
       nests_behind d a && (nests_behind d low && nests_behind d high)
   nests_behind d (matched k a p e) = nests_behind d a && nests_behind d p
-  nests_behind d (cast a w n) = nat_lt d nesting_limit && nests_behind (suc d) a
+  nests_behind d (converted a w n) = nests_behind d a
+  nests_behind d (cast p a w n) = nat_lt d nesting_limit && nests_behind (suc d) a
   nests_behind d (listed n a args b) =
       nests_behind d a && (nat_lt d nesting_limit
       && (all_nest_behind (suc d) args && nests_behind (suc d) b))

@@ -13,10 +13,12 @@ ghost use Rattle.vortex_expressions.specs.Calls.{matched_item, listed_item, chos
 ghost use Rattle.vortex_expressions.specs.Answering.{Gives, StopsBy};
 
 use crate::applied::applied_item;
+use crate::bounds::between_item;
 use crate::calls::{
-    between_item, bit_not_item, chosen_item, distinct_item, joined_item, listed_item, matched_item,
-    minus_item, negative_item, not_item, operand_item, plus_item, tested_item, typed_item,
+    bit_not_item, distinct_item, joined_item, listed_item, matched_item, minus_item, negative_item,
+    not_item, operand_item, plus_item, tested_item, typed_item,
 };
+use crate::cases::chosen_item;
 use crate::casts::cast_item;
 use crate::item::Item;
 use crate::refusal::BindStop;
@@ -116,11 +118,11 @@ impl Stack {
                 let left = self.pop()?;
                 self.push(joined_item(alloc, operator, left, right)?)
             }
-            Call::Between(negated) => {
+            Call::Between(kind) => {
                 let upper = self.pop()?;
                 let lower = self.pop()?;
                 let item = self.pop()?;
-                self.push(between_item(alloc, negated, item, lower, upper)?)
+                self.push(between_item(alloc, kind, item, lower, upper)?)
             }
         }
     }
@@ -188,9 +190,9 @@ impl Stack {
                 let item = self.pop()?;
                 self.push(typed_item(alloc, name, is_nullable, item)?)
             }
-            Step::Cast(name, is_nullable) => {
+            Step::Cast(is_tried, name, is_nullable) => {
                 let item = self.pop()?;
-                self.push(cast_item(alloc, name, is_nullable, item)?)
+                self.push(cast_item(alloc, is_tried, name, is_nullable, item)?)
             }
             Step::Escaped(kind, escape) => self.like(alloc, kind, Some(escape)),
             Step::Apply(name, count) => self.apply(alloc, name, count),

@@ -20,7 +20,7 @@ use std::alloc::Global;
 use vortex_cells::escapes;
 use vortex_columns::{DType, Nullability, StructFields, VortexResult};
 use vortex_functions::{BoundExpression, LikeOptions, ScalarFnRef};
-use vortex_operators::{BetweenOptions, Operator, StrictComparison};
+use vortex_operators::Operator;
 use vortex_standard::{BitOperator, Shift, Standard, TruthTest};
 use vortex_syntax::{LikeKind, Sign, Test, Token, WrittenOperator as Written};
 
@@ -140,7 +140,7 @@ fn joined_type(alloc: Global, written: Written, items: &[Item]) -> VortexResult<
 }
 
 /// A tree, or NOT of it if the flag is true.
-fn negated_if(
+pub(crate) fn negated_if(
     alloc: Global,
     negated: bool,
     tree: BoundExpression<Standard>,
@@ -294,78 +294,6 @@ pub(crate) fn listed_item(alloc: Global, negated: bool, items: Vec<Item>) -> Res
     ensures { Gives item_in result (specs.listed_item negated (map item_in items.items)) }
 {
     let tree = function_call(alloc, Standard::InList, items)?;
-    Ok(Item::Bound(negated_if(alloc, negated, tree)?))
-}
-
-/// Cases with an operand: each condition is that it equals the value.
-fn equal_cases(alloc: Global, operand: &Item, items: &[Item]) -> Result<Vec<Item>, BindStop>
-    ensures { Gives (λ is. map item_in is.items) result
-        (specs.equal_cases (item_in operand.now) (map item_in items.now)) }
-{
-    let mut cases = Vec::new(alloc);
-    let mut rest = items;
-    while let [case, value, more @ ..] = rest {
-        let (left, right) = (operand.try_clone(alloc)?, case.try_clone(alloc)?);
-        cases.push(joined_item(alloc, Written::Equal, left, right)?)?;
-        cases.push(value.try_clone(alloc)?)?;
-        rest = more;
-    }
-    if let [last] = rest {
-        cases.push(last.try_clone(alloc)?)?;
-    }
-    Ok(cases)
-}
-
-/// The conditions with their values; an operand, if the flag is true, is the first of the items.
-fn conditions_of(alloc: Global, has_operand: bool, items: Vec<Item>) -> Result<Vec<Item>, BindStop>
-    ensures { Gives (λ is. map item_in is.items) result
-        (specs.conditions_of has_operand (map item_in items.items)) }
-{
-    if !has_operand {
-        return Ok(items);
-    }
-    match items.as_slice() {
-        [operand, cases @ ..] => equal_cases(alloc, operand, cases),
-        [] => Ok(items),
-    }
-}
-
-/// CASE.
-pub(crate) fn chosen_item(
-    alloc: Global,
-    has_operand: bool,
-    items: Vec<Item>,
-) -> Result<Item, BindStop>
-    ensures { Gives item_in result (specs.chosen_item has_operand (map item_in items.items)) }
-{
-    let cases = conditions_of(alloc, has_operand, items)?;
-    Ok(Item::Bound(function_call(alloc, Standard::Case, cases)?))
-}
-
-/// BETWEEN, with inclusive bounds.
-fn between(alloc: Global, items: Vec<Item>) -> Result<BoundExpression<Standard>, BindStop>
-    ensures { Gives (λ t. t) result
-        (specs.between_all (map item_in items.items)) }
-{
-    let dtype = common_type(alloc, &items)?;
-    let function = ScalarFnRef::Between(BetweenOptions {
-        lower_strict: StrictComparison::NonStrict,
-        upper_strict: StrictComparison::NonStrict,
-    });
-    called(alloc, function, dtype.as_ref(), items)
-}
-
-pub(crate) fn between_item(
-    alloc: Global,
-    negated: bool,
-    item: Item,
-    lower: Item,
-    upper: Item,
-) -> Result<Item, BindStop>
-    ensures { Gives item_in result
-        (specs.between_item negated (item_in item) (item_in lower) (item_in upper)) }
-{
-    let tree = between(alloc, vec![in alloc; item, lower, upper]?)?;
     Ok(Item::Bound(negated_if(alloc, negated, tree)?))
 }
 

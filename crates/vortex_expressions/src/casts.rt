@@ -9,6 +9,7 @@ ghost use Rattle.vortex_expressions.specs.Items.{item_in};
 ghost use Rattle.vortex_expressions.specs.Answering.{Gives};
 
 use crate::item::{Item, call_of, callable, called};
+use crate::literal::Literal;
 use crate::quotes::text_of;
 use crate::refusal::{BindStop, Refusal};
 use std::alloc::Global;
@@ -103,6 +104,24 @@ fn integer_cast(from: PType, to: PType) -> Standard
     }
 }
 
+/// What gives null where a cast faults.
+fn tried(function: Standard) -> Standard
+    ensures { result ≡ specs.tried function }
+{
+    match function {
+        Standard::Cast(cast) => Standard::TryCast(cast),
+        Standard::TextToInt(cast) => Standard::TryTextToInt(cast),
+        Standard::TextToTruth => Standard::TryTextToTruth,
+        _ => function,
+    }
+}
+
+fn tried_if(is_tried: bool, function: Standard) -> Standard
+    ensures { result ≡ specs.tried_if is_tried function }
+{
+    if is_tried { tried(function) } else { function }
+}
+
 /// The function from one type to another without null.
 fn cast_function(from: &DType, to: &DType) -> Option<Standard>
     ensures { result ≡ specs.cast_function (type_of from.now) (type_of to.now) }
@@ -132,27 +151,48 @@ fn cast_function(from: &DType, to: &DType) -> Option<Standard>
 /// A tree cast to a type without null; of that type it is unchanged.
 fn cast_tree(
     alloc: Global,
+    is_tried: bool,
     tree: BoundExpression<Standard>,
     dtype: &DType,
 ) -> Result<BoundExpression<Standard>, BindStop>
-    ensures { Gives (λ t. t) result (specs.cast_tree (type_of dtype.now) tree) }
+    ensures { Gives (λ t. t) result (specs.cast_tree is_tried (type_of dtype.now) tree) }
 {
     if tree.dtype().eq_ignore_nullability(dtype) {
         return Ok(tree);
     }
     match cast_function(tree.dtype(), dtype) {
-        Some(function) => call_of(alloc, callable(function), vec![in alloc; tree]?),
+        Some(function) => {
+            let function = callable(tried_if(is_tried, function));
+            call_of(alloc, function, vec![in alloc; tree]?)
+        }
         None => Err(BindStop::Refused(Refusal::NoCast)),
     }
 }
 
+/// The type that a literal takes: by `try_cast` only null takes the one to which it is cast.
+fn cast_hint<'a>(is_tried: bool, item: &Item, dtype: &'a DType) -> Option<&'a DType>
+    ensures { option_map (λ t. type_of t.now) result
+        ≡ specs.cast_hint is_tried (item_in item.now) (type_of dtype.now) }
+{
+    match item {
+        Item::Literal(Literal::Null) => Some(dtype),
+        _ => if is_tried { None } else { Some(dtype) },
+    }
+}
+
 /// To the nullable type of truth values from truth values alone; null is kept by every cast.
-fn cast_to(alloc: Global, item: Item, dtype: &DType) -> Result<BoundExpression<Standard>, BindStop>
-    ensures { Gives (λ t. t) result (specs.cast_to (item_in item) (type_of dtype.now)) }
+fn cast_to(
+    alloc: Global,
+    is_tried: bool,
+    item: Item,
+    dtype: &DType,
+) -> Result<BoundExpression<Standard>, BindStop>
+    ensures { Gives (λ t. t) result
+        (specs.cast_to is_tried (item_in item) (type_of dtype.now)) }
 {
     if !dtype.is_nullable() {
-        let tree = item.settle(alloc, Some(dtype))?;
-        return cast_tree(alloc, tree, dtype);
+        let tree = item.settle(alloc, cast_hint(is_tried, &item, dtype))?;
+        return cast_tree(alloc, is_tried, tree, dtype);
     }
     if dtype.is_boolean() {
         called(alloc, ScalarFnRef::Cast, Some(dtype), vec![in alloc; item]?)
@@ -161,14 +201,16 @@ fn cast_to(alloc: Global, item: Item, dtype: &DType) -> Result<BoundExpression<S
     }
 }
 
+/// A cast; by `try_cast` if the flag is true.
 pub(crate) fn cast_item(
     alloc: Global,
+    is_tried: bool,
     name: &[u8],
     is_nullable: bool,
     item: Item,
 ) -> Result<Item, BindStop>
-    ensures { Gives item_in result (cast_item name.now is_nullable (item_in item)) }
+    ensures { Gives item_in result (cast_item is_tried name.now is_nullable (item_in item)) }
 {
     let dtype = type_of_name(alloc, name, is_nullable)?;
-    Ok(Item::Bound(cast_to(alloc, item, &dtype)?))
+    Ok(Item::Bound(cast_to(alloc, is_tried, item, &dtype)?))
 }

@@ -238,7 +238,10 @@ impl<'a> TextFailure<'a> {
             return common_value_type(alloc, items);
         }
         let step = self.failing_step();
-        if let Some(Step::Cast(name, is_nullable)) = step {
+        if let Some(Step::Cast(true, _, _)) = step {
+            return Ok(None);
+        }
+        if let Some(Step::Cast(_, name, is_nullable)) = step {
             return Ok(type_of_name(alloc, *name, *is_nullable).ok());
         }
         match function_in(step) {

@@ -10,15 +10,13 @@ const SUBQUERIES: &str = "no subqueries: a in (1, 2) compares with a list of val
 
 const TIMES: &str = "no dates and times: types are bool, utf8 and integers";
 
-const REGULAR: &str = "no regular expressions: like and ilike match texts";
+const REGULAR: &str = "no operators for regular expressions: write regexp_like(s, 'a+')";
 
 const COLLATIONS: &str = "no collations: texts compare by their bytes";
 
 const ARRAYS: &str = "no arrays: a in (1, 2) compares with a list of values";
 
 const POWERS: &str = "no powers: write a * a";
-
-const SYMMETRIC: &str = "the lesser bound comes first";
 
 /// Words that other languages have behind an operand.
 const BEHIND: [(&str, &str); 20] = [
@@ -46,7 +44,7 @@ const BEHIND: [(&str, &str); 20] = [
 
 /// Words that other languages have before what begins with one of these bytes, or before anything;
 /// here they are names.
-const BEFORE: [(&str, &[u8], &str); 12] = [
+const BEFORE: [(&str, &[u8], &str); 11] = [
     ("select", b"", SUBQUERIES),
     ("exists", b"(", SUBQUERIES),
     ("any", b"(", SUBQUERIES),
@@ -58,7 +56,6 @@ const BEFORE: [(&str, &[u8], &str); 12] = [
     ("timestamp", b"'", TIMES),
     ("interval", b"'", TIMES),
     ("count", b"*", AGGREGATES),
-    ("symmetric", b"", SYMMETRIC),
 ];
 
 /// Functions that other languages have.

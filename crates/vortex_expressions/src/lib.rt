@@ -4,7 +4,9 @@
 pub mod answers;
 mod applied;
 mod binder;
+mod bounds;
 mod calls;
+mod cases;
 mod casts;
 pub mod error;
 mod failures;
@@ -13,6 +15,7 @@ mod hints;
 mod item;
 mod item_texts;
 pub mod laws;
+mod like_tasks;
 mod literal;
 mod meeting;
 mod messages;

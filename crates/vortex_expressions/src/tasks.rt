@@ -3,9 +3,8 @@ ghost use Rattle.std.specs.Prelude.{◌≡◌, ◌∷◌, [], ◌++◌, map, Mat
 ghost use Rattle.std.specs.Prelude.{Some, None};
 ghost use Rattle.vortex_errors.specs.Answers.{AnswersUnlessMemory};
 ghost use Rattle.vortex_functions.specs.FunctionOf.{function_of};
-ghost use Rattle.vortex_syntax.specs.Spelling.{escape_tokens, like_sign};
 ghost use Rattle.vortex_syntax.specs.Writing.{Holds, text_token};
-ghost use Rattle.vortex_expressions.specs.Writing.{escape_written, escape_text, like_kind};
+ghost use Rattle.vortex_expressions.specs.Writing.{escape_text};
 ghost use Rattle.vortex_expressions.specs.Writing.{null_test};
 ghost use Rattle.vortex_standard.specs.Names.{name_of};
 ghost use Rattle.vortex_expressions.specs.WritingSteps as steps;
@@ -13,12 +12,12 @@ ghost use Rattle.vortex_expressions.specs.WritingSteps.{task_in, tasks_in, token
 ghost use Rattle.vortex_expressions.specs.WritingSteps.{Steps};
 
 use crate::spelled::{
-    escape_text, is_own_escape, is_within, operator_sign, tree_level, write_column, write_literal,
+    escape_text, is_within, operator_sign, tree_level, write_column, write_literal,
     written_operator,
 };
 use std::alloc::Global;
 use vortex_columns::VortexResult;
-use vortex_functions::{BoundExpression, LikeOptions, ScalarFnRef};
+use vortex_functions::{BoundExpression, ScalarFnRef};
 use vortex_operators::BetweenOptions;
 use vortex_standard::Standard;
 use vortex_syntax::levels::{CONCAT, IS, NOT, OR, left, right};
@@ -47,7 +46,7 @@ pub(crate) struct TreeWriter<'t> {
 }
 
 /// The operand at an index.
-fn operand_at<'t>(
+pub(crate) fn operand_at<'t>(
     operands: &'t [BoundExpression<Standard>],
     place: usize,
 ) -> Option<&'t BoundExpression<Standard>>
@@ -205,59 +204,6 @@ impl<'t> TreeWriter<'t> {
         self.put(WriteTask::Tree(lower, CONCAT, depth))?;
         self.put(WriteTask::Sign(Sign::Between))?;
         self.put(WriteTask::Tree(operand, CONCAT, depth))?;
-        Ok(true)
-    }
-
-    /// The escape, if it is not the backslash.
-    fn put_escape(&mut self, escape: Option<char>) -> VortexResult<()>
-        ensures tasks { AnswersUnlessMemory result (λ _. tasks_in self.new
-            ≡ map token (escape_tokens (escape_written escape)) ++ tasks_in self.old) }
-        ensures writer { self.new.writer ≡ self.old.writer }
-    {
-        if is_own_escape(escape) {
-            return Ok(());
-        }
-        self.put(WriteTask::Escape(escape))?;
-        self.put(WriteTask::Sign(Sign::Escape))
-    }
-
-    /// `like` or `ilike`, with or without `not` before it.
-    fn put_like(&mut self, options: LikeOptions) -> VortexResult<()>
-        ensures tasks { AnswersUnlessMemory result (λ _. tasks_in self.new
-            ≡ map token (like_sign (like_kind options)) ++ tasks_in self.old) }
-        ensures writer { self.new.writer ≡ self.old.writer }
-    {
-        let like = if options.case_insensitive {
-            Sign::Ilike
-        } else {
-            Sign::Like
-        };
-        self.put(WriteTask::Sign(like))?;
-        if options.negated {
-            return self.put(WriteTask::Sign(Sign::Not));
-        }
-        Ok(())
-    }
-
-    fn like(
-        &mut self,
-        options: LikeOptions,
-        operands: &'t [BoundExpression<Standard>],
-        depth: usize,
-    ) -> VortexResult<bool>
-        ensures { AnswersUnlessMemory result
-            (Plans (steps.like_plan depth options operands.now) self.old self.new) }
-    {
-        let Some(text) = operand_at(operands, 0) else {
-            return Ok(false);
-        };
-        let Some(pattern) = operand_at(operands, 1) else {
-            return Ok(false);
-        };
-        self.put_escape(options.escape)?;
-        self.put(WriteTask::Tree(pattern, CONCAT, depth))?;
-        self.put_like(options)?;
-        self.put(WriteTask::Tree(text, CONCAT, depth))?;
         Ok(true)
     }
 

@@ -5,7 +5,7 @@ use Rattle.vortex_expressions.specs.Outcomes.{Outcome}
 use Rattle.vortex_expressions.proofs.Settling.{first_operand}
 use Rattle.vortex_expressions.specs.Calls.{conditions_of}
 use Rattle.vortex_expressions.specs.declared.item.Item as held
-use Rattle.vortex_expressions.proofs.calls.conditions_of.Goals as goal
+use Rattle.vortex_expressions.proofs.cases.conditions_of.Goals as goal
 
 pub returns-in-len1-up : goal.returns-in-len1-up
 returns-in-len1-up c =

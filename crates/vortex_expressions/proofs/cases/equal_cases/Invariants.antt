@@ -2,7 +2,7 @@ use Rattle.std.proofs.Common.{◌≡◌, ◌++◌, length, map}
 use Rattle.vortex_expressions.specs.Outcomes.{answers, and_then}
 use Rattle.vortex_expressions.specs.Items.{item_in}
 use Rattle.vortex_expressions.specs.Calls.{equal_cases}
-use Rattle.vortex_expressions.proofs.calls.equal_cases.Given as goal
+use Rattle.vortex_expressions.proofs.cases.equal_cases.Given as goal
 
 abbrev pub invariant-loop-rest : goal.invariant-loop-rest
 invariant-loop-rest l =

@@ -1,7 +1,7 @@
 use Rattle.std.proofs.Common.{◌≡◌, ◌∙◌, ◌++◌, ◌∷◌, [], List, ap}
 use Rattle.vortex_expressions.specs.declared.item.Item as held
 use Rattle.vortex_expressions.proofs.Settling.{equal_step}
-use Rattle.vortex_expressions.proofs.calls.equal_cases.Goals as goal
+use Rattle.vortex_expressions.proofs.cases.equal_cases.Goals as goal
 
 pub loop-rest-preserved : goal.loop-rest-preserved
 loop-rest-preserved c =
