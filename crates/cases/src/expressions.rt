@@ -1,21 +1,36 @@
 //! Cases of expressions: columns given by lines, and a text that is read over them.
 
+use crate::groups::groups_text;
 use rowfn_lines::parse::parse;
 use rowfn_lines::{Line, lines};
 use std::alloc::Global;
 use vortex_columns::{Column, ExecutionCtx, StructFields, VortexError, VortexResult};
 use vortex_expressions::{Answer, read_answers, read_expression, write_expression};
+use vortex_syntax::read_syntax;
 
 /// What a case checks of a text.
 #[derive(Clone, Copy)]
 enum Question {
     /// The tree of an expression, and its type.
     Tree,
+    /// The bytes at which the steps of this tree are reported.
+    Places,
     /// The text of this tree.
     Written,
     /// The columns of a list of answers.
     Answers,
+    /// What statistics say of these answers, as conditions of groups of rows.
+    Groups,
 }
+
+/// The lines that ask them.
+const QUESTIONS: [(Question, &str); 5] = [
+    (Question::Tree, "\ntree\n"),
+    (Question::Places, "\nplaces\n"),
+    (Question::Written, "\nwritten\n"),
+    (Question::Answers, "\nanswers\n"),
+    (Question::Groups, "\ngroups\n"),
+];
 
 /// A text, what is checked of it, and the lines of its columns.
 #[derive(Clone, Copy)]
@@ -27,26 +42,24 @@ pub(crate) struct ExpressionCase<'a> {
 
 /// Columns, their row count, and their names and types.
 #[derive(Drop)]
-struct Batch {
-    row_count: usize,
-    scope: StructFields,
-    columns: Vec<Column>,
+pub(crate) struct Batch {
+    pub(crate) row_count: usize,
+    pub(crate) scope: StructFields,
+    pub(crate) columns: Vec<Column>,
 }
 
 /// The case in the text before the line `--`; none if it is a script.
 pub(crate) fn expression_case(script: &str) -> Option<ExpressionCase<'_>> {
-    let (question, (columns, text)) = if let Some(parts) = script.split_once("\ntree\n") {
-        (Question::Tree, parts)
-    } else if let Some(parts) = script.split_once("\nwritten\n") {
-        (Question::Written, parts)
-    } else {
-        (Question::Answers, script.split_once("\nanswers\n")?)
-    };
-    Some(ExpressionCase {
-        question,
-        columns,
-        text,
-    })
+    for (question, line) in QUESTIONS {
+        if let Some((columns, text)) = script.split_once(line) {
+            return Some(ExpressionCase {
+                question,
+                columns,
+                text,
+            });
+        }
+    }
+    None
 }
 
 /// Adds a column with the row count and a new name.
@@ -92,6 +105,22 @@ fn tree_text(alloc: Global, scope: &StructFields, text: &str) -> VortexResult<St
         }
         Err(error) => Ok(format!(in alloc; "{error}")?),
     }
+}
+
+/// The bytes at which the steps of a text are reported, or that it is no expression.
+fn places_text(alloc: Global, text: &str) -> VortexResult<String> {
+    let mut out = String::new(alloc);
+    match read_syntax(alloc, text.as_bytes()) {
+        Ok(tree) => {
+            let mut separator = "";
+            for place in tree.places.iter() {
+                out.push_str(format!(in alloc; "{separator}{place}")?.as_str())?;
+                separator = " ";
+            }
+        }
+        Err(_) => out.push_str("no expression")?,
+    }
+    Ok(out)
 }
 
 /// The text of the tree of a text, followed by the tree of that text if it is another.
@@ -151,7 +180,9 @@ pub(crate) fn expression_text(alloc: Global, case: ExpressionCase<'_>) -> Vortex
     let batch = read_batch(alloc, case.columns)?;
     match case.question {
         Question::Tree => tree_text(alloc, &batch.scope, case.text),
+        Question::Places => places_text(alloc, case.text),
         Question::Written => written_text(alloc, &batch.scope, case.text),
         Question::Answers => answers_text(alloc, &batch, case.text),
+        Question::Groups => groups_text(alloc, &batch, case.text),
     }
 }

@@ -29,11 +29,13 @@
 //! are what the script prints, and last the line that it ends with on standard error, if there is
 //! one. Blank lines at the end of a case are ignored.
 //!
-//! An expression follows a line that asks for its `tree`, for the text that this is `written`
-//! as, or for the columns of its `answers`. The lines before it are `rows` and `col` lines.
+//! An expression follows a line that asks for its `tree`, for the `places` of its steps in the
+//! text, for the text that its tree is `written` as, for the columns of its `answers`, or for what
+//! statistics say of these in `groups` of rows. The lines before it are `rows` and `col` lines.
 #![tactic(auto)]
 
 mod expressions;
+mod groups;
 
 use case_files::{Cases, Form, differs, run_files};
 use expressions::{expression_case, expression_text};

@@ -52,15 +52,6 @@ pub fn lists(alloc: Global, offsets: [usize; 2], sizes: [usize; 2]) -> Made {
     )
 }
 
-/// Two lists of one integer each.
-pub fn fixed(alloc: Global) -> Made {
-    let elements = integers(alloc)?;
-    kept(
-        alloc,
-        Column::try_fixed_size_list(alloc, elements, 1, 2, Validity::AllValid),
-    )
-}
-
 /// A map of the second key and value, and one of none; or the other way round.
 pub fn maps(alloc: Global, offsets: [usize; 2], sizes: [usize; 2]) -> Made {
     let offsets = Vec::from_array(alloc, offsets)?;
@@ -73,7 +64,8 @@ pub fn maps(alloc: Global, offsets: [usize; 2], sizes: [usize; 2]) -> Made {
     )
 }
 
-/// Whether three truth values and their validity are borrowed as three bits each, the second not valid.
+/// Whether three truth values and their validity are borrowed as three bits each, the second row
+/// not valid.
 fn has_bits(rt: HostRuntime, column: Made) -> VortexResult<bool> {
     let column = column?;
     if column.len() != 3 {

@@ -4,70 +4,39 @@ use crate::questions::sure;
 use fixtures::{Ask, boxed, fields, same};
 use std::alloc::Global;
 use std::cmp::Ordering;
-use vortex_columns::{DType, Nullability, Scalar, ScalarValue, StructFields, VortexResult};
+use vortex_columns::{DType, Nullability, Scalar, ScalarValue, VortexResult};
 
 const NO: Nullability = Nullability::NonNullable;
 
 /// More than recursion would reach.
 const LEVELS: usize = 200_000;
 
-/// Lists within lists, around that type.
-fn lists(alloc: Global, inner: DType) -> VortexResult<DType> {
+/// What a type is nested in.
+#[derive(Clone, Copy)]
+enum Around {
+    List,
+    Pair,
+    Key,
+    Value,
+    Field,
+}
+
+/// A type within a list, a list of two, a map or a struct of two fields.
+fn within(alloc: Global, around: Around, dtype: DType) -> VortexResult<DType> {
+    Ok(match around {
+        Around::List => DType::List(boxed(alloc, dtype)?, NO),
+        Around::Pair => DType::FixedSizeList(boxed(alloc, dtype)?, 2, NO),
+        Around::Key => DType::Map(boxed(alloc, dtype)?, boxed(alloc, DType::Null)?, NO),
+        Around::Value => DType::Map(boxed(alloc, DType::Null)?, boxed(alloc, dtype)?, NO),
+        Around::Field => { DType::Struct(fields(alloc, ("a", "b"), (dtype, DType::Bool(NO)))?, NO) }
+    })
+}
+
+/// A type within that many others.
+fn nested(alloc: Global, around: Around, inner: DType) -> VortexResult<DType> {
     let mut dtype = inner;
     for _ in 0..LEVELS {
-        dtype = DType::List(boxed(alloc, dtype)?, NO);
-    }
-    Ok(dtype)
-}
-
-/// Lists of two elements within one another.
-fn pairs(alloc: Global) -> VortexResult<DType> {
-    let mut dtype = DType::Null;
-    for _ in 0..LEVELS {
-        dtype = DType::FixedSizeList(boxed(alloc, dtype)?, 2, NO);
-    }
-    Ok(dtype)
-}
-
-/// Maps within maps, each as the keys.
-fn maps_by_key(alloc: Global) -> VortexResult<DType> {
-    let mut dtype = DType::Null;
-    for _ in 0..LEVELS {
-        dtype = DType::Map(boxed(alloc, dtype)?, boxed(alloc, DType::Null)?, NO);
-    }
-    Ok(dtype)
-}
-
-/// Maps within maps, each as the values.
-fn maps_by_value(alloc: Global) -> VortexResult<DType> {
-    let mut dtype = DType::Null;
-    for _ in 0..LEVELS {
-        dtype = DType::Map(boxed(alloc, DType::Null)?, boxed(alloc, dtype)?, NO);
-    }
-    Ok(dtype)
-}
-
-/// Structs of one field within one another.
-fn structs(alloc: Global) -> VortexResult<DType> {
-    let mut dtype = DType::Null;
-    for _ in 0..LEVELS {
-        let mut fields = StructFields::new(alloc);
-        if fields.find("a").is_none() {
-            fields.push(String::from_str(alloc, "a")?, dtype)?;
-            dtype = DType::Struct(fields, NO);
-        } else {
-            dtype = DType::Null;
-        }
-    }
-    Ok(dtype)
-}
-
-/// Structs of two fields within one another, each as the first.
-fn structs_by_first(alloc: Global) -> VortexResult<DType> {
-    let mut dtype = DType::Null;
-    for _ in 0..LEVELS {
-        let both = fields(alloc, ("a", "b"), (dtype, DType::Bool(NO)))?;
-        dtype = DType::Struct(both, NO);
+        dtype = within(alloc, around, dtype)?;
     }
     Ok(dtype)
 }
@@ -82,27 +51,22 @@ fn is_whole(rt: HostRuntime, dtype: VortexResult<DType>, count: usize) -> Vortex
     Ok(same(rt, text.len(), count) && copy == dtype)
 }
 
-// `null` has four bytes, and each level around it six to 20.
+/// What types are nested in, and the length of their text: each level adds to the four bytes of
+/// `null`.
+const KINDS: [(Around, usize); 5] = [
+    (Around::List, 6 * LEVELS + 4),
+    (Around::Pair, 9 * LEVELS + 4),
+    (Around::Key, 11 * LEVELS + 4),
+    (Around::Value, 11 * LEVELS + 4),
+    (Around::Field, 20 * LEVELS + 4),
+];
 
 #[test]
-fn deep_lists_are_copied_written_and_compared(rt: HostRuntime) {
-    let alloc = rt.alloc();
-    sure(&rt, is_whole(rt, lists(alloc, DType::Null), 6 * LEVELS + 4));
-    sure(&rt, is_whole(rt, pairs(alloc), 9 * LEVELS + 4));
-}
-
-#[test]
-fn deep_maps_are_copied_written_and_compared(rt: HostRuntime) {
-    let alloc = rt.alloc();
-    sure(&rt, is_whole(rt, maps_by_key(alloc), 11 * LEVELS + 4));
-    sure(&rt, is_whole(rt, maps_by_value(alloc), 11 * LEVELS + 4));
-}
-
-#[test]
-fn deep_structs_are_copied_written_and_compared(rt: HostRuntime) {
-    let alloc = rt.alloc();
-    sure(&rt, is_whole(rt, structs(alloc), 11 * LEVELS + 4));
-    sure(&rt, is_whole(rt, structs_by_first(alloc), 20 * LEVELS + 4));
+fn deep_types_are_copied_written_and_compared(rt: HostRuntime) {
+    for (around, count) in KINDS {
+        let dtype = nested(rt.alloc(), around, DType::Null);
+        sure(&rt, is_whole(rt, dtype, count));
+    }
 }
 
 /// Whether two types differ, and only in nullability; both are dropped here.
@@ -114,11 +78,9 @@ fn differ_by_null(one: VortexResult<DType>, other: VortexResult<DType>) -> Vorte
 #[test]
 fn deep_types_differ_at_their_last_level(rt: HostRuntime) {
     let alloc = rt.alloc();
-    let one = lists(alloc, DType::Utf8(NO));
-    sure(
-        &rt,
-        differ_by_null(one, lists(alloc, DType::Utf8(Nullability::Nullable))),
-    );
+    let one = nested(alloc, Around::List, DType::Utf8(NO));
+    let other = nested(alloc, Around::List, DType::Utf8(Nullability::Nullable));
+    sure(&rt, differ_by_null(one, other));
 }
 
 /// A value and another after it.
@@ -141,7 +103,7 @@ fn literal(alloc: Global) -> VortexResult<Scalar> {
         items.push(Some(value))?;
         value = ScalarValue::List(items);
     }
-    Scalar::try_new(lists(alloc, DType::Null)?, Some(value))
+    Scalar::try_new(nested(alloc, Around::List, DType::Null)?, Some(value))
 }
 
 /// A struct of two fields that nests in the first, as a literal; with that truth value, or
@@ -152,7 +114,7 @@ fn record(alloc: Global, last: ScalarValue) -> VortexResult<Scalar> {
         value = Some(pair(alloc, value, Some(ScalarValue::Bool(true)))?);
     }
     Scalar::try_new(
-        structs_by_first(alloc)?,
+        nested(alloc, Around::Field, DType::Null)?,
         Some(pair(alloc, value, Some(last))?),
     )
 }
@@ -165,7 +127,7 @@ fn keyed(alloc: Global) -> VortexResult<Scalar> {
         entries.push(Some(pair(alloc, value, None)?))?;
         value = Some(ScalarValue::List(entries));
     }
-    Scalar::try_new(maps_by_key(alloc)?, value)
+    Scalar::try_new(nested(alloc, Around::Key, DType::Null)?, value)
 }
 
 /// Whether a literal equals its copy, and its text has that many bytes; both are dropped here.

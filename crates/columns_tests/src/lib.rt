@@ -1,5 +1,5 @@
-//! Tests of bits, views, types, values and columns, and of columns in Arrow's format: each call on
-//! its happy path, texts without contracts, and depth.
+//! Tests of bits, views, types, values and columns, of columns in Arrow's format, and of
+//! statistics: each call on its happy path, texts without contracts, and depth.
 #![tactic(auto)]
 
 #[cfg(test)]
@@ -13,20 +13,18 @@ mod deep_columns;
 #[cfg(test)]
 mod depths;
 #[cfg(test)]
-mod parts;
-#[cfg(test)]
 mod questions;
 #[cfg(test)]
 mod rows;
 #[cfg(test)]
 mod scalars;
 #[cfg(test)]
+mod statistics;
+#[cfg(test)]
 mod taken;
 #[cfg(test)]
 mod texts;
 #[cfg(test)]
 mod types;
-#[cfg(test)]
-mod values;
 #[cfg(test)]
 mod views;

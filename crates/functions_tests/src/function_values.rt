@@ -3,7 +3,7 @@
 
 use crate::questions::sure;
 use caller_functions::levelled::{Level, Levelled};
-use fixtures::{Ask, same};
+use fixtures::same;
 use std::alloc::Global;
 use std::collections::HashMap;
 use vortex_columns::*;
@@ -80,10 +80,6 @@ const NOT_LIKE: LikeOptions = LikeOptions {
     escape: Some('\u{1f600}'),
 };
 
-fn operator(operator: Operator) -> Function {
-    Binary.bind(operator)
-}
-
 /// A caller's function.
 fn own() -> Function {
     ScalarFnRef::custom(NoCustom, EmptyOptions)
@@ -91,19 +87,14 @@ fn own() -> Function {
 
 #[test]
 fn options_come_back(rt: HostRuntime) {
-    sure(&rt, keeps(rt, Binary, Operator::Div, &[11]));
-    sure(&rt, keeps(rt, Between, bounds(NonStrict, Strict), &[2]));
     sure(&rt, keeps(rt, Like, NOT_LIKE, &[5, 0, 1, 246, 0]));
-    sure(&rt, keeps(rt, Cast, CastOptions, &[]));
     sure(&rt, keeps(rt, Levelled, Level { level: 3 }, &[3]));
-    assert!(rt; rt.is_refused(Levelled.deserialize(rt.alloc(), &[3, 3]), "BadOptions"));
 }
 
 #[test]
 fn values_write_their_options(rt: HostRuntime) {
     let levelled = ScalarFnRef::custom(Levelled, Level { level: 7 });
     sure(&rt, writes(rt, levelled, &[7]));
-    sure(&rt, writes::<NoCustom>(rt, operator(Operator::Add), &[8]));
 }
 
 #[test]
@@ -112,7 +103,6 @@ fn values_print(rt: HostRuntime) {
     let between = "vortex.between(lower_strict: <, upper_strict: <=)";
     let function = Between.bind(bounds(Strict, NonStrict));
     sure(&rt, is_shown(rt, function, between, text));
-    sure(&rt, is_shown(rt, own(), "rowfn.none()", ""));
     sure(&rt, debugs_alike(rt, own(), own()));
 }
 
@@ -123,7 +113,4 @@ fn equal_values_are_found(rt: HostRuntime) {
         &rt,
         is_found(alloc, Like.bind(NOT_LIKE), Like.bind(NOT_LIKE)),
     );
-    sure(&rt, is_found(alloc, own(), own()));
-    let (one, other) = (operator(Operator::Add), operator(Operator::Sub));
-    assert!(rt; !rt.yes(is_found(alloc, one, other)));
 }

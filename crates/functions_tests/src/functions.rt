@@ -1,16 +1,10 @@
-//! The names and marks of functions, and words that name them.
+//! The names and marks of functions.
 
 use crate::questions::sure;
 use std::alloc::Global;
 use vortex_columns::*;
 use vortex_functions::*;
 use vortex_operators::*;
-
-const LIKE: LikeOptions = LikeOptions {
-    negated: false,
-    case_insensitive: false,
-    escape: Some('\\'),
-};
 
 /// Between with a lower bound that is not strict, and a strict upper one.
 const HALF_OPEN: BetweenOptions = BetweenOptions {
@@ -37,11 +31,6 @@ fn is_described<C: ScalarFnVTable>(
 fn shipped_functions_have_names_and_marks(rt: HostRuntime) {
     let and = TypedScalarFnInstance::new(Binary, Operator::And).erased();
     assert!(rt; is_described::<NoCustom>(and, "vortex.binary", "lhs", false));
-    assert!(rt; is_described::<NoCustom>(ScalarFnRef::Not, "vortex.not", "input", true));
-    assert!(rt; is_described::<NoCustom>(ScalarFnRef::Cast, "vortex.cast", "input", true));
-    let between = Between.bind(HALF_OPEN);
-    assert!(rt; is_described::<NoCustom>(between, "vortex.between", "array", false));
-    assert!(rt; is_described::<NoCustom>(Like.bind(LIKE), "vortex.like", "child", true));
 }
 
 /// Whether a copy of a function is Between with these options.
@@ -67,33 +56,4 @@ fn a_function_tells_what_it_is(rt: HostRuntime) {
     let between = Between.bind(HALF_OPEN);
     sure(&rt, is_copied::<NoCustom>(rt.alloc(), between, HALF_OPEN));
     assert!(rt; is_custom(ScalarFnRef::custom(NoCustom, EmptyOptions), "rowfn.none"));
-}
-
-/// The function that words name, whose script says so of the escape.
-fn called(words: &[&str], said: Option<Option<char>>) -> Option<ScalarFnRef<NoCustom>> {
-    ScalarFnRef::called(words, said)
-}
-
-/// Whether words name Between with a strict upper bound, and LIKE with the escape `!`.
-fn are_named() -> bool {
-    match (
-        called(&["between", "<=", "<"], None),
-        called(&["like"], Some(Some('!'))),
-    ) {
-        (Some(between), Some(like)) => {
-            let escaped = LikeOptions {
-                escape: Some('!'),
-                ..LIKE
-            };
-            between.as_between() == Some(HALF_OPEN) && like.as_like() == Some(escaped)
-        }
-        _ => false,
-    }
-}
-
-#[test]
-fn words_name_functions(rt: HostRuntime) {
-    assert!(rt; are_named());
-    assert!(rt; called(&["xor"], None).is_none());
-    assert!(rt; called(&["="], Some(Some('!'))).is_none());
 }

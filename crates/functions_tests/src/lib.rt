@@ -1,5 +1,5 @@
 //! Tests of functions and of trees, for what no case of `crates/cases` says: names and marks,
-//! functions as values, trees that lend what they answer, and functions over encoded columns.
+//! functions as values, calls without arguments, and functions over encoded columns.
 #![tactic(auto)]
 
 #[cfg(test)]

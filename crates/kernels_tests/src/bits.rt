@@ -41,6 +41,23 @@ const ANSWERS: [(Asked, &str); 9] = [
     (Asked::Compared(CompareOperator::Lte), "tfnttnnnn"),
 ];
 
+/// The byte of at most eight bits.
+fn byte_of(bits: &[bool]) -> u8 {
+    let mut byte = 0u8;
+    for bit in bits.iter().rev() {
+        byte = byte << 1 | u8::from(*bit);
+    }
+    byte
+}
+
+/// So many others, the bits, and another byte of others.
+fn among(alloc: Global, bits: &[bool], offset: usize, others: bool) -> VortexResult<Vec<bool>> {
+    let mut all = vec![in alloc; others; offset]?;
+    all.extend_from_slice(bits)?;
+    all.extend_from_slice(&[others; 8])?;
+    Ok(all)
+}
+
 /// Bits from bit `offset` of their bytes on; each bit around them is `others`.
 pub(crate) fn bits_from(
     alloc: Global,
@@ -48,16 +65,10 @@ pub(crate) fn bits_from(
     offset: usize,
     others: bool,
 ) -> VortexResult<BitBuffer> {
-    let offset = offset.min(15);
-    let byte = if others { 255u8 } else { 0u8 };
-    let mut bytes = vec![in alloc; byte; bits.len().min(1000) / 8 + 3]?;
-    for i in 0..bits.len().min(1000) {
-        let at = offset + i;
-        if at / 8 < bytes.len() {
-            let mask = 1u8 << (at % 8);
-            let byte = bytes[at / 8];
-            bytes[at / 8] = if bits[i] { byte | mask } else { byte & !mask };
-        }
+    let all = among(alloc, bits, offset, others)?;
+    let mut bytes = Vec::new(alloc);
+    for chunk in all.chunks(8) {
+        bytes.push(byte_of(chunk))?;
     }
     BitBuffer::new(bytes, offset, bits.len())
 }

@@ -8,8 +8,6 @@ mod bits;
 #[cfg(test)]
 mod checked;
 #[cfg(test)]
-mod columns;
-#[cfg(test)]
 mod like;
 #[cfg(test)]
 mod nested;

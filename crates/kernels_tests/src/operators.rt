@@ -17,29 +17,30 @@ fn are_in_order(operators: &[CompareOperator]) -> bool {
     true
 }
 
-/// Whether a comparison and its operator are written so, and found by what is written.
+/// Whether a comparison is written so, and its operator found by that text.
 fn is_written(rt: HostRuntime, compare: CompareOperator, text: &str) -> VortexResult<bool> {
-    let alloc = rt.alloc();
     let operator = Operator::from(compare);
-    let printed = format!(in alloc; "{operator}{compare}")?;
-    let twice = format!(in alloc; "{text}{text}")?;
+    let printed = format!(in rt.alloc(); "{compare}")?;
     let found = Operator::from_text(text) == Some(operator) && operator.is_comparison();
-    Ok(found && same(rt, printed.as_str(), twice.as_str()) && same(rt, operator.text(), text))
+    Ok(found && same(rt, printed.as_str(), text) && same(rt, operator.text(), text))
 }
 
 #[test]
 fn comparisons_have_an_order_and_texts(rt: HostRuntime) {
     assert!(rt; are_in_order(&COMPARISONS));
     sure(&rt, is_written(rt, CompareOperator::NotEq, "!="));
-    assert!(rt; Operator::from_text("==").is_none());
 }
 
 #[test]
 fn operators_are_turned(rt: HostRuntime) {
-    assert!(rt; Operator::Gt.inverse() == Some(Operator::Lte));
-    assert!(rt; Operator::Gt.swap() == Some(Operator::Lt));
-    assert!(rt; Operator::And.logical_inverse() == Some(Operator::Or));
-    assert!(rt; CompareOperator::Gte.inverse() == CompareOperator::Lt);
-    assert!(rt; CompareOperator::Gte.swap() == CompareOperator::Lte);
+    let operators = [
+        Operator::Gt.inverse(),
+        Operator::Gt.swap(),
+        Operator::And.logical_inverse(),
+    ];
+    let expected = [Some(Operator::Lte), Some(Operator::Lt), Some(Operator::Or)];
+    assert!(rt; same(rt, operators, expected));
+    let comparisons = [CompareOperator::Gte.inverse(), CompareOperator::Gte.swap()];
+    assert!(rt; same(rt, comparisons, [CompareOperator::Lt, CompareOperator::Lte]));
     assert!(rt; Operator::Or.is_decided_by(true) && Operator::Div.is_arithmetic());
 }

@@ -3,12 +3,8 @@
 use fixtures::{Ask, Made, kept, rows_of, same, truth};
 use std::alloc::Global;
 use std::process::Abort;
-use vortex_columns::{
-    BitBuffer, Column, ExecutionCtx, NumericOperator, Validity, VortexError, VortexResult,
-};
-use vortex_kernels::{
-    CompareOperator, Operator, execute_boolean, execute_compare, execute_not, execute_numeric,
-};
+use vortex_columns::{BitBuffer, Column, ExecutionCtx, Validity, VortexError, VortexResult};
+use vortex_kernels::{CompareOperator, Operator, execute_boolean, execute_compare, execute_not};
 
 /// Ends the test unless a question was answered with yes.
 pub(crate) fn sure<R: Abort + Ask>(test: &R, answer: VortexResult<bool>) {
@@ -30,18 +26,6 @@ pub(crate) fn compared(alloc: Global, left: Made, operator: CompareOperator, rig
     let (left, right) = (left?, right?);
     let mut ctx = ExecutionCtx::new(alloc);
     kept(alloc, execute_compare(&*left, &*right, operator, &mut ctx))
-}
-
-/// Arithmetic of two columns.
-pub(crate) fn calculated(
-    alloc: Global,
-    left: Made,
-    operator: NumericOperator,
-    right: Made,
-) -> Made {
-    let (left, right) = (left?, right?);
-    let mut ctx = ExecutionCtx::new(alloc);
-    kept(alloc, execute_numeric(&*left, &*right, operator, &mut ctx))
 }
 
 /// And or Or of two columns, where they are of one length.
@@ -70,17 +54,9 @@ pub(crate) fn negated(alloc: Global, column: Made) -> Made {
 
 /// The truth values of so many rows, by letters in turn.
 pub(crate) fn in_turn(alloc: Global, letters: &str, len: usize) -> VortexResult<Vec<Option<bool>>> {
-    let letters = letters.as_bytes();
     let mut rows = Vec::new(alloc);
-    let mut at = 0usize;
-    for _ in 0..len {
-        if let Some(letter) = letters.get(at) {
-            rows.push(truth(*letter))?;
-        }
-        at = at.wrapping_add(1);
-        if at >= letters.len() {
-            at = 0;
-        }
+    for letter in letters.as_bytes().iter().cycle().take(len) {
+        rows.push(truth(*letter))?;
     }
     Ok(rows)
 }
@@ -105,9 +81,4 @@ pub(crate) fn says_in_turn(rt: HostRuntime, answer: Made, letters: &str) -> Vort
 /// The rows that are not null, as a list of bits.
 pub(crate) fn valid_rows(alloc: Global, valid: &[bool]) -> VortexResult<Validity> {
     Ok(Validity::Array(BitBuffer::from_bools(alloc, valid)?))
-}
-
-/// Two rows of type Null.
-pub(crate) fn nulls(alloc: Global) -> Made {
-    kept(alloc, Ok(Column::null(2)))
 }

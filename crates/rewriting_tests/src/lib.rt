@@ -1,5 +1,5 @@
-//! Tests of array trees, and of rules at roots and at places of either kind of tree, in runs, and of
-//! callers' functions.
+//! Tests of array trees, of rules at places of either kind of tree, and of callers' functions and
+//! their rules.
 #![tactic(auto)]
 
 #[cfg(test)]

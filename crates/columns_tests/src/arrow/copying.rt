@@ -62,59 +62,22 @@ fn columns_are_copied(rt: HostRuntime) {
     sure(&rt, copies_texts(rt, names(alloc), [0, 3, 3, 3, 7]));
 }
 
-/// Whether these rows are true, of which the numbers are copied, and an item after them is kept.
-fn selects(rt: HostRuntime, column: Made, count: usize, expected: [u32; 4]) -> VortexResult<bool> {
+/// Whether two rows are true, with these numbers and these bytes, and an item after them is kept.
+fn selects(rt: HostRuntime, column: Made, rows: [u32; 4], bytes: [u8; 5]) -> VortexResult<bool> {
     let column = column?;
     let mut numbers = [77; 4];
+    let mut mask = [9; 5];
     let copied = copy_true_rows(&column, &mut numbers);
-    let counted = same(rt, true_count(&column), count) && same(rt, copied, Ok(count));
-    Ok(counted && same(rt, numbers, expected))
+    let masked = copy_mask(&column, &mut mask).is_ok() && same(rt, mask, bytes);
+    let counted = same(rt, true_count(&column), 2) && same(rt, copied, Ok(2));
+    Ok(masked && counted && same(rt, numbers, rows))
 }
 
 #[test]
 fn true_rows_are_copied(rt: HostRuntime) {
-    let alloc = rt.alloc();
-    let rows = [Some(false), Some(true), None, Some(true)];
-    sure(
-        &rt,
-        selects(rt, nullable_bools(alloc, &rows), 2, [1, 3, 77, 77]),
-    );
-    let mut rows = [false; 130];
-    rows[63] = true;
-    rows[64] = true;
-    rows[129] = true;
-    sure(&rt, selects(rt, bools(alloc, &rows), 3, [63, 64, 129, 77]));
-}
-
-/// Whether all rows are selected but rows 70 and 129.
-fn selects_most(rt: HostRuntime, column: Made) -> VortexResult<bool> {
-    let mut numbers = [999u32; 130];
-    let copied = copy_true_rows(&*column?, &mut numbers);
-    let ends = [numbers[69], numbers[70], numbers[127], numbers[128]];
-    Ok(same(rt, copied, Ok(128)) && same(rt, ends, [69, 71, 128, 999]))
-}
-
-/// Words that are full, nearly full, and short.
-#[test]
-fn many_true_rows_are_copied(rt: HostRuntime) {
-    let mut rows = [true; 130];
-    rows[70] = false;
-    rows[129] = false;
-    sure(&rt, selects_most(rt, bools(rt.alloc(), &rows)));
-}
-
-/// Whether a column of truth values is copied as these bytes, and one after them is kept.
-fn copies_mask(rt: HostRuntime, column: Made, expected: [u8; 5]) -> VortexResult<bool> {
-    let mut mask = [9; 5];
-    let copied = copy_mask(&*column?, &mut mask);
-    Ok(copied.is_ok() && same(rt, mask, expected))
-}
-
-#[test]
-fn true_rows_are_copied_as_bytes(rt: HostRuntime) {
     let rows = [Some(false), Some(true), None, Some(true)];
     let column = nullable_bools(rt.alloc(), &rows);
-    sure(&rt, copies_mask(rt, column, [0, 1, 0, 1, 9]));
+    sure(&rt, selects(rt, column, [1, 3, 77, 77], [0, 1, 0, 1, 9]));
 }
 
 /// Whether texts are refused as integers, and so in these words.

@@ -111,33 +111,31 @@ fn made(pushed: Pushed) -> Dict {
     }
 }
 
-/// Whether a function of a dictionary has these codes.
-fn has_codes(rt: HostRuntime, answer: Pushed, expected: &[u32]) -> VortexResult<bool> {
-    Ok(same(rt, made(answer)?.codes(), expected))
-}
-
-/// Whether a function of a dictionary stands for rows of that text.
-fn stands_for(rt: HostRuntime, answer: Pushed, expected: &str) -> VortexResult<bool> {
+/// Whether a function of a dictionary has these codes, and stands for rows of that text.
+fn stands_for(
+    rt: HostRuntime,
+    answer: Pushed,
+    codes: &[u32],
+    expected: &str,
+) -> VortexResult<bool> {
     let alloc = rt.alloc();
-    let rows = made(answer)?.decode(&mut ExecutionCtx::new(alloc));
-    reads(rt, kept(alloc, rows), expected)
+    let dictionary = made(answer)?;
+    let rows = kept(alloc, dictionary.decode(&mut ExecutionCtx::new(alloc)));
+    Ok(same(rt, dictionary.codes(), codes) && reads(rt, rows, expected)?)
 }
 
-/// Gt of the dictionary and 2, in that place.
-fn greater(alloc: Global, child_idx: usize) -> Pushed {
+/// Gt of the dictionary and 2.
+fn greater(alloc: Global) -> Pushed {
     let two = [integer(PType::U8, 2)?];
     let gt = Binary.bind::<NoCustom>(Operator::Gt);
-    pushed(alloc, three_one_null_three(alloc), gt, child_idx, &two)
+    pushed(alloc, three_one_null_three(alloc), gt, 0, &two)
 }
 
 #[test]
 fn the_values_are_compared_and_the_codes_stay(rt: HostRuntime) {
     let alloc = rt.alloc();
-    sure(&rt, has_codes(rt, greater(alloc, 0), &[2, 0, 1, 2]));
     let expected = "bool?: true false null true";
-    sure(&rt, stands_for(rt, greater(alloc, 0), expected));
-    let expected = "bool?: false true null false";
-    sure(&rt, stands_for(rt, greater(alloc, 1), expected));
+    sure(&rt, stands_for(rt, greater(alloc), &[2, 0, 1, 2], expected));
 }
 
 /// A caller's function over a dictionary of Bool, which faults at false.
@@ -146,17 +144,12 @@ fn must_be_true(alloc: Global, values: &[Option<bool>], codes: &[u32]) -> Pushed
     pushed(alloc, truths(alloc, values, codes), function, 0, &[])
 }
 
-/// Whether nothing is answered.
-fn is_none(pushed: Pushed) -> VortexResult<bool> {
-    Ok(pushed?.is_none())
-}
-
 #[test]
 fn a_callers_fallible_function(rt: HostRuntime) {
     let alloc = rt.alloc();
     let all = must_be_true(alloc, &[None, YES], &[1, 0, 1]);
-    sure(&rt, stands_for(rt, all, "bool?: true null true"));
+    let expected = "bool?: true null true";
+    sure(&rt, stands_for(rt, all, &[1, 0, 1], expected));
     let fault = must_be_true(alloc, &[YES, NO], &[1, 0, 1]);
     must(&rt, rt.is_refused(fault, "Custom"));
-    sure(&rt, is_none(must_be_true(alloc, &[YES, NO], &[0, 0])));
 }

@@ -3,17 +3,39 @@
 use crate::bits::{bits_from, truths_from};
 use crate::nested::LENGTHS;
 use crate::questions::{COMPARISONS, compared, says_in_turn, sure};
-use fixtures::{Made, kept, names, nullable_ints, truth};
+use fixtures::{Made, kept, names, nullable_ints};
 use std::alloc::Global;
 use vortex_columns::{Column, Validity, VortexResult};
 use vortex_kernels::CompareOperator;
 
-/// The left rows, which repeat: an integer and a truth value, by its letter; `n` for null, and `.` for
-/// a null row.
-const LEFT: &str = "1t 1f nt 2n . 7t nt 5f -3n";
+/// A struct: an integer and a truth value; none for a null row.
+type Row = Option<(Option<i32>, Option<bool>)>;
+
+/// The left rows, which repeat.
+const LEFT: [Row; 9] = [
+    Some((Some(1), Some(true))),
+    Some((Some(1), Some(false))),
+    Some((None, Some(true))),
+    Some((Some(2), None)),
+    None,
+    Some((Some(7), Some(true))),
+    Some((None, Some(true))),
+    Some((Some(5), Some(false))),
+    Some((Some(-3), None)),
+];
 
 /// The right rows beside them.
-const RIGHT: &str = "1t 1t nt 2f 1f . -9f nt -4t";
+const RIGHT: [Row; 9] = [
+    Some((Some(1), Some(true))),
+    Some((Some(1), Some(true))),
+    Some((None, Some(true))),
+    Some((Some(2), Some(false))),
+    Some((Some(1), Some(false))),
+    None,
+    Some((Some(-9), Some(false))),
+    Some((None, Some(true))),
+    Some((Some(-4), Some(true))),
+];
 
 /// What each comparison says of them, in the order of `COMPARISONS`, by letters.
 const WANTED: [&str; 6] = [
@@ -35,23 +57,17 @@ const WITHIN: [&str; 6] = [
     "tntttftff",
 ];
 
-/// The integer and the truth value of a row.
-fn row_of(word: &str) -> (Option<i32>, Option<bool>) {
-    let letter = word.as_bytes().last().copied().unwrap_or(b'n');
-    let number = word.trim_end_matches(['t', 'f', 'n']);
-    (number.parse::<i32>().ok(), truth(letter))
-}
-
 /// So many structs, one of the rows in turn. Under a null row both fields have a value.
-fn structs(alloc: Global, rows: &str, len: usize, offset: usize) -> Made {
+fn structs(alloc: Global, rows: &[Row; 9], len: usize, offset: usize) -> Made {
     let mut first = Vec::new(alloc);
     let mut second = Vec::new(alloc);
     let mut valid = Vec::new(alloc);
-    for word in rows.split(' ').cycle().take(len) {
-        let (number, truth) = row_of(if word == "." { "1t" } else { word });
+    for i in 0..len {
+        let row = rows[i % 9];
+        let (number, truth) = row.unwrap_or((Some(1), Some(true)));
         first.push(number)?;
         second.push(truth)?;
-        valid.push(word != ".")?;
+        valid.push(row.is_some())?;
     }
     let mut fields = Vec::new(alloc);
     fields.push(Box::into_inner(nullable_ints(alloc, &first)?))?;
@@ -65,8 +81,8 @@ fn structs(alloc: Global, rows: &str, len: usize, offset: usize) -> Made {
 fn answers(rt: HostRuntime, operator: CompareOperator, expected: &str) -> VortexResult<bool> {
     let alloc = rt.alloc();
     for len in LENGTHS {
-        let left = structs(alloc, LEFT, len, 5);
-        let right = structs(alloc, RIGHT, len, 2);
+        let left = structs(alloc, &LEFT, len, 5);
+        let right = structs(alloc, &RIGHT, len, 2);
         if !says_in_turn(rt, compared(alloc, left, operator, right), expected)? {
             return Ok(false);
         }
@@ -75,7 +91,7 @@ fn answers(rt: HostRuntime, operator: CompareOperator, expected: &str) -> Vortex
 }
 
 /// Nine structs of the structs, of which the second is null where `valid` says so.
-fn nested(alloc: Global, rows: &str, is_second_valid: bool) -> Made {
+fn nested(alloc: Global, rows: &[Row; 9], is_second_valid: bool) -> Made {
     let mut valid = [true; 9];
     valid[1] = is_second_valid;
     let validity = Validity::Array(bits_from(alloc, &valid, 6, true)?);
@@ -96,7 +112,7 @@ fn the_first_field_that_differs_decides(rt: HostRuntime) {
 fn a_null_within_is_a_value(rt: HostRuntime) {
     let alloc = rt.alloc();
     for k in 0..6 {
-        let (left, right) = (nested(alloc, LEFT, false), nested(alloc, RIGHT, true));
+        let (left, right) = (nested(alloc, &LEFT, false), nested(alloc, &RIGHT, true));
         let answer = compared(alloc, left, COMPARISONS[k], right);
         sure(&rt, says_in_turn(rt, answer, WITHIN[k]));
     }
