@@ -36,7 +36,7 @@ READ_ON = {
     "a minus sign before one of a number": r'found "\d+", ' + ATOM,
     "a word of CASE, in the CASE by which PostgreSQL is asked": r'found "(when|else|end)", expected an operator, as and a name',
     "a chain, or `is null` before a comparison": r"found .*, expected brackets round the comparison, is, between, in or like before it",
-    "a type behind what is no literal": r'found "::", expected (a literal before ::|an operator that binds tighter, or the and of between)',
+    "a type behind a test": r'found "::", expected (brackets round what is before ::|an operator that binds tighter, or the and of between)',
     "a call for a type": r'found "\w+", expected the name of a type',
     "an escape that is no text in quotes": r"found .*, expected a text in single quotes",
     "a keyword as a name": rf'found "(is|like|ilike|between|escape|in|distinct|from|isnull|notnull|when|then|else|end)", ({ATOM}|expected (the name of a type|a text in single quotes))',

@@ -52,6 +52,8 @@ ASKED = [
     ("greatest(one, null)", "greatest(one, null)", "max(one, null)"),
     "- - 1",
     "1 in ()",
+    r"regexp_like('aa', '(a)\1')",
+    r"regexp_like(name, '\ba')",
     ("'É' ilike 'é'", "'É' ilike 'é'", "'É' like 'é'"),
     "upper('é')",
     "upper('ß')",

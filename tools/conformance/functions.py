@@ -124,7 +124,7 @@ CHOICES = [
          nulls="cases"),
     Form("between symmetric", "T T T", "bool", (Spelling(PREDICATE, "%7 between symmetric %7 and %7", True),),
          lambda node, a, b, c: f"({a} BETWEEN SYMMETRIC {b} AND {c})",
-         lambda node, a, b, c: f"(({a} BETWEEN {b} AND {c}) OR ({a} BETWEEN {c} AND {b}))", is_strict=False, is_coming=True),
+         lambda node, a, b, c: f"(({a} BETWEEN {b} AND {c}) OR ({a} BETWEEN {c} AND {b}))", is_strict=False),
 ]
 
 
@@ -264,7 +264,7 @@ TEXTS = [
     Form("reverse", "utf8", "utf8", calls("reverse", same=True), applied("reverse")),
     Form("concat", "utf8 utf8+", "utf8", calls("concat", same=True), applied("concat"),
          lambda node, *operands: "(" + " || ".join(f"coalesce({one}, '')" for one in operands) + ")", is_strict=False, nulls="never"),
-    Form("regexp_like", "utf8 regex", "bool", calls("regexp_like", same=True), applied("regexp_like"), literals="each", is_coming=True),
+    Form("regexp_like", "utf8 regex", "bool", calls("regexp_like", same=True), applied("regexp_like"), literals="each"),
 ]
 
 
@@ -296,6 +296,7 @@ def cast_in_sqlite(node, operand):
 def casts():
     for name in ("bool", *INTEGERS, "utf8"):
         spellings = [Spelling(ATOM, f"cast( %0 as {one} )", True) for one in SQL_NAMES.get(name, [])]
+        spellings += [Spelling(ATOM, f"( %0 ) :: {one}", True) for one in SQL_NAMES.get(name, [])]
         spellings.append(Spelling(ATOM, f"cast( %0 as {name} )", name not in ("bool", "utf8")))
         faults = {"bool": {NO_VALUE: "text that is no truth value in cast to bool"}, "utf8": {}}.get(name, {
             OVERFLOW: f"integer out of range in cast to {name}", NO_VALUE: f"text that is no {name} number in cast"})
