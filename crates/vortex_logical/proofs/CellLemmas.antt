@@ -1,7 +1,7 @@
 -- What is written of a stored value is read back.
 use Rattle.std.proofs.Common.{◌≡◌, ◌∙◌, ℕ, ℤ, pos, negsuc, ◌%◌, ◌<◌, Bool, true, false, T, arith, ap, sym, subst, FitsSigned, w32, List, Some}
 use Rattle.std.specs.Option.{option_map}
-use Rattle.std.specs.Ordering.{int_cmp}
+use Rattle.std.specs.Ordering.{int_cmp, int_eq}
 use Rattle.std.specs.declared.cmp.Ordering.TheVariants.{Equal}
 use Rattle.std.proofs.lemmas.Int.{ints}
 use lib.Ieee.{Format, binary32, binary64, fits, to_bits}
@@ -47,6 +47,15 @@ key_back f z h =
     ∙ equal_is (key_of_float f y) (key_of_float f x)
     (keys_are_ordered f y x (float_fits f (key_of_float f x)) h.1 ∙ keys_are_read_back f x h.1)
     ∙ sym h.2
+
+same_integer : (y z : ℤ) → y ≡ z → int_eq y z ≡ true
+same_integer y z e = grind (arith, ints, e)
+
+-- an integer that is not the key of its float is none
+pub no_key : (f : Format) (z : ℤ) (b : Bool) → b ≡ int_eq (key_of_float f (float_of_key f z)) z → b ≡ false → ¬ IsKey f z
+no_key f z b e n h =
+    let is : b ≡ true = e ∙ same_integer (key_of_float f (float_of_key f z)) z (key_back f z h) in
+    cc
 
 float_back : (f : Format) (z : ℤ) (text : List ℕ) → IsKey f z → parse_float f text ≡ Some (float_of_key f z)
     → key_of_text f text ≡ Some z

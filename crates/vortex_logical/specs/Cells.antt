@@ -1,5 +1,6 @@
 -- Texts of each kind, and the integers that stand for them.
-use Rattle.std.specs.Prelude.{◌≡◌, ℕ, ℤ, List, Option, Some, None, T}
+use Rattle.std.specs.Prelude.{◌≡◌, ℕ, ℤ, List, Option, Some, None, T, Bool}
+use Rattle.std.specs.Bool.{MatchBool}
 use Rattle.std.specs.Option.{option_map}
 use Rattle.std.specs.Float.{Float, Format, binary32, binary64}
 use lib.Ieee.{fits}
@@ -13,6 +14,7 @@ use Rattle.vortex_logical.specs.DecimalTexts.{decimal_of_text, decimal_text}
 use Rattle.vortex_logical.specs.DateTexts.{date_of_text, IsDated, IsDateText}
 use Rattle.vortex_logical.specs.TimestampTexts.{timestamp_of_text, IsTimed, IsTimestampText}
 use Rattle.vortex_logical.specs.FloatKeys.{key_of_float, float_of_key}
+use Rattle.vortex_logical.specs.Written.{Appends}
 
 -- the integer of the float that a text means, rounded once
 abbrev pub key_of_text : Format → List ℕ → Option ℤ
@@ -48,6 +50,12 @@ IsCellText Timestamp z text = IsTimestampText z text
 IsCellText (Decimal d) z text = text ≡ decimal_text d.scale z
 IsCellText F64 z text = parse_float binary64 text ≡ Some (float_of_key binary64 z)
 IsCellText F32 z text = parse_float binary32 text ≡ Some (float_of_key binary32 z)
+
+-- a stored value's text was appended, or there is none and nothing was
+abbrev pub WritesCell : Kind → ℤ → List ℕ → List ℕ → Bool → Type 0
+WritesCell k z old new written =
+    MatchBool written (IsStored k z × Appends (IsCellText k z) old new)
+    (¬ IsStored k z × (new ≡ old))
 
 -- the digits of a decimal kind
 abbrev pub HasKindDigits : Kind → Type 0

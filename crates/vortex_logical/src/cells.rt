@@ -1,10 +1,12 @@
 //! Cells: texts of each kind, read as the integers that stand for them, and written.
 ghost use Rattle.std.specs.Prelude.{◌≡◌, IfOk, IfSome, MatchOption, FitsSigned};
-ghost use Rattle.std.specs.Bool.{MatchBool};
 ghost use Rattle.std.specs.Int.{w32};
+ghost use Rattle.std.specs.Ordering.{int_eq};
+ghost use Rattle.vortex_logical.specs.FloatKeys.{key_of_float, float_of_key};
 ghost use Rattle.std.specs.Float.{binary32, binary64};
 ghost use Rattle.vortex_logical.specs.Written.{Appends};
 ghost use Rattle.vortex_logical.specs.Cells.{key_of_text, stored_of_text, IsStored, IsCellText};
+ghost use Rattle.vortex_logical.specs.Cells.{WritesCell};
 ghost use Rattle.vortex_logical.specs.Cells.{IsKey, CellsAreReadBack};
 
 use crate::dates::{read_date, widened, write_date};
@@ -67,9 +69,7 @@ fn narrowed(number: i64) -> Option<i32>
 }
 
 fn write_day(number: i64, out: &mut Vec<u8>) -> Result<bool, AllocError>
-    ensures { IfOk result (λ written. MatchBool written
-        (Appends (IsCellText Kind.Date number) out.old.items out.new.items)
-        (¬ (IsStored Kind.Date number) × (out.new.items ≡ out.old.items))) }
+    ensures { IfOk result (WritesCell Kind.Date number out.old.items out.new.items) }
 {
     match narrowed(number) {
         Some(day) => write_date(day, out),
@@ -77,10 +77,15 @@ fn write_day(number: i64, out: &mut Vec<u8>) -> Result<bool, AllocError>
     }
 }
 
+fn write_instant(number: i64, out: &mut Vec<u8>) -> Result<bool, AllocError>
+    ensures { IfOk result (WritesCell Kind.Timestamp number out.old.items out.new.items) }
+{
+    write_timestamp(number, out)
+}
+
 fn write_digits(digits: DecimalDigits, number: i64, out: &mut Vec<u8>) -> Result<bool, AllocError>
-    ensures { IfOk result (λ written. MatchBool written
-        (Appends (IsCellText (Kind.Decimal digits) number) out.old.items out.new.items)
-        (¬ (IsStored (Kind.Decimal digits) number) × (out.new.items ≡ out.old.items))) }
+    ensures { IfOk result
+        (WritesCell (Kind.Decimal digits) number out.old.items out.new.items) }
 {
     if within_digits(number as i128, digits).is_none() {
         return Ok(false);
@@ -107,38 +112,62 @@ fn write_f32(key: i32, out: &mut Vec<u8>) -> Result<(), AllocError>
     Ok(())
 }
 
+/// Whether an integer stands for a float of 64 bits.
+fn is_f64_key(key: i64) -> bool
+    ensures { result ≡ int_eq (key_of_float binary64 (float_of_key binary64 key)) key }
+{
+    key_of_f64(f64_of_key(key)) == key
+}
+
+/// Whether an integer stands for a float of 32 bits.
+fn is_f32_key(key: i32) -> bool
+    ensures { result ≡ int_eq (key_of_float binary32 (float_of_key binary32 key)) key }
+{
+    key_of_f32(f32_of_key(key)) == key
+}
+
+fn write_wide(key: i64, out: &mut Vec<u8>) -> Result<bool, AllocError>
+    ensures { IfOk result (WritesCell Kind.F64 key out.old.items out.new.items) }
+{
+    if !is_f64_key(key) {
+        return Ok(false);
+    }
+    write_f64(key, out)?;
+    Ok(true)
+}
+
+fn write_short(key: i32, out: &mut Vec<u8>) -> Result<bool, AllocError>
+    ensures { IfOk result (WritesCell Kind.F32 key out.old.items out.new.items) }
+{
+    if !is_f32_key(key) {
+        return Ok(false);
+    }
+    write_f32(key, out)?;
+    Ok(true)
+}
+
 fn write_narrow(key: i64, out: &mut Vec<u8>) -> Result<bool, AllocError>
-    ensures { IfOk result (λ written. MatchBool written
-        (Appends (IsCellText Kind.F32 key) out.old.items out.new.items)
-        (¬ (IsStored Kind.F32 key) × (out.new.items ≡ out.old.items))) }
+    ensures { IfOk result (WritesCell Kind.F32 key out.old.items out.new.items) }
 {
     match narrowed(key) {
-        Some(narrow) => {
-            write_f32(narrow, out)?;
-            Ok(true)
-        }
+        Some(narrow) => write_short(narrow, out),
         None => Ok(false),
     }
 }
 
 /// Appends the text of a stored integer, which is read back as the same integer; false, and
-/// nothing, where it stands for no value of the kind that has a text. A float is written in digits
+/// nothing, exactly where it stands for no value of the kind that has a text. A float is written in digits
 /// that are read back as the float. Refused only for want of memory, and then part of the text may
 /// stand.
 pub fn write_cell(kind: Kind, number: i64, out: &mut Vec<u8>) -> Result<bool, AllocError>
-    ensures { IfOk result (λ written. MatchBool written
-        (Appends (IsCellText kind number) out.old.items out.new.items)
-        (¬ (IsStored kind number) × (out.new.items ≡ out.old.items))) }
+    ensures { IfOk result (WritesCell kind number out.old.items out.new.items) }
 {
     match kind {
         Kind::Plain => Ok(false),
         Kind::Date => write_day(number, out),
-        Kind::Timestamp => write_timestamp(number, out),
+        Kind::Timestamp => write_instant(number, out),
         Kind::Decimal(digits) => write_digits(digits, number, out),
-        Kind::F64 => {
-            write_f64(number, out)?;
-            Ok(true)
-        }
+        Kind::F64 => write_wide(number, out),
         Kind::F32 => write_narrow(number, out),
     }
 }
