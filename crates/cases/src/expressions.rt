@@ -21,15 +21,18 @@ enum Question {
     Answers,
     /// What statistics say of these answers, as conditions of groups of rows.
     Groups,
+    /// What statistics leave of these answers in groups of rows.
+    Left,
 }
 
 /// The lines that ask them.
-const QUESTIONS: [(Question, &str); 5] = [
+const QUESTIONS: [(Question, &str); 6] = [
     (Question::Tree, "\ntree\n"),
     (Question::Places, "\nplaces\n"),
     (Question::Written, "\nwritten\n"),
     (Question::Answers, "\nanswers\n"),
     (Question::Groups, "\ngroups\n"),
+    (Question::Left, "\nleft\n"),
 ];
 
 /// A text, what is checked of it, and the lines of its columns.
@@ -183,6 +186,7 @@ pub(crate) fn expression_text(alloc: Global, case: ExpressionCase<'_>) -> Vortex
         Question::Places => places_text(alloc, case.text),
         Question::Written => written_text(alloc, &batch.scope, case.text),
         Question::Answers => answers_text(alloc, &batch, case.text),
-        Question::Groups => groups_text(alloc, &batch, case.text),
+        Question::Groups => groups_text(alloc, &batch, case.text, false),
+        Question::Left => groups_text(alloc, &batch, case.text, true),
     }
 }

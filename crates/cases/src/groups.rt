@@ -7,8 +7,9 @@
 use crate::expressions::Batch;
 use std::alloc::Global;
 use vortex_columns::{Column, ExecutionCtx, VortexError, VortexResult};
-use vortex_expressions::{Answer, read_answers};
-use vortex_pruning::{FieldStatistics, GroupError, Pruned, prune_groups};
+use vortex_expressions::{Answer, read_answers, write_expression};
+use vortex_pruning::{FieldStatistics, GroupError, Pruned, prune_groups, residual, statistics_in};
+use vortex_statistics::Statistics;
 
 /// A copy of a column, if there is one of that number.
 fn copied(alloc: Global, batch: &Batch, number: usize) -> VortexResult<Option<Column>> {
@@ -85,6 +86,48 @@ fn push_answer(
     }
 }
 
+/// Writes the text of what statistics leave of a tree in a group.
+fn push_residual(
+    alloc: Global,
+    out: &mut String,
+    answer: &Answer,
+    statistics: &[Statistics],
+    rows: u64,
+) -> VortexResult<()> {
+    let left = residual(
+        &answer.tree,
+        statistics,
+        rows,
+        &mut ExecutionCtx::new(alloc),
+    )?;
+    match write_expression(alloc, &left.tree)? {
+        Some(text) => out.push_str(text.as_str())?,
+        None => out.push_str("no text")?,
+    }
+    Ok(())
+}
+
+/// Writes what is left of a tree in each group, as a line.
+fn push_left(
+    alloc: Global,
+    out: &mut String,
+    answer: &Answer,
+    fields: &[FieldStatistics],
+    counts: &[u64],
+) -> VortexResult<()> {
+    let mut separator = "";
+    for (group, rows) in counts.iter().enumerate() {
+        out.push_str(separator)?;
+        match statistics_in(alloc, fields, group, *rows) {
+            Ok(statistics) => push_residual(alloc, out, answer, &statistics, *rows)?,
+            Err(_) => return Err(VortexError::InvalidColumn),
+        }
+        separator = " | ";
+    }
+    out.push_str("\n")?;
+    Ok(())
+}
+
 /// The counts of rows. E12 if the last column has none.
 fn counts_of(batch: &Batch) -> VortexResult<&[u64]> {
     match batch.columns.last() {
@@ -93,15 +136,25 @@ fn counts_of(batch: &Batch) -> VortexResult<&[u64]> {
     }
 }
 
-/// What is known of each condition of a list, in a line each, or why the text is no list.
-pub(crate) fn groups_text(alloc: Global, batch: &Batch, text: &str) -> VortexResult<String> {
+/// What is known of each condition of a list, or if `left` is set what is left of each tree, in a
+/// line each, or why the text is no list.
+pub(crate) fn groups_text(
+    alloc: Global,
+    batch: &Batch,
+    text: &str,
+    left: bool,
+) -> VortexResult<String> {
     let fields = fields_of(alloc, batch)?;
     let counts = counts_of(batch)?;
     let mut out = String::new(alloc);
     match read_answers(alloc, &batch.scope, text) {
         Ok(answers) => {
             for answer in answers.iter() {
-                push_answer(alloc, &mut out, answer, &fields, counts)?;
+                if left {
+                    push_left(alloc, &mut out, answer, &fields, counts)?;
+                } else {
+                    push_answer(alloc, &mut out, answer, &fields, counts)?;
+                }
             }
             Ok(out)
         }

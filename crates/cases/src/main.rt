@@ -30,8 +30,9 @@
 //! one. Blank lines at the end of a case are ignored.
 //!
 //! An expression follows a line that asks for its `tree`, for the `places` of its steps in the
-//! text, for the text that its tree is `written` as, for the columns of its `answers`, or for what
-//! statistics say of these in `groups` of rows. The lines before it are `rows` and `col` lines.
+//! text, for the text that its tree is `written` as, for the columns of its `answers`, for what
+//! statistics say of these in `groups` of rows, or for what they have `left` of these in each
+//! group. The lines before it are `rows` and `col` lines.
 #![tactic(auto)]
 
 mod expressions;

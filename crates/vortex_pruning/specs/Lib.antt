@@ -1,3 +1,5 @@
 pub mod Knowing
 pub mod Pruning
 pub mod Groups
+pub mod Residuals
+pub mod Rewritten

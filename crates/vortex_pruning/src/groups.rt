@@ -121,8 +121,9 @@ fn field_in(
     }
 }
 
-/// The statistics of each field in a group of so many rows.
-fn statistics_in(
+/// The statistics of each field in a group of so many rows. The first field whose statistics
+/// contradict themselves is refused.
+pub fn statistics_in(
     alloc: Global,
     fields: &[FieldStatistics],
     group: usize,

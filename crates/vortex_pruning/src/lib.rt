@@ -5,13 +5,16 @@
 mod call;
 pub mod functions;
 pub mod groups;
+pub mod laws;
 mod node;
 pub mod pruned;
+pub mod residuals;
 mod sql;
 pub mod trees;
 
 pub use functions::ScalarFnRanges;
-pub use groups::{FieldStatistics, GroupError, prune_groups};
+pub use groups::{FieldStatistics, GroupError, prune_groups, statistics_in};
 pub use pruned::{Pruned, Verdict};
+pub use residuals::{ResidualTree, residual};
 pub use trees::{prune, ranges};
 pub use vortex_ranges::{Bound, Range};
