@@ -1,5 +1,5 @@
--- Decimals as floats of 64 bits: the stored integer over 10 to the power of the scale, rounded once.
--- They cannot fault.
+-- Decimals as floats of 64 bits: the stored integer over 10 to the power of the scale, rounded
+-- once. They cannot fault.
 use Rattle.std.specs.Prelude.{◌≡◌, ◌^◌, codes, get_or, ℕ, ℤ, pos, unsigned_abs, List, true, false}
 use Rattle.std.specs.Prelude.{if◌then◌else◌, int_lt, nat_eq, Bool, refl}
 use Rattle.std.specs.Float.{Float, binary64}
@@ -87,7 +87,8 @@ decimal_named s =
 
 stored_fits : (s : ℕ) (z : ℤ) → GivesType (integer_type I64 false) (from_stored s z)
 stored_fits s z =
-    float_fits (decimal_float s z) (round-fits binary64 (int_lt z (pos 0)) (unsigned_abs z) (10 ^ s))
+    float_fits (decimal_float s z)
+    (round-fits binary64 (int_lt z (pos 0)) (unsigned_abs z) (10 ^ s))
 
 pub decimal_lawful : (s : ℕ) → LawfulRow (decimal_row s)
 decimal_lawful s =

@@ -1,6 +1,6 @@
 -- Arithmetic of two floats of 64 bits: IEEE 754's result, rounded once, and the faults of
--- PostgreSQL 15 (`float8_pl`, `float8_mi`, `float8_mul`, `float8_div`). Operands that are infinite or
--- no number fault nowhere but as the dividend of a zero.
+-- PostgreSQL 15 (`float8_pl`, `float8_mi`, `float8_mul`, `float8_div`), underflow included. An
+-- infinity or a NaN among the operands makes no fault, but an infinity over zero is one.
 use Rattle.std.specs.Prelude.{Bool, false, not, ◌&&◌, ◌||◌, Option, Some, None, is_nan}
 use Rattle.std.specs.Prelude.{if◌then◌else◌}
 use Rattle.std.specs.Float.{Float, binary64, float_zero, float_is_infinite}

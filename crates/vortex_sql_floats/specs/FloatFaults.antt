@@ -1,5 +1,5 @@
--- Why arithmetic of floats faults, by number. The numbers are beside those of `RowFault`: that of its
--- zero divisor, and two that it leaves free.
+-- Why arithmetic of floats faults, by number: that of `RowFault`'s zero divisor, and two numbers
+-- that `RowFault` leaves free.
 use Rattle.std.specs.Prelude.{ℕ}
 use Rattle.vortex_sql_floats.specs.declared.faults.FloatFault.{FloatFault}
 use Rattle.vortex_sql_floats.specs.declared.faults.FloatFault.TheVariants as fault

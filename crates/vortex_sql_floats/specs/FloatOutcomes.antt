@@ -1,5 +1,5 @@
--- The outcome of a row whose result is a float, the integer that stands for it, or a fault; and of a
--- row of a number that is a stored integer.
+-- The outcome of a row whose result is a float, by the integer that stands for it; and of a row of a
+-- number that is a stored integer.
 use Rattle.std.specs.Prelude.{Option, Some, None}
 use Rattle.std.specs.Float.{Float, binary64}
 use Rattle.vortex_types.specs.Values.{number}

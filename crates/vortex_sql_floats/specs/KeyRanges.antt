@@ -26,7 +26,8 @@ use Rattle.vortex_sql_rows.specs.Types.{is_in, is_kind, ptype_in}
 use Rattle.vortex_sql_floats.specs.FloatFits.{key_fits}
 use Rattle.vortex_sql_floats.specs.FloatOutcomes.{gives_float, on_key}
 
-pub float_fits : (x : Float) → T (fits binary64 x) → GivesType (integer_type I64 false) (gives_float x)
+pub float_fits : (x : Float) → T (fits binary64 x)
+    → GivesType (integer_type I64 false) (gives_float x)
 float_fits x h = key_fits x h
 
 -- a number that its type has is within its range, and is one that is checked
@@ -47,11 +48,12 @@ pub on_key_fits : {A : Type 0} (t : LogicalType) (f : A → Outcome) → ((a : A
 on_key_fits t f h (Some a) = h a
 on_key_fits t f h None = tt
 
--- a function of the stored integers of one type that never faults, and whose result is one of 64 bits
+-- a function of the stored integers of one type that never faults, whose result has 64 bits
 module _ (id : List ℕ) (q : PType) (named : get_or id 0 0 ≡ 115) (f : ℤ → Outcome)
     (typed : (z : ℤ) → GivesType (integer_type I64 false) (f z))
     (settled : (z : ℤ) → FitsPType q z → GivesValue (f z)) where
-  fallible : LawfulRow (strict_row id 1 (Alike (Within q)) (answer.Integer I64) false (one_int (λ p. f)))
+  fallible : LawfulRow
+      (strict_row id 1 (Alike (Within q)) (answer.Integer I64) false (one_int (λ p. f)))
   fallible =
       one_int_lawful id (Within q) (answer.Integer I64) false named tt (λ p. f)
       (λ p n z k h. typed z) (λ p z e h. cc)
