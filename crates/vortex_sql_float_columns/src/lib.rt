@@ -1,0 +1,7 @@
+//! Arithmetic of floats over whole columns of the integers that stand for them.
+#![tactic(auto)]
+
+mod execute;
+mod keys;
+
+pub use execute::execute_float_operator;

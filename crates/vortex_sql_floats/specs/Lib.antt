@@ -1,0 +1,11 @@
+pub mod ArithmeticRows
+pub mod Conversions
+pub mod Decimals
+pub mod FloatArithmetic
+pub mod FloatFaults
+pub mod FloatFits
+pub mod FloatOutcomes
+pub mod KeyRanges
+pub mod Negation
+pub mod ToIntegers
+pub mod WholeFloats

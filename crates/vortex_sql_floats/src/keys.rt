@@ -1,0 +1,62 @@
+//! The stored integers of a row, and the cells that functions return.
+ghost use Rattle.std.specs.Prelude.{◌≡◌};
+ghost use Rattle.std.specs.Float.{binary64};
+ghost use Rattle.vortex_logical.specs.FloatKeys.{key_of_float};
+ghost use Rattle.vortex_sql_rows.specs.AnsweredRows.{AnswersRow};
+ghost use Rattle.vortex_sql_rows.specs.Faults.{faults_by};
+ghost use Rattle.vortex_sql_rows.specs.Integers.{checked};
+ghost use Rattle.vortex_sql_rows.specs.declared.faults.RowFault.TheVariants.{OtherValues};
+ghost use Rattle.vortex_types.specs.declared.dtype.PType.TheVariants.{I32, I64};
+ghost use Rattle.vortex_sql_floats.specs.FloatOutcomes.{gives_float, gives_unless};
+
+use crate::faults::FloatFault;
+use vortex_columns::{Cell, PType, VortexError, VortexResult};
+use vortex_logical::keys::key_of_f64;
+use vortex_sql_rows::faults::RowFault;
+use vortex_sql_rows::ranges::is_in;
+
+/// The number, if it has 64 bits.
+pub(crate) fn key_in(number: i128) -> Option<i64>
+    ensures { result ≡ checked I64 number }
+{
+    if is_in(PType::I64, number) {
+        Some(number as i64)
+    } else {
+        None
+    }
+}
+
+/// The number, if it has 32 bits.
+pub(crate) fn narrow_key_in(number: i128) -> Option<i32>
+    ensures { result ≡ checked I32 number }
+{
+    if is_in(PType::I32, number) {
+        Some(number as i32)
+    } else {
+        None
+    }
+}
+
+/// The integer of a float.
+pub(crate) fn float_cell<'a>(float: f64) -> VortexResult<Cell<'a>>
+    ensures { AnswersRow (gives_float float) result }
+{
+    Ok(Cell::Int(i128::from(key_of_f64(float))))
+}
+
+/// The integer of a float, or the fault.
+pub(crate) fn float_or_fault<'a>(fault: Option<FloatFault>, float: f64) -> VortexResult<Cell<'a>>
+    ensures { AnswersRow (gives_unless fault float) result }
+{
+    match fault {
+        Some(fault) => Err(VortexError::Custom(fault.number())),
+        None => float_cell(float),
+    }
+}
+
+/// The fault of values that no call passes.
+pub(crate) fn other_values<'a>() -> VortexResult<Cell<'a>>
+    ensures { AnswersRow (faults_by OtherValues) result }
+{
+    Err(VortexError::Custom(RowFault::OtherValues.number()))
+}
