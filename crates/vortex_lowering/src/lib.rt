@@ -1,0 +1,4 @@
+//! Calls over logical operands, as calls of the proved functions over stored integers.
+#![tactic(auto)]
+
+pub mod scale;
