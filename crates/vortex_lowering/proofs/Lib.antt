@@ -1,1 +1,10 @@
+mod Powers
 mod StoredComparisons
+mod StoredResults
+mod StoredLiterals
+mod Constants
+mod Lengthened
+mod LengthenedRows
+mod RowComparisons
+mod RowResults
+mod RowBounds

@@ -1,5 +1,5 @@
 -- Stored integers at one scale are in the order of what they mean.
-use Rattle.std.proofs.Common.{◌≡◌, ◌∙◌, ◌⊎◌, inl, inr, ℕ, ℤ, zero, suc, ◌-◌, ◌≤◌, arith, ap, sym, subst, true, refl}
+use Rattle.std.proofs.Common.{◌≡◌, ◌∙◌, ℕ, ℤ, zero, suc, ◌-◌, ◌≤◌, arith, sym, subst, true, refl}
 use Rattle.std.specs.Prelude.{◌<ℤ◌}
 use Rattle.std.specs.Ordering.{int_cmp}
 use Rattle.std.specs.declared.cmp.Ordering.{Ordering}
@@ -36,7 +36,7 @@ turned y z h = grind (arith, ints, h)
 by_ten_0 : (z : ℤ) → shifted z 0 ≡ z
 by_ten_0 z = grind (arith, ints)
 
-longer_is : (k : ℕ) (z : ℤ) → shifted z k ≡ longer k z
+pub longer_is : (k : ℕ) (z : ℤ) → shifted z k ≡ longer k z
 longer_is zero z = by_ten_0 z
 longer_is (suc k) z = λ i. shifted z (suc k)
 
@@ -46,15 +46,15 @@ of_numbers m n s t Equal e = is_equal (shifted m t) (shifted n s) e
 of_numbers m n s t Greater e = turned (shifted n s) (shifted m t) e
 
 -- the integer is the number, at that scale
-abbrev NumberAt : ℕ → ℤ → Meaning → Type 0
+abbrev pub NumberAt : ℕ → ℤ → Meaning → Type 0
 NumberAt a y (number m s) = (y ≡ m) × (s ≡ a)
 NumberAt a y v = ⊥
 
-whole_number : (p : PType) (y : ℤ) (v : Meaning) → OperandMeans (Whole p) y v → NumberAt 0 y v
+pub whole_number : (p : PType) (y : ℤ) (v : Meaning) → OperandMeans (Whole p) y v → NumberAt 0 y v
 whole_number p y (number m s) h = h
 whole_number p y v h = absurd h
 
-decimal_number : (d : Digits) (y : ℤ) (v : Meaning) → OperandMeans (Of (Decimal d)) y v → NumberAt d.scale y v
+pub decimal_number : (d : Digits) (y : ℤ) (v : Meaning) → OperandMeans (Of (Decimal d)) y v → NumberAt d.scale y v
 decimal_number d y (number m s) h = h
 decimal_number d y v h = absurd h
 

@@ -1,11 +1,10 @@
 -- Operands beside each other: what their stored integers mean, which pairs the shipped functions
 -- compare, and the digits after the point that they lack at a scale.
-use Rattle.std.specs.Prelude.{◌≡◌, ◌-◌, ℕ, zero, suc, ℤ, Option, Some, None, Bool, true, false, not}
+use Rattle.std.specs.Prelude.{◌≡◌, ◌-◌, ℕ, zero, suc, ℤ, Option, Some, Bool, true, false, not}
 use Rattle.std.specs.Prelude.{max}
 use Rattle.vortex_checked.specs.Exact.{is_outside}
 use Rattle.vortex_types.specs.declared.dtype.PType.{PType}
 use Rattle.vortex_types.specs.declared.dtype.PType.TheVariants.{I64}
-use Rattle.vortex_types.specs.LogicalTypes.{LogicalType, integer_type}
 use Rattle.vortex_types.specs.TypeEquality.{ptype_eq}
 use Rattle.vortex_types.specs.Typing.{least_of, greatest_of}
 use Rattle.vortex_logical.specs.declared.kind.Kind.TheVariants.{Plain, Date, Timestamp, Decimal}
@@ -13,13 +12,13 @@ use Rattle.vortex_logical.specs.declared.kind.Kind.TheVariants.{F64, F32}
 use Rattle.vortex_logical.specs.declared.operand.Operand.{Operand}
 use Rattle.vortex_logical.specs.declared.operand.Operand.TheVariants.{Whole, Of}
 use Rattle.vortex_logical.specs.Decimals.{shifted}
-use Rattle.vortex_logical.specs.Kinds.{stored_type}
+use Rattle.vortex_logical.specs.Kinds.{stored_ptype}
 use Rattle.vortex_logical.specs.StandsFor.{Meaning, number, StandsFor}
 
--- the type of an operand's stored values; that of a plain one is not known
-abbrev pub operand_type : Operand → Bool → Option LogicalType
-operand_type (Whole p) n = Some (integer_type p n)
-operand_type (Of k) n = stored_type k n
+-- the integer type of an operand's stored values; that of a plain one is not known
+abbrev pub operand_ptype : Operand → Option PType
+operand_ptype (Whole p) = Some p
+operand_ptype (Of k) = stored_ptype k
 
 -- the stored integer means the value; a whole number is a decimal without a point
 abbrev pub OperandMeans : Operand → ℤ → Meaning → Type 0

@@ -7,7 +7,7 @@ use vortex_logical::operand::Operand;
 use vortex_types::PType;
 
 /// How many digits stand after the point.
-fn scale_of(operand: &Operand) -> u32
+pub(crate) fn scale_of(operand: &Operand) -> u32
     ensures value { result ≡ scale_of operand.now }
     ensures few { result ≤ 18 }
 {
