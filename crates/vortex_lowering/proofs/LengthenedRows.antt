@@ -22,6 +22,10 @@ use Rattle.vortex_lowering.specs.Rows.{Lowered, IsRow}
 use Rattle.vortex_lowering.specs.Lengthening.{lengthened, IsLengthened}
 use Rattle.vortex_lowering.proofs.StoredComparisons.{longer, stored_comparison}
 
+-- what options have
+pub some_same : {A : Type 0} (x y : A) → Some x ≡ Some y → x ≡ y
+some_same x y e = cc
+
 -- the outcome, or the fault of a product
 abbrev pub or_fault : Bool → Outcome → Outcome
 or_fault b o = if b then o else faults (arithmetic numeric.Mul)

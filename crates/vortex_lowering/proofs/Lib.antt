@@ -2,8 +2,6 @@ mod Powers
 mod StoredComparisons
 mod StoredResults
 mod StoredLiterals
-mod Constants
-mod Lengthened
 mod LengthenedRows
 mod RowComparisons
 mod RowResults

@@ -29,8 +29,7 @@ use Rattle.vortex_lowering.specs.Operands.{are_shipped, operand_ptype, scale_of,
 use Rattle.vortex_lowering.specs.Rows.{Lowered, IsOfType, IsTyped}
 use Rattle.vortex_lowering.specs.Lengthening.{IsLengthened}
 use Rattle.vortex_lowering.specs.Bounding.{bounds_scale, Bounds}
-use Rattle.vortex_lowering.proofs.Lengthened.{some_same}
-use Rattle.vortex_lowering.proofs.LengthenedRows.{or_fault, row_outcome, truth_value}
+use Rattle.vortex_lowering.proofs.LengthenedRows.{some_same, or_fault, row_outcome, truth_value}
 use Rattle.vortex_lowering.proofs.RowComparisons.{same_ptype}
 
 abbrev of_bounds : BetweenOptions → List LogicalType → Outcome → Outcome → Outcome → Outcome

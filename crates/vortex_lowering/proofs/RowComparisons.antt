@@ -29,8 +29,7 @@ use Rattle.vortex_lowering.specs.Operands.{are_shipped, operand_ptype, common_sc
 use Rattle.vortex_lowering.specs.Rows.{Lowered, IsOfType, IsTyped}
 use Rattle.vortex_lowering.specs.Lengthening.{IsLengthened}
 use Rattle.vortex_lowering.specs.Comparing.{Compares}
-use Rattle.vortex_lowering.proofs.LengthenedRows.{or_fault, row_outcome, truth_value}
-use Rattle.vortex_lowering.proofs.Lengthened.{some_same}
+use Rattle.vortex_lowering.proofs.LengthenedRows.{some_same, or_fault, row_outcome, truth_value}
 
 -- the outcome of a comparison for those of its operands
 abbrev of_compared : CompareOperator → List LogicalType → Outcome → Outcome → Outcome

@@ -36,8 +36,7 @@ use Rattle.vortex_lowering.specs.Rows.{Lowered, IsOfType, IsTyped, IsRow}
 use Rattle.vortex_lowering.specs.Lengthening.{IsLengthened}
 use Rattle.vortex_lowering.specs.Computing.{arithmetic_operator, Computes}
 use Rattle.vortex_lowering.proofs.StoredResults.{computed_value}
-use Rattle.vortex_lowering.proofs.Lengthened.{some_same}
-use Rattle.vortex_lowering.proofs.LengthenedRows.{or_fault, RowValue, row_outcome}
+use Rattle.vortex_lowering.proofs.LengthenedRows.{some_same, or_fault, RowValue, row_outcome}
 
 -- operands and result are stored in one integer type
 abbrev SamePTypes : Operand → Operand → Operand → Type 0
