@@ -1,0 +1,8 @@
+mod Powers
+mod StoredComparisons
+mod StoredResults
+mod StoredLiterals
+mod LengthenedRows
+mod RowComparisons
+mod RowResults
+mod RowBounds

@@ -1,0 +1,9 @@
+pub mod Operands
+pub mod Truths
+pub mod Results
+pub mod Rows
+pub mod Lengthening
+pub mod Comparing
+pub mod Leaves
+pub mod Computing
+pub mod Bounding
