@@ -33,8 +33,8 @@ class Refusals(unittest.TestCase):
         floats, twice = np.array([1.5]), np.zeros((1, 2))
         for columns in ({"a": [1], "f": floats}, {"a": floats, "f": floats}, {"f": twice, "a": [object()]}, {"f": [], "a": [1]}):
             for ask in (evaluate, select, mask):
-                self.refused(ExpressionError, lambda: ask("a == 1", columns), number=112, byte=3)
-                self.refused(ExpressionError, lambda: ask("f > 1 and a == 1", columns), number=112, byte=13)
+                self.refused(ExpressionError, lambda: ask("a => 1", columns), number=112, byte=3)
+                self.refused(ExpressionError, lambda: ask("f > 1 and a => 1", columns), number=112, byte=13)
                 self.refused(ExpressionError, lambda: ask("a + 1 > 2 and b = 1", columns), number=11, byte=14)
                 self.refused(ExpressionError, lambda: ask("a is null or null = null", columns), number=115)
                 self.refused(ExpressionError, lambda: ask("a is null or 300::u8 = 1", columns), number=114)
@@ -42,7 +42,7 @@ class Refusals(unittest.TestCase):
         # if the text may be right, the column is reported
         self.refused(ColumnError, lambda: select("a + 1 > 2 and f = 'x'", {"f": floats, "a": floats}), number=140, column="f")
         self.refused(ColumnError, lambda: select("a = 1", {"f": floats, "a": [1.5]}), number=140, column="a")
-        self.refused(ExpressionError, lambda: Expression("a == 1", {"a": "int", "f": "float"}), number=112)
+        self.refused(ExpressionError, lambda: Expression("a => 1", {"a": "int", "f": "float"}), number=112)
         self.refused(ExpressionError, lambda: Expression("a = 1", {"a": "int", "f": "float"}), number=113, column="a")
         # a near name may be that of any column, whatever its type
         error = self.refused(ExpressionError, lambda: select("prcie > 1", {"price": floats}), number=11)

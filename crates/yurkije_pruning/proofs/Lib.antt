@@ -1,0 +1,2 @@
+pub mod PutItems
+pub mod Refused

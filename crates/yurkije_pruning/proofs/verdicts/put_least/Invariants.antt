@@ -1,0 +1,7 @@
+use Rattle.yurkije_pruning.specs.Verdicts.{least_of}
+use Rattle.yurkije_pruning.proofs.PutItems.{ArePutSoFar}
+use Rattle.yurkije_pruning.proofs.verdicts.put_least.Given as goal
+
+-- the items so far
+abbrev pub invariant-loop-k : goal.invariant-loop-k
+invariant-loop-k l = ArePutSoFar least_of l.pruned l.fn.room l.room l.k

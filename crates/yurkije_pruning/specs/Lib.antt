@@ -1,0 +1,5 @@
+pub mod Lent
+pub mod Pruning
+pub mod Verdicts
+pub mod Statuses
+pub mod Messages
