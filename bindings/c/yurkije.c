@@ -18,6 +18,8 @@ uint32_t yurkije_answer_type(struct lent *expression, size_t answer, struct yk_t
 uint32_t yurkije_answer_text(struct lent *expression, size_t answer, bool optimized, char *room, size_t room_length, size_t *length);
 uint32_t yurkije_run(struct lent *expression, const struct yk_column *columns, size_t count, size_t rows, struct yk_answers *answers,
     struct yk_error *error);
+uint32_t yurkije_prune(struct lent *expression, size_t answer, const struct yk_statistics *statistics, size_t count, const uint64_t *rows,
+    size_t groups, struct yk_verdicts *verdicts, struct yk_error *error);
 uint32_t yurkije_answer_size(struct lent *answers, size_t answer, struct yk_size *size);
 uint32_t yurkije_answer_copy(struct lent *answers, size_t answer, struct yk_room *room);
 uint32_t yurkije_select(struct lent *answers, size_t answer, uint64_t *numbers, size_t room, size_t *count);
@@ -72,6 +74,12 @@ uint32_t yk_run(const struct yk_expression *expression, const struct yk_column *
     struct yk_answers *answers, struct yk_error *error) {
     struct lent lent = lend(expression);
     return yurkije_run(&lent, columns, count, rows, answers, error);
+}
+
+uint32_t yk_prune(const struct yk_expression *expression, size_t answer, const struct yk_statistics *statistics, size_t count,
+    const uint64_t *rows, size_t groups, struct yk_verdicts *verdicts, struct yk_error *error) {
+    struct lent lent = lend(expression);
+    return yurkije_prune(&lent, answer, statistics, count, rows, groups, verdicts, error);
 }
 
 uint32_t yk_answer_size(const struct yk_answers *answers, size_t answer, struct yk_size *size) {

@@ -134,7 +134,8 @@ enum yk_status {
     YK_PREFIX_DIFFERS = 128,     /* a view tells other first bytes than its buffer has */
     YK_NOT_PADDED = 129,         /* a text within its view is not followed by zeros */
     YK_NOT_UTF8 = 130,           /* a text in a row that is not null is not UTF-8 */
-    YK_TOO_LONG = 131            /* texts are too long to be told, one or all together */
+    YK_TOO_LONG = 131,           /* texts are too long to be told, one or all together */
+    YK_CONTRADICTION = 132       /* the statistics of a field contradict themselves in a group */
 };
 
 /* Kinds of values. Of texts and byte strings a kind says the layout of a column too; where only a
@@ -248,6 +249,32 @@ struct yk_column {
     struct yk_buffers buffers;   /* which the views name */
 };
 
+/* What is known of a field in each of several groups of rows, as a file or a table keeps it for parts
+ * of its rows: columns with an item a group, borrowed for a call and copied once. A column of 0 rows,
+ * as a zeroed one, says nothing of any group, and a null says nothing of its group. What is said has to
+ * be so: a verdict is of rows of which it is. */
+struct yk_statistics {
+    struct yk_column low;        /* of the field's type: no row that is not null is below it. It need not
+                                    be the value of a row: a text that was cut off is a low end */
+    struct yk_column high;       /* of the field's type: no row that is not null is above it */
+    struct yk_column nulls;      /* YK_U64: how many rows are null */
+};
+
+/* What is known of a condition in each row of a group. */
+enum yk_verdict {
+    YK_UNKNOWN = 0,              /* nothing */
+    YK_NONE_TRUE = 1,            /* no row is true: each is false or null, or faults */
+    YK_ALL_TRUE = 2              /* every row is true, and none faults */
+};
+
+/* The caller's buffers for what is known of groups, an item a group. One of length 0 is not asked for. */
+struct yk_verdicts {
+    struct yk_bytes_room verdicts;  /* a yk_verdict */
+    struct yk_bytes_room may_fault; /* 0 where no row faults, else 1 */
+    struct yk_u64s_room least;      /* at least so many rows are true */
+    struct yk_u64s_room most;       /* and at most so many */
+};
+
 /* What an answer takes: how long the slices of a yk_room have to be at least. */
 struct yk_size {
     size_t rows;
@@ -331,6 +358,33 @@ uint32_t yk_answer_text(const struct yk_expression *expression, size_t answer, b
 uint32_t yk_run(const struct yk_expression *expression,
                 const struct yk_column *columns, size_t count, size_t rows,
                 struct yk_answers *answers, struct yk_error *error);
+
+/* What is known of answer `answer`, a truth value, in each of `groups` groups of rows, of which group
+ * `g` has `rows[g]`, without a row: by statistics of the fields, as many as there are fields, in their
+ * order. Of all columns that they describe in a group
+ *
+ * - YK_NONE_TRUE says that no row of the answer is true, and YK_ALL_TRUE that every row is,
+ * - 0 in `may_fault` says that no row of it faults,
+ * - `least` and `most` are ends of the number of its true rows.
+ *
+ * They say so of the answer as yk_run runs it, optimized (yk_answer_text). So a caller may leave out a
+ * group of YK_NONE_TRUE that cannot fault: a run over it would not be refused for this answer, and
+ * would select no row. And it may take a group of YK_ALL_TRUE whole. Where a row may fault,
+ * YK_NONE_TRUE says no more than that a run over the group selects no row or is refused. As it was
+ * written, the answer has the same values in each row in which it does not fault; optimizing may drop
+ * a fault, and makes none.
+ *
+ * YK_TYPE_MISMATCH where the answer is no truth value. `column` and, of a group, `row` tell which
+ * statistics are wrong: YK_SCOPE_MISMATCH for fewer or more than fields, or of another type than the
+ * field (nullable or not: both are taken); YK_LENGTH_MISMATCH for more or fewer items than groups;
+ * YK_CONTRADICTION where a low end is above the high one, or more rows are null than there are, or some
+ * are in a field that is not nullable; else what yk_run tells of columns. YK_VALUES_TOO_SHORT for a
+ * buffer that is asked for and has fewer items than there are groups. Where the call is refused nothing
+ * is written. What lies behind the groups stays as it was. */
+uint32_t yk_prune(const struct yk_expression *expression, size_t answer,
+                  const struct yk_statistics *statistics, size_t count,
+                  const uint64_t *rows, size_t groups,
+                  struct yk_verdicts *verdicts, struct yk_error *error);
 
 /* Frees what the handle holds, if anything, and leaves it empty. */
 void yk_answers_free(struct yk_answers *answers);

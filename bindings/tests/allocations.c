@@ -97,6 +97,24 @@ static uint32_t names(struct yk_expression *expression) {
     return status;
 }
 
+/* What is known of the second answer in two groups, by the ends of a text and of numbers. */
+static uint32_t pruned(struct yk_expression *expression) {
+    struct yk_statistics statistics[2];
+    uint8_t verdicts[2], may_fault[2];
+    uint64_t most[2];
+    struct yk_verdicts room = {.verdicts = {verdicts, 2}, .may_fault = {may_fault, 2}, .most = {most, 2}};
+    struct yk_error error = new_error();
+    memset(statistics, 0, sizeof statistics);
+    statistics[0].low = (struct yk_column){.kind = YK_I64, .rows = 2, .i64 = {numbers, 2}};
+    statistics[0].high = statistics[0].low;
+    statistics[1].low = (struct yk_column){.kind = YK_UTF8, .rows = 2, .offsets32 = {ends, 3}, .data = {(const uint8_t *)data, 25}};
+    uint32_t status = yk_prune(expression, 1, statistics, 2, (const uint64_t[]){7, 8}, 2, &room, &error);
+    SAME(status, error.status);
+    if (!status)
+        hash(verdicts, 2), hash(may_fault, 2), hash(most, sizeof most);
+    return status;
+}
+
 static uint32_t plain_calls(void) {
     struct yk_field fields[] = {field("n", YK_I64, true), field("t", YK_UTF8, false)};
     struct yk_column columns[] = {{.kind = YK_I64, .nullable = true, .rows = 4, .i64 = {numbers, 4}, .validity = {valid, 1}},
@@ -113,6 +131,8 @@ static uint32_t plain_calls(void) {
         status = copy_all(&answers);
     if (!status)
         status = names(&expression);
+    if (!status)
+        status = pruned(&expression);
     yk_answers_free(&answers);
     yk_expression_free(&expression);
     return status;

@@ -313,6 +313,73 @@ static void unread(void) {
     SAME(yk_fields_read(&expression, numbers, 3, &count), YK_EMPTY_HANDLE);
 }
 
+/* Groups of rows by statistics, and statistics that are refused. */
+static void pruned(void) {
+    static const int64_t lows[] = {0, 101, 90}, highs[] = {9, 300, 110};
+    static const uint64_t rows[] = {8, 9, 10};
+    struct yk_field fields[] = {field("a", YK_I64, true), field("t", YK_UTF8, true)};
+    struct yk_expression expression = read_expression("a > 100 and t is null, 1 / a = 1 or true, a > 999 and 100 / a > 1, a", fields, 2);
+    struct yk_column low = {.kind = YK_I64, .rows = 3, .i64 = {lows, 3}}, high = {.kind = YK_I64, .nullable = true, .rows = 3, .i64 = {highs, 3}};
+    struct yk_column none = {.kind = YK_U64, .rows = 3, .u64 = {(const uint64_t[]){0, 0, 0}, 3}};
+    struct yk_column all = {.kind = YK_U64, .rows = 3, .u64 = {rows, 3}};
+    const struct yk_statistics good[] = {{low, high, none}, {.nulls = all}};
+    struct yk_statistics in[2];
+    uint8_t verdicts[4], may_fault[4];
+    uint64_t least[4], most[4];
+    struct yk_verdicts room = {{verdicts, 3}, {may_fault, 3}, {least, 3}, {most, 3}};
+    struct yk_error error = new_error();
+    memset(verdicts, 9, sizeof verdicts);
+    SAME(yk_prune(&expression, 0, good, 2, rows, 3, &room, &error), YK_OK);
+    CHECK(verdicts[0] == YK_NONE_TRUE && verdicts[1] == YK_ALL_TRUE && verdicts[2] == YK_UNKNOWN && verdicts[3] == 9);
+    CHECK(!may_fault[0] && !may_fault[1] && !may_fault[2] && least[0] == 0 && most[0] == 0 && least[1] == 9 && most[1] == 9 && most[2] == 10);
+    CHECK(error.status == YK_OK && error.message_length == 0);
+    /* rules drop the fault of the answer as it was written */
+    SAME(yk_prune(&expression, 1, good, 2, rows, 3, &room, &error), YK_OK);
+    CHECK(verdicts[0] == YK_ALL_TRUE && !may_fault[0]);
+    SAME(yk_prune(&expression, 2, good, 2, rows, 3, &room, &error), YK_OK);
+    /* the first group is not to be left out: a run over it may fail */
+    CHECK(verdicts[0] == YK_NONE_TRUE && may_fault[0] && verdicts[1] == YK_NONE_TRUE && !may_fault[1]);
+    /* one buffer alone, and nothing known */
+    struct yk_verdicts one = {.most = {most, 3}};
+    memset(in, 0, sizeof in);
+    SAME(yk_prune(&expression, 0, in, 2, rows, 3, &one, &error), YK_OK);
+    CHECK(most[0] == 8 && most[2] == 10 && verdicts[0] == YK_NONE_TRUE);
+    SAME(yk_prune(&expression, 0, in, 2, NULL, 0, &(struct yk_verdicts){0}, &error), YK_OK);
+#define REFUSED(change, expected, at, of_group)                                                                                            \
+    memcpy(in, good, sizeof in);                                                                                                           \
+    memset(verdicts, 9, sizeof verdicts);                                                                                                  \
+    change;                                                                                                                                \
+    SAME(yk_prune(&expression, 0, in, 2, rows, 3, &room, &error), expected);                                                               \
+    SAME(error.status, expected);                                                                                                          \
+    SAME(error.column, at);                                                                                                                \
+    SAME(error.row, of_group);                                                                                                             \
+    CHECK(verdicts[0] == 9 && verdicts[2] == 9 && error.message_length > 0)
+    REFUSED(in[0].low.i64.at = highs; in[0].high.i64.at = lows, YK_CONTRADICTION, 0, 0);
+    REFUSED((in[0].high.i64.at = (const int64_t[]){9, 300, 89}), YK_CONTRADICTION, 0, 2);
+    REFUSED((in[1].nulls.u64.at = (const uint64_t[]){8, 10, 0}), YK_CONTRADICTION, 1, 1);
+    REFUSED(in[0].high.kind = YK_I32, YK_SCOPE_MISMATCH, 0, YK_NONE);
+    REFUSED(in[1].low = low, YK_SCOPE_MISMATCH, 1, YK_NONE);
+    REFUSED(in[1].nulls = low, YK_SCOPE_MISMATCH, 1, YK_NONE);
+    REFUSED(in[1].nulls.kind = 16, YK_UNKNOWN_KIND, 1, YK_NONE);
+    REFUSED(in[0].low.rows = 2, YK_LENGTH_MISMATCH, 0, YK_NONE);
+    REFUSED(in[0].low.i64.length = 2, YK_VALUES_TOO_SHORT, 0, YK_NONE);
+    REFUSED((in[0].low.validity = (struct yk_bytes){valid, 1}), YK_UNEXPECTED_NULL, 0, 2);
+    REFUSED(room.least.length = 2, YK_VALUES_TOO_SHORT, YK_NONE, YK_NONE);
+#undef REFUSED
+    room.least.length = 3;
+    in[0] = good[0];
+    in[0].low.validity = (struct yk_bytes){valid, 1};
+    in[0].low.nullable = true; /* the low end of the last group is not known */
+    SAME(yk_prune(&expression, 0, in, 2, rows, 3, &room, &error), YK_OK);
+    SAME(yk_prune(&expression, 3, good, 2, rows, 3, &room, &error), YK_TYPE_MISMATCH);
+    SAME(yk_prune(&expression, 4, good, 2, rows, 3, &room, &error), YK_NO_SUCH_NUMBER);
+    SAME(yk_prune(&expression, 0, good, 1, rows, 3, &room, &error), YK_SCOPE_MISMATCH);
+    SAME(error.column, 1);
+    yk_expression_free(&expression);
+    SAME(yk_prune(&expression, 0, good, 2, rows, 3, &room, &error), YK_EMPTY_HANDLE);
+    SAME(error.status, YK_EMPTY_HANDLE);
+}
+
 int main(void) {
     each_kind();
     told();
@@ -321,6 +388,7 @@ int main(void) {
     wrong_use();
     nothing();
     unread();
+    pruned();
     if (!faults)
         puts("calls: as expected");
     return faults != 0;

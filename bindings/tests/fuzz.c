@@ -10,7 +10,7 @@
 #include <string.h>
 #include <sys/mman.h>
 
-enum { most_columns = 4, most_rows = 70, slots = 40, slot_size = 4096 };
+enum { most_columns = 4, most_rows = 70, slots = 80, slot_size = 4096 };
 
 /* Memory that ends at a page of no access: a slot for each slice of a run. */
 static uint8_t *slot_end[slots];
@@ -220,11 +220,12 @@ static void again(struct yk_expression *expression, struct fuzzed *made, size_t 
     yk_answers_free(&part);
 }
 
-/* How many texts were expressions, and how many batches had answers. */
-static unsigned long asked, readable, answered;
+/* How many texts were expressions, how many batches had answers, and how often groups were pruned. */
+static unsigned long asked, readable, answered, pruned;
 
 __attribute__((destructor)) static void tell(void) {
-    fprintf(stderr, "fuzz: %lu texts, %lu of them expressions, %lu batches answered and compared\n", asked, readable, answered);
+    fprintf(stderr, "fuzz: %lu texts, %lu of them expressions, %lu batches answered and compared, groups pruned %lu times\n", asked, readable,
+        answered, pruned);
 }
 
 /* The meaning of one input: an expression over fields. */
@@ -270,6 +271,41 @@ static void run(struct given *given, struct asking *asking) {
     yk_answers_free(&answers);
 }
 
+/* Prunes groups by statistics of the input: as many buffers as are asked for are written, and none where the call is refused. */
+static void prune(struct given *given, struct asking *asking) {
+    static struct fuzzed made[3 * most_columns];
+    static const struct yk_field counts = {{"n", 1}, YK_U64, true};
+    struct yk_statistics statistics[most_columns];
+    size_t groups = below(given, 5);
+    taken = 0;
+    memset(statistics, 0, sizeof statistics);
+    for (size_t i = 0; i < asking->count; i++) {
+        struct yk_column *parts[] = {&statistics[i].low, &statistics[i].high, &statistics[i].nulls};
+        struct yk_field ends = asking->fields[i];
+        ends.nullable = true;
+        for (size_t k = 0; k < 3; k++)
+            if (next(given) % 3) {
+                make_column(&made[3 * i + k], k < 2 ? &ends : &counts, given, groups);
+                *parts[k] = made[3 * i + k].column;
+            }
+    }
+    uint64_t *rows = guarded(8 * groups);
+    size_t bytes = next(given) % 8 ? groups : 0;
+    struct yk_verdicts room = {
+        {guarded(groups), groups}, {guarded(bytes), bytes}, {guarded(8 * groups), groups}, {guarded(8 * groups), groups}};
+    for (size_t g = 0; g < groups; g++) {
+        rows[g] = below(given, 60);
+        room.verdicts.at[g] = 9;
+    }
+    uint32_t status = yk_prune(&asking->expression, 0, statistics, asking->count, rows, groups, &room, &asking->error);
+    if (status != asking->error.status)
+        abort();
+    pruned += status == YK_OK;
+    for (size_t g = 0; g < groups; g++)
+        if (status ? room.verdicts.at[g] != 9 : room.verdicts.at[g] > 2 || room.least.at[g] > room.most.at[g] || room.most.at[g] > rows[g])
+            abort();
+}
+
 int LLVMFuzzerTestOneInput(const uint8_t *bytes, size_t size) {
     struct given given = {bytes, size};
     struct asking asking = {.count = 0};
@@ -282,6 +318,8 @@ int LLVMFuzzerTestOneInput(const uint8_t *bytes, size_t size) {
     readable += status == YK_OK;
     if (!status)
         run(&given, &asking);
+    if (!status)
+        prune(&given, &asking);
     if (asking.error.message_length >= sizeof asking.message)
         abort();
     yk_expression_free(&asking.expression);

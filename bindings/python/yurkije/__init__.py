@@ -17,6 +17,7 @@ from ._answers import Answer, Answers
 from ._errors import ArithmeticRefusal, ColumnError, Error, ExpressionError, OutOfMemory
 from ._expression import Expression, Stream, evaluate, mask, select
 from ._library import version
+from ._pruning import Verdicts
 
 __version__ = version().split()[-1]
 __all__ = [
@@ -29,6 +30,7 @@ __all__ = [
     "ExpressionError",
     "OutOfMemory",
     "Stream",
+    "Verdicts",
     "evaluate",
     "mask",
     "select",

@@ -15,6 +15,7 @@ from ._answers import Answer, Answers, Held
 from ._columns import Borrowed, borrow, column_of, fields_of, name_of, type_of, type_said
 from ._errors import Error, ExpressionError, Told, error_of
 from ._library import NAMES, Column, Handle, Type, lib, text_of
+from ._pruning import Verdicts, verdicts_of
 
 # A token of an expression that can name a column, or hide one: a text, a comment, `::`, a word, with a bracket if it is a function's, a
 # name in quotes. A comment ends at a line feed or a carriage return, or where its brackets close, which nest.
@@ -348,6 +349,21 @@ class Expression:
         status = lib.yk_arrow_mask(self._handle(), answer, _raws(borrowed), len(borrowed), count, mask.ctypes.data, told.raw)
         told.check(status, self._names())
         return mask
+
+    def prune(self, low: Any = (), high: Any = (), nulls: Any = (), rows: Any = (), answer: int = 0) -> Verdicts:
+        """Returns what is known of an answer, a truth value, in each group of rows, without a row.
+
+        `low`, `high` and `nulls` are mappings of columns by field, or frames, with an item a group: ends between which
+        the rows of the field lie that are not null, and how many are null. A field that one does not have, and an item
+        that is null, say nothing. `rows` are the counts of rows. What is said has to be so; the verdicts are of all
+        columns of which it is. Raises errors, with the field as `column` and the group as `row`.
+
+        >>> wanted = Expression("price > 100", {"price": "i64"})
+        >>> wanted.prune(low={"price": [0, 101]}, high={"price": [9, 300]}, rows=[8, 9]).skip
+        array([ True, False])
+        """
+        self._check_truth(answer)
+        return verdicts_of(self._handle(), answer, self._read, (low, high, nulls), rows)
 
     def __reduce__(self) -> Any:
         """Pickles as its text, and is read again where it is unpickled."""

@@ -52,6 +52,7 @@ STATUSES: dict[int, str] = {
     129: "NotPadded",
     130: "NotUtf8",
     131: "TooLong",
+    132: "Contradiction",
     140: "UntakenFormat",
     141: "MalformedArray",
     142: "StreamFailed",
@@ -141,6 +142,18 @@ class Column(c.Structure):
     ]
 
 
+class Statistics(c.Structure):
+    """yk_statistics."""
+
+    _fields_ = [("low", Column), ("high", Column), ("nulls", Column)]
+
+
+class Rooms(c.Structure):
+    """yk_verdicts."""
+
+    _fields_ = [("verdicts", Slice), ("may_fault", Slice), ("least", Slice), ("most", Slice)]
+
+
 _HANDLE, _ERROR, _SIZE = c.POINTER(Handle), c.POINTER(RawError), c.POINTER(c.c_size_t)
 _SCHEMA, _ARRAY, _STREAM = c.POINTER(ArrowSchema), c.POINTER(ArrowArray), c.POINTER(ArrowArrayStream)
 _CALLS: dict[str, list[Any]] = {
@@ -156,6 +169,7 @@ _CALLS: dict[str, list[Any]] = {
     "yk_answer_name": [_HANDLE, c.c_size_t, c.c_void_p, c.c_size_t, _SIZE],
     "yk_answer_type": [_HANDLE, c.c_size_t, c.POINTER(Type)],
     "yk_answer_text": [_HANDLE, c.c_size_t, c.c_bool, c.c_void_p, c.c_size_t, _SIZE],
+    "yk_prune": [_HANDLE, c.c_size_t, c.POINTER(Statistics), c.c_size_t, c.c_void_p, c.c_size_t, c.POINTER(Rooms), _ERROR],
     "yk_arrow_buffer_count": [_SCHEMA, _ARRAY],
     "yk_arrow_field": [_SCHEMA, c.POINTER(Field), _ERROR],
     "yk_arrow_column": [_SCHEMA, _ARRAY, c.POINTER(Slice), c.POINTER(Column), _ERROR],

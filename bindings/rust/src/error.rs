@@ -79,6 +79,7 @@ statuses! {
     NotPadded = 129, "a text within its view is not followed by zeros";
     NotUtf8 = 130, "a text is not UTF-8";
     TooLong = 131, "texts are too long";
+    Contradiction = 132, "statistics contradict themselves";
 }
 
 impl Status {
@@ -106,7 +107,7 @@ pub enum Error {
     OutOfMemory,
     /// A text is no expression over its fields.
     Expression { status: Status, place: Place, message: String },
-    /// A field or a column, by its number, is wrong, in that row if one row is wrong.
+    /// A field or a column, or its statistics, by its number, is wrong, in that row if one row is wrong, or in that group.
     Column { status: Status, column: Option<usize>, row: Option<usize>, message: String },
     /// In that row an answer faults (E7): the first row in which one does, and the first answer
     /// that does there.
@@ -222,6 +223,7 @@ pub(crate) fn told(call: impl FnOnce(&mut Told<'_>) -> u32) -> Result<(), Error>
     Err(match (Status::of(number), row) {
         (None, _) => Error::Unknown { number, message },
         (Some(Status::OutOfMemory), _) => Error::OutOfMemory,
+        (Some(status @ Status::NoSuchNumber), _) => Error::Use { status },
         (Some(status), _) if place.byte.is_some() || place.line > 0 => Error::Expression { status, place, message },
         (Some(status @ Status::Arithmetic), Some(row)) => Error::Fault { status, answer, row, message },
         (Some(status), row) => Error::Column { status, column, row, message },

@@ -49,7 +49,7 @@ impl Expression {
         Ok(expression)
     }
 
-    fn handle(&self) -> *const Handle {
+    pub(crate) fn handle(&self) -> *const Handle {
         &self.raw
     }
 

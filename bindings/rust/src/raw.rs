@@ -119,6 +119,21 @@ pub struct Column<'a> {
 }
 
 #[repr(C)]
+pub struct Statistics<'a> {
+    pub low: Column<'a>,
+    pub high: Column<'a>,
+    pub nulls: Column<'a>,
+}
+
+#[repr(C)]
+pub struct Verdicts<'a> {
+    pub verdicts: Room<'a, u8>,
+    pub may_fault: Room<'a, u8>,
+    pub least: Room<'a, u64>,
+    pub most: Room<'a, u64>,
+}
+
+#[repr(C)]
 #[derive(Default)]
 pub struct Size {
     pub rows: usize,
@@ -180,6 +195,16 @@ extern "C" {
         count: usize,
         rows: usize,
         answers: *mut Handle,
+        error: &mut Told<'_>,
+    ) -> u32;
+    pub fn yk_prune(
+        expression: *const Handle,
+        answer: usize,
+        statistics: *const Statistics<'_>,
+        count: usize,
+        rows: *const u64,
+        groups: usize,
+        verdicts: &mut Verdicts<'_>,
         error: &mut Told<'_>,
     ) -> u32;
     pub fn yk_answers_free(answers: *mut Handle);

@@ -1,5 +1,5 @@
 //! The crate from a caller's side. Expected values are by hand.
-use yurkije::{Buffers, Column, ColumnBuf, Error, Expression, Field, Kind, Status, Type, STATUSES};
+use yurkije::{Buffers, Column, ColumnBuf, Error, Expression, Field, Kind, Statistics, Status, Type, Verdict, STATUSES};
 
 fn prices() -> Vec<i64> {
     vec![3, 12, 40]
@@ -155,6 +155,35 @@ fn a_fault_tells_its_first_row() -> Result<(), Error> {
         Error::Fault { status, answer, row, .. } => assert_eq!((status, answer, row), (Status::Arithmetic, Some(1), 1)),
         other => panic!("{:?}", other),
     }
+    Ok(())
+}
+
+#[test]
+fn groups_are_pruned_by_their_statistics() -> Result<(), Error> {
+    let expression = Expression::new("price > 100 and stock is not null, price > 999 and 100 / price > 1, price", &goods()[..2])?;
+    let (low, high) = ([0i64, 101, 90], [9i64, 300, 110]);
+    let nulls = ColumnBuf::integers([Some(0u64), Some(0), None]);
+    let price = Statistics { low: Some(Column::integers(&low)), high: Some(Column::integers(&high)), nulls: None };
+    let stock = Statistics { nulls: Some(nulls.column()), ..Default::default() };
+    let rows = [8u64, 9, 10];
+    let pruned = expression.prune(0, &[price, stock], &rows)?;
+    let told: Vec<_> = pruned.iter().map(|one| (one.verdict, one.trues, one.skip(), one.whole())).collect();
+    let expected = [
+        (Verdict::NoneTrue, (0, 0), true, false),
+        (Verdict::AllTrue, (9, 9), false, true),
+        (Verdict::Unknown, (0, 10), false, false),
+    ];
+    assert_eq!(told, expected);
+    let faults = expression.prune(1, &[price, stock], &rows)?;
+    assert!(faults.iter().all(|one| one.verdict == Verdict::NoneTrue));
+    assert_eq!(faults.iter().map(|one| one.skip()).collect::<Vec<_>>(), [false, true, true]);
+    let high = [9i64, 100, 110];
+    let turned = Statistics { high: Some(Column::integers(&high)), ..price };
+    let error = expression.prune(0, &[turned, stock], &rows).unwrap_err();
+    assert_eq!((error.number(), error.name(), error.column(), error.row()), (132, "Contradiction", Some(0), Some(1)));
+    assert_eq!(expression.prune(2, &[price, stock], &rows).unwrap_err().number(), 3);
+    assert_eq!(expression.prune(3, &[price, stock], &rows).unwrap_err(), Error::Use { status: Status::NoSuchNumber });
+    assert_eq!(expression.prune(0, &[stock, stock], &rows[..2]).unwrap_err().number(), 2);
     Ok(())
 }
 

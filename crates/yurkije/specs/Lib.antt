@@ -4,3 +4,4 @@ pub mod Owned
 pub mod Asking
 pub mod Reading
 pub mod Answering
+pub mod Pruning
