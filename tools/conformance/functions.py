@@ -172,7 +172,7 @@ def sign_in_sqlite(node, operand):
 
 NUMBERS = [
     Form("mod", "N N", "N", (Spelling(PRODUCT, "%10 % %11", True), call("mod", True)), typed(infix("%")), infix("%"),
-         {ZERO: "integer division by zero in %"}, weight=4),
+         {ZERO: "division by zero"}, weight=4),
     Form("minus", "N", "N", (Spelling(SIGN, "- %sign", True),), typed(lambda node, operand: f"(- {operand})"),
          lambda node, operand: f"(0 - {operand})", {OVERFLOW: "Arithmetic.Sub"}, weight=3),
     Form("abs", "N", "N", calls("abs", same=True), typed(applied("abs")), lambda node, a: f"(CASE WHEN {a} < 0 THEN 0 - {a} ELSE {a} END)",

@@ -14,7 +14,7 @@ use Rattle.vortex_sql_rows.specs.declared.types.Takes.TheVariants.{Alike}
 use Rattle.vortex_sql_rows.specs.Integers.{checked}
 use Rattle.vortex_sql_rows.specs.Row.{Row, LawfulRow}
 use Rattle.vortex_sql_rows.specs.Shapes.{strict_row, two_ints, two_ints_lawful, with_both, both_fit}
-use Rattle.vortex_sql_floats.specs.declared.faults.FloatFault.{FloatFault}
+use Rattle.vortex_sql_rows.specs.declared.faults.RowFault.{RowFault}
 use Rattle.vortex_sql_floats.specs.declared.floats.FloatOperator.{FloatOperator}
 use Rattle.vortex_sql_floats.specs.declared.floats.FloatOperator.TheVariants.{Add, Subtract}
 use Rattle.vortex_sql_floats.specs.declared.floats.FloatOperator.TheVariants.{Multiply, Divide}
@@ -55,7 +55,7 @@ applied_fits Subtract x y = sub-fits binary64 x y
 applied_fits Multiply x y = mul-fits binary64 x y
 applied_fits Divide x y = div-fits binary64 x y
 
-unless_fits : (f : Option FloatFault) (x : Float) → T (fits binary64 x)
+unless_fits : (f : Option RowFault) (x : Float) → T (fits binary64 x)
     → GivesType (integer_type I64 false) (gives_unless f x)
 unless_fits (Some f) x h = tt
 unless_fits None x h = float_fits x h

@@ -5,8 +5,8 @@ use Rattle.std.specs.Prelude.{Bool, false, not, ◌&&◌, ◌||◌, Option, Some
 use Rattle.std.specs.Prelude.{if◌then◌else◌}
 use Rattle.std.specs.Float.{Float, binary64, float_zero, float_is_infinite}
 use lib.Ieee.{add, sub, mul, div, eq}
-use Rattle.vortex_sql_floats.specs.declared.faults.FloatFault.{FloatFault}
-use Rattle.vortex_sql_floats.specs.declared.faults.FloatFault.TheVariants as fault
+use Rattle.vortex_sql_rows.specs.declared.faults.RowFault.{RowFault}
+use Rattle.vortex_sql_rows.specs.declared.faults.RowFault.TheVariants as fault
 use Rattle.vortex_sql_floats.specs.declared.floats.FloatOperator.{FloatOperator}
 use Rattle.vortex_sql_floats.specs.declared.floats.FloatOperator.TheVariants.{Add, Subtract}
 use Rattle.vortex_sql_floats.specs.declared.floats.FloatOperator.TheVariants.{Multiply, Divide}
@@ -38,9 +38,9 @@ underflows Multiply x y = is_zero (applied Multiply x y) && not (is_zero x || is
 underflows Divide x y = is_zero (applied Divide x y) && not (is_zero x || float_is_infinite y)
 underflows op x y = false
 
-abbrev pub fault_by : FloatOperator → Float → Float → Option FloatFault
+abbrev pub fault_by : FloatOperator → Float → Float → Option RowFault
 fault_by op x y =
     if divides_by_zero op x y then Some fault.ZeroDivisor
-    else if overflows op x y then Some fault.Overflow
-    else if underflows op x y then Some fault.Underflow
+    else if overflows op x y then Some fault.FloatOverflow
+    else if underflows op x y then Some fault.FloatUnderflow
     else None

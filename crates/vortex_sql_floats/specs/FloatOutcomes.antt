@@ -3,18 +3,17 @@
 use Rattle.std.specs.Prelude.{Option, Some, None}
 use Rattle.std.specs.Float.{Float, binary64}
 use Rattle.vortex_types.specs.Values.{number}
-use Rattle.vortex_interface.specs.Outcomes.{Outcome, gives, faults, custom}
+use Rattle.vortex_interface.specs.Outcomes.{Outcome, gives}
 use Rattle.vortex_logical.specs.FloatKeys.{key_of_float}
 use Rattle.vortex_sql_rows.specs.declared.faults.RowFault.TheVariants.{OtherValues}
 use Rattle.vortex_sql_rows.specs.Faults.{faults_by}
-use Rattle.vortex_sql_floats.specs.declared.faults.FloatFault.{FloatFault}
-use Rattle.vortex_sql_floats.specs.FloatFaults.{float_fault_number}
+use Rattle.vortex_sql_rows.specs.declared.faults.RowFault.{RowFault}
 
 abbrev pub gives_float : Float → Outcome
 gives_float x = gives (number (key_of_float binary64 x))
 
-abbrev pub gives_unless : Option FloatFault → Float → Outcome
-gives_unless (Some f) x = faults (custom (float_fault_number f))
+abbrev pub gives_unless : Option RowFault → Float → Outcome
+gives_unless (Some f) x = faults_by f
 gives_unless None x = gives_float x
 
 -- no call passes a number that is none

@@ -2,7 +2,6 @@ pub mod ArithmeticRows
 pub mod Conversions
 pub mod Decimals
 pub mod FloatArithmetic
-pub mod FloatFaults
 pub mod FloatFits
 pub mod FloatOutcomes
 pub mod KeyRanges

@@ -3,7 +3,7 @@ ghost use Rattle.std.specs.Prelude.{◌≡◌};
 ghost use Rattle.vortex_sql_floats.specs.FloatArithmetic.{applied, fault_by, is_zero};
 ghost use Rattle.vortex_sql_floats.specs.FloatArithmetic.{divides_by_zero, overflows, underflows};
 
-use crate::faults::FloatFault;
+use vortex_sql_rows::faults::RowFault;
 
 /// `a + b`, `a - b`, `a * b` or `a / b`
 #[derive(Clone, Copy, Debug, PartialEq, Eq)]
@@ -65,17 +65,17 @@ fn underflows(operator: FloatOperator, x: f64, y: f64) -> bool
 }
 
 /// Why the operator has no result for two floats, if it has none.
-pub fn fault_by(operator: FloatOperator, x: f64, y: f64) -> Option<FloatFault>
+pub fn fault_by(operator: FloatOperator, x: f64, y: f64) -> Option<RowFault>
     ensures { result ≡ fault_by operator x y }
 {
     if divides_by_zero(operator, x, y) {
-        return Some(FloatFault::ZeroDivisor);
+        return Some(RowFault::ZeroDivisor);
     }
     if overflows(operator, x, y) {
-        return Some(FloatFault::Overflow);
+        return Some(RowFault::FloatOverflow);
     }
     if underflows(operator, x, y) {
-        return Some(FloatFault::Underflow);
+        return Some(RowFault::FloatUnderflow);
     }
     None
 }

@@ -9,7 +9,6 @@ ghost use Rattle.vortex_sql_rows.specs.declared.faults.RowFault.TheVariants.{Oth
 ghost use Rattle.vortex_types.specs.declared.dtype.PType.TheVariants.{I32, I64};
 ghost use Rattle.vortex_sql_floats.specs.FloatOutcomes.{gives_float, gives_unless};
 
-use crate::faults::FloatFault;
 use vortex_columns::{Cell, PType, VortexError, VortexResult};
 use vortex_logical::keys::key_of_f64;
 use vortex_sql_rows::faults::RowFault;
@@ -45,7 +44,7 @@ pub(crate) fn float_cell<'a>(float: f64) -> VortexResult<Cell<'a>>
 }
 
 /// The integer of a float, or the fault.
-pub(crate) fn float_or_fault<'a>(fault: Option<FloatFault>, float: f64) -> VortexResult<Cell<'a>>
+pub(crate) fn float_or_fault<'a>(fault: Option<RowFault>, float: f64) -> VortexResult<Cell<'a>>
     ensures { AnswersRow (gives_unless fault float) result }
 {
     match fault {

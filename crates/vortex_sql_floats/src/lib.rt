@@ -4,7 +4,6 @@
 pub mod arithmetic;
 pub mod conversions;
 pub mod decimals;
-pub mod faults;
 pub mod floats;
 pub mod integers;
 pub mod keys;

@@ -25,6 +25,8 @@ fault_number (fault.OutOfRange U8) = 15
 fault_number (fault.OutOfRange U16) = 16
 fault_number (fault.OutOfRange U32) = 17
 fault_number (fault.OutOfRange U64) = 18
+fault_number fault.FloatOverflow = 19
+fault_number fault.FloatUnderflow = 20
 fault_number (fault.NoInteger I8) = 21
 fault_number (fault.NoInteger I16) = 22
 fault_number (fault.NoInteger I32) = 23
@@ -55,6 +57,8 @@ fault_of n =
     else if nat_eq n 16 then Some (fault.OutOfRange U16)
     else if nat_eq n 17 then Some (fault.OutOfRange U32)
     else if nat_eq n 18 then Some (fault.OutOfRange U64)
+    else if nat_eq n 19 then Some fault.FloatOverflow
+    else if nat_eq n 20 then Some fault.FloatUnderflow
     else if nat_eq n 21 then Some (fault.NoInteger I8)
     else if nat_eq n 22 then Some (fault.NoInteger I16)
     else if nat_eq n 23 then Some (fault.NoInteger I32)
@@ -66,7 +70,7 @@ fault_of n =
     else None
 
 abbrev pub fault_text : RowFault → List ℕ
-fault_text fault.ZeroDivisor = codes "integer division by zero in %"
+fault_text fault.ZeroDivisor = codes "division by zero"
 fault_text fault.AbsOverflow = codes "integer overflow in abs"
 fault_text fault.NegativeLength = codes "negative length in substr"
 fault_text fault.TextTooLong = codes "text of more than 4294967295 bytes"
@@ -76,6 +80,8 @@ fault_text fault.NoTruth = codes "text that is no truth value in cast to bool"
 fault_text fault.OtherValues = codes "values of other types than the function takes"
 fault_text fault.FieldZero = codes "field 0 in split_part, where the first field is 1"
 fault_text fault.NoPattern = codes "text that is no regular expression"
+fault_text fault.FloatOverflow = codes "value out of range: overflow"
+fault_text fault.FloatUnderflow = codes "value out of range: underflow"
 fault_text (fault.OutOfRange I8) = codes "integer out of range in cast to i8"
 fault_text (fault.OutOfRange I16) = codes "integer out of range in cast to i16"
 fault_text (fault.OutOfRange I32) = codes "integer out of range in cast to i32"

@@ -8,7 +8,7 @@ use vortex_columns::PType;
 /// Why a row of a function faults.
 #[derive(Clone, Copy, Debug, PartialEq, Eq)]
 pub enum RowFault {
-    /// The divisor of `%` is zero.
+    /// The divisor of `%`, or of a quotient of floats, is zero.
     ZeroDivisor,
     /// The type of an integer has no absolute value of it.
     AbsOverflow,
@@ -28,6 +28,10 @@ pub enum RowFault {
     FieldZero,
     /// A text is no regular expression.
     NoPattern,
+    /// The result of a function on finite floats is infinite.
+    FloatOverflow,
+    /// The result of a function on floats that are not zero is zero.
+    FloatUnderflow,
     /// The type of a cast does not have the integer.
     OutOfRange(PType),
     /// A text in a cast is no number of the type.
@@ -112,6 +116,8 @@ impl RowFault {
             RowFault::OtherValues => 8,
             RowFault::FieldZero => 9,
             RowFault::NoPattern => 10,
+            RowFault::FloatOverflow => 19,
+            RowFault::FloatUnderflow => 20,
             RowFault::OutOfRange(ptype) => range_number(ptype),
             RowFault::NoInteger(ptype) => cast_number(ptype),
         }
@@ -140,6 +146,8 @@ impl RowFault {
             16 => Some(RowFault::OutOfRange(PType::U16)),
             17 => Some(RowFault::OutOfRange(PType::U32)),
             18 => Some(RowFault::OutOfRange(PType::U64)),
+            19 => Some(RowFault::FloatOverflow),
+            20 => Some(RowFault::FloatUnderflow),
             21 => Some(RowFault::NoInteger(PType::I8)),
             22 => Some(RowFault::NoInteger(PType::I16)),
             23 => Some(RowFault::NoInteger(PType::I32)),
@@ -157,7 +165,7 @@ impl RowFault {
         ensures { result.now ≡ fault_text self }
     {
         match self {
-            RowFault::ZeroDivisor => "integer division by zero in %",
+            RowFault::ZeroDivisor => "division by zero",
             RowFault::AbsOverflow => "integer overflow in abs",
             RowFault::NegativeLength => "negative length in substr",
             RowFault::TextTooLong => "text of more than 4294967295 bytes",
@@ -169,6 +177,8 @@ impl RowFault {
             RowFault::OtherValues => "values of other types than the function takes",
             RowFault::FieldZero => "field 0 in split_part, where the first field is 1",
             RowFault::NoPattern => "text that is no regular expression",
+            RowFault::FloatOverflow => "value out of range: overflow",
+            RowFault::FloatUnderflow => "value out of range: underflow",
             RowFault::OutOfRange(ptype) => range_text(ptype),
             RowFault::NoInteger(ptype) => cast_text(ptype),
         }
@@ -190,6 +200,8 @@ pub fn numbers_tell_faults(fault: RowFault)
         RowFault::OtherValues => {}
         RowFault::FieldZero => {}
         RowFault::NoPattern => {}
+        RowFault::FloatOverflow => {}
+        RowFault::FloatUnderflow => {}
         RowFault::OutOfRange(PType::I8) => {}
         RowFault::OutOfRange(PType::I16) => {}
         RowFault::OutOfRange(PType::I32) => {}
