@@ -8,10 +8,13 @@ use Rattle.vortex_syntax.specs.Syntax.{no_arguments, argument, Branches, without
 use Rattle.vortex_syntax.specs.Syntax.{of_operand, branch, plus, bit_not, null_tested, converted}
 use Rattle.vortex_syntax.specs.declared.step.Test.TheVariants as test
 use Rattle.vortex_syntax.specs.Grammar.{Reads}
+use Rattle.vortex_logical.specs.declared.kind.Kind.{Kind}
+use Rattle.vortex_logical.specs.declared.kind.Kind.TheVariants.{Plain}
+use Rattle.vortex_expressions.specs.declared.item.LogicalTree as held
 use Rattle.vortex_expressions.specs.declared.refusal.Refusal.{Refusal}
 use Rattle.vortex_expressions.specs.Outcomes.{Outcome, answers, refuses, and_then}
-use Rattle.vortex_expressions.specs.Items.{Item, Tree, settled}
-use Rattle.vortex_expressions.specs.Calls.{operand_item, negative_item, typed_item, cast_item}
+use Rattle.vortex_expressions.specs.Items.{Item, kinded, Tree, settled}
+use Rattle.vortex_expressions.specs.Calls.{operand_by, column_of, column_in, negative_item, typed_item, cast_item}
 use Rattle.vortex_expressions.specs.Calls.{not_item, joined_item, tested_item, distinct_item}
 use Rattle.vortex_expressions.specs.Calls.{between_item, minus_item, listed_item, chosen_item}
 use Rattle.vortex_syntax.specs.Postfix.{has_operand, test_of}
@@ -26,52 +29,64 @@ with_item o p = and_then o (λ is. and_then p (λ i. answers (i ∷ is)))
 abbrev pub of_items : (List Item → Outcome Item) → Outcome (List Item) → Outcome Item
 of_items f o = and_then o (λ is. f (reverse is))
 
-module _ (scope : Fields) where
-  -- the meaning of a syntax tree, from left to right; literals have no types yet
+module _ (columns : List ℕ → Outcome Item) where
+  -- the meaning of a syntax tree, from left to right, by what names of columns mean; literals have
+  -- no types yet
   abbrev mutual
-    pub item_of : Syntax → Outcome Item
-    item_of (operand t) = operand_item scope t
-    item_of (negative ds) = negative_item ds
-    item_of (minus a) = and_then (item_of a) minus_item
-    item_of (plus a) = and_then (item_of a) plus_item
-    item_of (bit_not a) = and_then (item_of a) bit_not_item
-    item_of (typed a w n) = and_then (item_of a) (typed_item w n)
-    item_of (grouped a) = item_of a
-    item_of (negated a) = and_then (item_of a) not_item
-    item_of (joined o a b) = and_then (item_of a) (λ x. and_then (item_of b) (joined_item o x))
-    item_of (tested k n a) = and_then (item_of a) (tested_item (test_of k) n)
-    item_of (null_tested n a) = and_then (item_of a) (tested_item test.Null n)
-    item_of (distinct n a b) =
-        and_then (item_of a) (λ x. and_then (item_of b) (distinct_item n x))
-    item_of (between k a low high) =
-        and_then (item_of a) (λ x. and_then (item_of low) (λ y. and_then (item_of high)
+    pub item_by : Syntax → Outcome Item
+    item_by (operand t) = operand_by columns t
+    item_by (negative ds) = negative_item ds
+    item_by (minus a) = and_then (item_by a) minus_item
+    item_by (plus a) = and_then (item_by a) plus_item
+    item_by (bit_not a) = and_then (item_by a) bit_not_item
+    item_by (typed a w n) = and_then (item_by a) (typed_item w n)
+    item_by (grouped a) = item_by a
+    item_by (negated a) = and_then (item_by a) not_item
+    item_by (joined o a b) = and_then (item_by a) (λ x. and_then (item_by b) (joined_item o x))
+    item_by (tested k n a) = and_then (item_by a) (tested_item (test_of k) n)
+    item_by (null_tested n a) = and_then (item_by a) (tested_item test.Null n)
+    item_by (distinct n a b) =
+        and_then (item_by a) (λ x. and_then (item_by b) (distinct_item n x))
+    item_by (between k a low high) =
+        and_then (item_by a) (λ x. and_then (item_by low) (λ y. and_then (item_by high)
         (between_item k x y)))
-    item_of (matched k a p e) =
-        and_then (item_of a) (λ x. and_then (item_of p) (matched_item k e x))
-    item_of (cast p a w n) = and_then (item_of a) (cast_item p w n)
-    item_of (converted a w n) = and_then (item_of a) (cast_item false w n)
-    item_of (listed n a args b) =
+    item_by (matched k a p e) =
+        and_then (item_by a) (λ x. and_then (item_by p) (matched_item k e x))
+    item_by (cast p a w n) = and_then (item_by a) (cast_item p w n)
+    item_by (converted a w n) = and_then (item_by a) (cast_item false w n)
+    item_by (listed n a args b) =
         of_items (listed_item n)
-        (with_item (items_after (with_item (answers []) (item_of a)) args) (item_of b))
-    item_of (chosen bs c v) =
+        (with_item (items_by (with_item (answers []) (item_by a)) args) (item_by b))
+    item_by (chosen bs c v) =
         of_items (chosen_item (has_operand bs))
-        (with_item (with_item (branch_items bs) (item_of c)) (item_of v))
-    item_of (chosen_else bs c v e) =
+        (with_item (with_item (branches_by bs) (item_by c)) (item_by v))
+    item_by (chosen_else bs c v e) =
         of_items (chosen_item (has_operand bs))
-        (with_item (with_item (with_item (branch_items bs) (item_of c)) (item_of v)) (item_of e))
-    item_of (nullary p w) = applied_item w []
-    item_of (applied p w args a) =
-        of_items (applied_item w) (with_item (items_after (answers []) args) (item_of a))
+        (with_item (with_item (with_item (branches_by bs) (item_by c)) (item_by v)) (item_by e))
+    item_by (nullary p w) = applied_item w []
+    item_by (applied p w args a) =
+        of_items (applied_item w) (with_item (items_by (answers []) args) (item_by a))
 
     -- items after these; the last is first
-    pub items_after : Outcome (List Item) → Arguments → Outcome (List Item)
-    items_after o no_arguments = o
-    items_after o (argument args a) = with_item (items_after o args) (item_of a)
+    pub items_by : Outcome (List Item) → Arguments → Outcome (List Item)
+    items_by o no_arguments = o
+    items_by o (argument args a) = with_item (items_by o args) (item_by a)
 
-    pub branch_items : Branches → Outcome (List Item)
-    branch_items without_operand = answers []
-    branch_items (of_operand a) = with_item (answers []) (item_of a)
-    branch_items (branch bs c v) = with_item (with_item (branch_items bs) (item_of c)) (item_of v)
+    pub branches_by : Branches → Outcome (List Item)
+    branches_by without_operand = answers []
+    branches_by (of_operand a) = with_item (answers []) (item_by a)
+    branches_by (branch bs c v) = with_item (with_item (branches_by bs) (item_by c)) (item_by v)
+
+module _ (scope : Fields) where
+  -- over columns without kinds
+  abbrev pub item_of : Syntax → Outcome Item
+  item_of = item_by (column_of scope)
+
+  abbrev pub items_after : Outcome (List Item) → Arguments → Outcome (List Item)
+  items_after = items_by (column_of scope)
+
+  abbrev pub branch_items : Branches → Outcome (List Item)
+  branch_items = branches_by (column_of scope)
 
   abbrev pub items_of : Arguments → Outcome (List Item)
   items_of args = items_after (answers []) args
@@ -91,3 +106,33 @@ module _ (scope : Fields) where
     pub syntax : Syntax
     pub read : Reads text syntax
     pub refused : tree_of syntax ≡ refuses r
+
+-- a tree, and the kind of its values
+pub record LogicalTree : Type 0 where
+  pub tree : Tree
+  pub kind : Kind
+
+abbrev pub logical_in : held.LogicalTree → LogicalTree
+logical_in t = record { tree = t.tree; kind = t.kind }
+
+-- an expression that is only a literal has its default type
+abbrev pub ended : Item → Outcome LogicalTree
+ended (kinded k t) = answers (record { tree = t; kind = k })
+ended i = and_then (settled None i) (λ t. answers (record { tree = t; kind = Plain }))
+
+module _ (scope : Fields) (kinds : List Kind) where
+  -- over columns with kinds
+  abbrev pub logical_of : Syntax → Outcome LogicalTree
+  logical_of t = and_then (item_by (column_in scope kinds) t) ended
+
+  -- the text means the tree, whose values are of that kind
+  pub record ExpressesLogical (text : List ℕ) (t : LogicalTree) : Type 0 where
+    pub syntax : Syntax
+    pub read : Reads text syntax
+    pub bound : logical_of syntax ≡ answers t
+
+  -- the text is an expression with this error
+  pub record IsRefusedLogical (text : List ℕ) (r : Refusal) : Type 0 where
+    pub syntax : Syntax
+    pub read : Reads text syntax
+    pub refused : logical_of syntax ≡ refuses r

@@ -1,18 +1,20 @@
 -- The result of each form of syntax for its parts.
 use Rattle.std.specs.Prelude.{ℕ, List, [], ◌∷◌, Bool, true, false, Option, Some, None, ◌==◌}
-use Rattle.std.specs.Prelude.{codes, if◌then◌else◌}
+use Rattle.std.specs.Prelude.{zero, suc, ◌||◌, codes, if◌then◌else◌}
 use Rattle.std.specs.Str.{is_utf8, chars}
 use Rattle.vortex_errors.specs.declared.error.VortexError.TheVariants.{ScopeMismatch}
 use Rattle.vortex_types.specs.LogicalTypes.{LogicalType, Fields, text_type, find_field}
 use Rattle.vortex_operators.specs.declared.operators.Operator.TheVariants as operator
-use Rattle.vortex_operators.specs.declared.between.BetweenOptions.{BetweenOptions}
-use Rattle.vortex_operators.specs.declared.between.StrictComparison.TheVariants.{NonStrict}
 use Rattle.vortex_like.specs.declared.options.LikeOptions.{LikeOptions}
 use Rattle.vortex_like.specs.Tokens.{backslash}
 use Rattle.vortex_interface.specs.Shipped.{Binary, Not, NullTest, Between, Like}
 use Rattle.vortex_interface.specs.Functions.{ours}
+use Rattle.vortex_interface.specs.Eval.{tree_type}
 use Rattle.vortex_interface.specs.Trees.{leaf, place}
 use Rattle.vortex_cells.specs.Escapes.{escape_of}
+use Rattle.vortex_logical.specs.declared.kind.Kind.{Kind}
+use Rattle.vortex_logical.specs.declared.kind.Kind.TheVariants.{Plain}
+use Rattle.vortex_lowering.specs.declared.refusal.Refusal.TheVariants.{NotStored}
 use Rattle.vortex_syntax.specs.declared.step.WrittenOperator as syntax
 use Rattle.vortex_syntax.specs.declared.step.WrittenOperator.TheVariants as written
 use Rattle.vortex_syntax.specs.declared.step.BetweenKind.{BetweenKind}
@@ -29,18 +31,20 @@ use Rattle.vortex_syntax.specs.declared.token.Sign.{Sign}
 use Rattle.vortex_syntax.specs.declared.token.Sign.TheVariants as sign
 use Rattle.vortex_syntax.specs.Tokens.{Token, name, nullable, function, quoted, number, text, sign}
 use Rattle.vortex_expressions.specs.declared.refusal.Refusal.TheVariants.{NotUtf8, UnknownType}
-use Rattle.vortex_expressions.specs.declared.refusal.Refusal.TheVariants.{NoEscape, Binding}
+use Rattle.vortex_expressions.specs.declared.refusal.Refusal.TheVariants.{NoEscape, Binding, Kinds}
 use Rattle.vortex_expressions.specs.Literals as literal
 use Rattle.vortex_expressions.specs.Literals.{Literal}
 use Rattle.vortex_expressions.specs.Outcomes.{Outcome, answers, refuses, missing, and_then}
 use Rattle.vortex_expressions.specs.Outcomes.{or_refuses}
-use Rattle.vortex_expressions.specs.Items.{Item, literal, bound, Tree, Callable, called}
+use Rattle.vortex_expressions.specs.Items.{Item, literal, bound, kinded, Tree, meaning, Callable, called}
 use Rattle.vortex_expressions.specs.Items.{common_type}
 use Rattle.vortex_expressions.specs.Applied.{callable, function_call}
 use Rattle.vortex_expressions.specs.Items.{constant_at}
 pub use Rattle.vortex_expressions.specs.Items.{as_item, truth_type}
 use Rattle.vortex_expressions.specs.TypeNames.{named_type}
 pub use Rattle.vortex_expressions.specs.Casts.{cast_to}
+pub use Rattle.vortex_expressions.specs.Kinded.{is_kinded, kinded_joined, kinded_between, within_bounds}
+pub use Rattle.vortex_expressions.specs.Kinded.{stored_item, is_plain, stores}
 
 -- In quotes each quote is doubled, and the second of two is skipped: the mark is true after the
 -- first.
@@ -58,13 +62,30 @@ text_of bs = if is_utf8 bs then answers bs else refuses NotUtf8
 abbrev pub between_quotes : ℕ → List ℕ → Outcome (List ℕ)
 between_quotes q bs = text_of (unquoted q bs)
 
-abbrev pub field_found : List ℕ → Option (ℕ × LogicalType) → Outcome Item
-field_found w None = refuses (Binding ScopeMismatch)
-field_found w (Some p) = answers (bound (leaf (place p.0 w p.1)))
+-- the kind of the column at a place: those behind the list are plain
+abbrev pub kind_at : List Kind → ℕ → Kind
+kind_at [] n = Plain
+kind_at (k ∷ ks) zero = k
+kind_at (k ∷ ks) (suc n) = kind_at ks n
 
--- the column of that name
+-- a column of a kind, whose type stores the kind
+abbrev pub column_item : Kind → Tree → Outcome Item
+column_item k a =
+    if is_plain k then answers (bound a)
+    else if stores k (tree_type meaning a) then answers (kinded k a)
+    else refuses (Kinds (NotStored k))
+
+abbrev pub field_found : List Kind → List ℕ → Option (ℕ × LogicalType) → Outcome Item
+field_found ks w None = refuses (Binding ScopeMismatch)
+field_found ks w (Some p) = column_item (kind_at ks p.0) (leaf (place p.0 w p.1))
+
+-- the column of that name, with its kind
+abbrev pub column_in : Fields → List Kind → List ℕ → Outcome Item
+column_in scope ks w = field_found ks w (find_field w scope)
+
+-- among columns without kinds
 abbrev pub column_of : Fields → List ℕ → Outcome Item
-column_of scope w = field_found w (find_field w scope)
+column_of scope = column_in scope []
 
 abbrev pub sign_item : Sign → Outcome Item
 sign_item sign.True = answers (literal (literal.truth true))
@@ -75,15 +96,18 @@ sign_item s = missing
 abbrev pub text_item : List ℕ → Outcome Item
 text_item bs = answers (literal (literal.text bs))
 
--- a column, or a literal
+-- a column, by what its name means, or a literal
+abbrev pub operand_by : (List ℕ → Outcome Item) → Token → Outcome Item
+operand_by columns (name w) = and_then (text_of w) columns
+operand_by columns (nullable w) = missing
+operand_by columns (function w) = missing
+operand_by columns (quoted w) = and_then (between_quotes 34 w) columns
+operand_by columns (number ds) = and_then (text_of ds) (λ w. answers (literal (literal.number w)))
+operand_by columns (text bs) = and_then (between_quotes 39 bs) text_item
+operand_by columns (sign s) = sign_item s
+
 abbrev pub operand_item : Fields → Token → Outcome Item
-operand_item scope (name w) = and_then (text_of w) (column_of scope)
-operand_item scope (nullable w) = missing
-operand_item scope (function w) = missing
-operand_item scope (quoted w) = and_then (between_quotes 34 w) (column_of scope)
-operand_item scope (number ds) = and_then (text_of ds) (λ w. answers (literal (literal.number w)))
-operand_item scope (text bs) = and_then (between_quotes 39 bs) text_item
-operand_item scope (sign s) = sign_item s
+operand_item scope = operand_by (column_of scope)
 
 abbrev pub negative_item : List ℕ → Outcome Item
 negative_item ds = and_then (text_of (45 ∷ ds)) (λ w. answers (literal (literal.number w)))
@@ -95,6 +119,7 @@ type_of_name w n = and_then (text_of w) (λ v. or_refuses UnknownType (named_typ
 -- a literal of the type of that name
 abbrev pub typed_item : List ℕ → Bool → Item → Outcome Item
 typed_item w n (bound t) = missing
+typed_item w n (kinded k t) = missing
 typed_item w n (literal l) = as_item (and_then (type_of_name w n) (constant_at l))
 
 abbrev pub cast_item : Bool → List ℕ → Bool → Item → Outcome Item
@@ -134,16 +159,20 @@ negated_if n t = if n then called (ours Not) None (bound t ∷ []) else answers 
 abbrev pub not_item : Item → Outcome Item
 not_item a = as_item (called (ours Not) truth_type (a ∷ []))
 
+abbrev pub plain_joined : syntax.WrittenOperator → Item → Item → Outcome Item
+plain_joined o a b =
+    let is = a ∷ b ∷ [] in as_item (called (written_function o) (joined_type o is) is)
+
 abbrev pub joined_item : syntax.WrittenOperator → Item → Item → Outcome Item
 joined_item o a b =
-    let is = a ∷ b ∷ [] in as_item (called (written_function o) (joined_type o is) is)
+    if is_kinded a || is_kinded b then kinded_joined o a b else plain_joined o a b
 
 -- a test of a truth value; null is one
 abbrev pub truth_test : Standard → Bool → Item → Outcome Item
 truth_test f n a = as_item (and_then (called (callable f) truth_type (a ∷ [])) (negated_if n))
 
 abbrev pub tested_item : Test → Bool → Item → Outcome Item
-tested_item test.Null n a = as_item (called (ours (NullTest n)) None (a ∷ []))
+tested_item test.Null n a = as_item (called (ours (NullTest n)) None (stored_item a ∷ []))
 tested_item test.True n a = truth_test (standard.TruthTest IsTrue) n a
 tested_item test.False n a = truth_test (standard.TruthTest IsFalse) n a
 tested_item test.Unknown n a = truth_test (standard.TruthTest IsUnknown) n a
@@ -190,23 +219,24 @@ conditions_of h is = answers is
 abbrev pub chosen_item : Bool → List Item → Outcome Item
 chosen_item h is = and_then (conditions_of h is) (λ js. as_item (function_call standard.Case js))
 
--- both bounds are inclusive
-abbrev pub within_bounds : BetweenOptions
-within_bounds = record { lower_strict = NonStrict; upper_strict = NonStrict }
-
 abbrev pub between_all : List Item → Outcome Tree
 between_all is = called (ours (Between within_bounds)) (common_type is) is
+
+abbrev pub between_three : Item → Item → Item → Outcome Tree
+between_three a low high =
+    if is_kinded a || (is_kinded low || is_kinded high) then kinded_between a low high
+    else between_all (a ∷ low ∷ high ∷ [])
 
 -- between the bounds in either order
 abbrev pub either_between : Item → Item → Item → Outcome Tree
 either_between a low high =
-    and_then (between_all (a ∷ low ∷ high ∷ [])) (λ t.
-    and_then (between_all (a ∷ high ∷ low ∷ [])) (λ u.
+    and_then (between_three a low high) (λ t.
+    and_then (between_three a high low) (λ u.
     called (ours (Binary operator.Or)) None (bound t ∷ bound u ∷ [])))
 
 abbrev pub between_tree : Bool → Item → Item → Item → Outcome Tree
 between_tree s a low high =
-    if s then either_between a low high else between_all (a ∷ low ∷ high ∷ [])
+    if s then either_between a low high else between_three a low high
 
 abbrev pub between_item : BetweenKind → Item → Item → Item → Outcome Item
 between_item k a low high =

@@ -14,13 +14,14 @@ use Rattle.vortex_interface.specs.Trees as trees
 use Rattle.vortex_interface.specs.Trees.{constant, call, trees_of}
 use Rattle.vortex_interface.specs.Eval.{tree_type, tree_types, types_or_none}
 use Rattle.vortex_interface.specs.declared.options.EmptyOptions.{EmptyOptions}
+use Rattle.vortex_logical.specs.declared.kind.Kind.{Kind}
 use Rattle.vortex_standard.specs.Standard.{standard_meaning}
 use Rattle.vortex_standard.specs.declared.standard.Standard.{Standard}
 use Rattle.vortex_standard.specs.declared.standard.Standard.TheVariants as standard
 use Rattle.vortex_expressions.specs.declared.item.Item as held
 use Rattle.vortex_expressions.specs.declared.item.Item.TheVariants as variant
 use Rattle.vortex_expressions.specs.declared.refusal.Refusal.TheVariants.{UntypedNull, NotHeld}
-use Rattle.vortex_expressions.specs.declared.refusal.Refusal.TheVariants.{Binding}
+use Rattle.vortex_expressions.specs.declared.refusal.Refusal.TheVariants.{Binding, OfKind}
 use Rattle.vortex_expressions.specs.Literals.{Literal, literal_in, own_type, type_beside, value_at}
 use Rattle.vortex_expressions.specs.Meeting.{meeting_type, widened_to}
 use Rattle.vortex_expressions.specs.Outcomes.{Outcome, answers, refuses, missing, and_then}
@@ -40,22 +41,29 @@ meaning = standard_meaning
 abbrev pub callable : Standard → Callable
 callable f = custom f (record {})
 
+-- literal: without a type yet
+-- bound: a tree
+-- kinded: a tree of the stored integers of a kind
 pub data Item : Type 0 where
   literal : Literal → Item
   bound : Tree → Item
+  kinded : Kind → Tree → Item
 
 abbrev pub item_in : held.Item → Item
 item_in (variant.Literal l) = literal (literal_in l)
 item_in (variant.Bound t) = bound t
+item_in (variant.Kinded k t) = kinded k t
 
 -- the type of a tree, and the default type of a literal
 abbrev pub bound_type : Item → Option LogicalType
 bound_type (literal l) = None
 bound_type (bound t) = tree_type meaning t
+bound_type (kinded k t) = None
 
 abbrev pub literal_type : Item → Option LogicalType
 literal_type (literal l) = own_type l
 literal_type (bound t) = None
+literal_type (kinded k t) = None
 
 abbrev pub first_some : {A : Type 0} → List (Option A) → Option A
 first_some [] = None
@@ -112,9 +120,10 @@ meeting (Some t) (Some u) a = widened (widened_to t u) a
 meeting o p a = answers a
 
 -- where items take that type, a tree is cast to it if it is a wider integer type, and a literal
--- takes it
+-- takes it; a value of a kind has none
 abbrev pub settled : Option LogicalType → Item → Outcome Tree
 settled o (bound a) = meeting o (tree_type meaning a) a
+settled o (kinded k a) = refuses (OfKind k)
 settled o (literal l) = and_then (or_refuses UntypedNull (type_beside o l)) (constant_at l)
 
 -- all of them, from left to right

@@ -1,14 +1,15 @@
 pub mod Literals
 pub mod Outcomes
+pub mod Answering
 pub mod Meeting
 pub mod Items
 pub mod Applied
 pub mod TypeNames
 pub mod Casts
+pub mod Kinded
 pub mod Calls
 pub mod Binding
 pub mod Stacks
-pub mod Answering
 pub mod Reading
 pub mod Answers
 pub mod Writing

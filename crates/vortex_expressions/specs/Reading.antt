@@ -20,7 +20,10 @@ use Rattle.vortex_expressions.specs.declared.refusal.BindStop.{BindStop}
 use Rattle.vortex_expressions.specs.declared.refusal.BindStop.TheVariants.{Refused, Missing}
 use Rattle.vortex_expressions.specs.Outcomes.{Outcome, answers, refuses, missing}
 use Rattle.vortex_expressions.specs.Items.{Tree}
-use Rattle.vortex_expressions.specs.Stacks.{tree_left}
+use Rattle.vortex_expressions.specs.Stacks.{tree_left, logical_left}
+use Rattle.vortex_expressions.specs.Binding.{logical_in}
+use Rattle.vortex_expressions.specs.declared.item.LogicalTree as held
+use Rattle.vortex_logical.specs.declared.kind.Kind.{Kind}
 
 abbrev pub is_memory : VortexError → Bool
 is_memory OutOfMemory = true
@@ -65,6 +68,11 @@ Finds view result o = MatchResult result (λ a. o ≡ answers (view a)) (ToldBy 
 
 abbrev pub Bound : Fields → List Step → Result Tree TextError → Type 0
 Bound scope ss result = Finds (λ t. t) result (tree_left scope (map step_in ss))
+
+abbrev pub BoundLogical : Fields → List Kind → List Step → Result held.LogicalTree TextError
+    → Type 0
+BoundLogical scope kinds ss result =
+    Finds logical_in result (logical_left scope kinds (map step_in ss))
 
 -- the reason is reported, at that byte, unless memory ran out
 abbrev pub ToldAt : Reason → ℕ → TextError → Type 0

@@ -1,5 +1,5 @@
 -- Steps in postfix order, each over what the steps before it left: the last item first.
-use Rattle.std.specs.Prelude.{ℕ, List, [], ◌∷◌, true, false, None, Some, map, reverse}
+use Rattle.std.specs.Prelude.{◌≡◌, Result, MatchResult, ℕ, List, [], ◌∷◌, true, false, None, Some, map, reverse}
 use Rattle.std.specs.Prelude.{length, take, drop, nat_le, suc, ◌+◌, ◌*◌, Bool}
 use Rattle.std.specs.Prelude.{if◌then◌else◌}
 use Rattle.vortex_types.specs.LogicalTypes.{Fields}
@@ -8,13 +8,18 @@ use Rattle.vortex_syntax.specs.declared.step.Call.TheVariants as call
 use Rattle.vortex_syntax.specs.Postfix.{Step, operand, negative, typed, cast, escaped, applied}
 use Rattle.vortex_syntax.specs.Postfix.{listed, chosen, called}
 use Rattle.vortex_expressions.specs.declared.item.Item as held
+use Rattle.vortex_expressions.specs.declared.binder.Stack as stack
+use Rattle.vortex_expressions.specs.declared.binder.Stopped as stopped
+use Rattle.vortex_expressions.specs.Answering.{StopsBy}
 use Rattle.vortex_expressions.specs.Outcomes.{Outcome, answers, missing, and_then}
 use Rattle.vortex_expressions.specs.Items.{Item, item_in, Tree, settled}
-use Rattle.vortex_expressions.specs.Calls.{operand_item, negative_item, typed_item, cast_item}
+use Rattle.vortex_expressions.specs.Calls.{operand_by, column_of, column_in, negative_item, typed_item, cast_item}
 use Rattle.vortex_expressions.specs.Calls.{not_item, joined_item, tested_item, distinct_item}
 use Rattle.vortex_expressions.specs.Calls.{between_item, minus_item, listed_item, chosen_item}
 use Rattle.vortex_expressions.specs.Calls.{matched_item, plus_item, bit_not_item}
 use Rattle.vortex_expressions.specs.Applied.{applied_item}
+use Rattle.vortex_expressions.specs.Binding.{LogicalTree, ended}
+use Rattle.vortex_logical.specs.declared.kind.Kind.{Kind}
 
 abbrev pub stack_in : List held.Item → List Item
 stack_in is = reverse (map item_in is)
@@ -61,9 +66,9 @@ call_made (call.Distinct n) = with_two (distinct_item n)
 call_made (call.Between k) = with_three (between_item k)
 call_made (call.Like k) = with_two (matched_item k None)
 
-module _ (scope : Fields) where
+module _ (columns : List ℕ → Outcome Item) where
   abbrev pub stepped : Step → List Item → Outcome (List Item)
-  stepped (operand t) st = pushed st (operand_item scope t)
+  stepped (operand t) st = pushed st (operand_by columns t)
   stepped (negative ds) st = pushed st (negative_item ds)
   stepped (typed w n) st = with_one (typed_item w n) st
   stepped (cast p w n) st = with_one (cast_item p w n) st
@@ -77,11 +82,23 @@ module _ (scope : Fields) where
   run [] st = answers st
   run (s ∷ ss) st = and_then (stepped s st) (run ss)
 
--- the only tree that steps leave
-abbrev pub left : List Item → Outcome Tree
-left [] = missing
-left (i ∷ []) = settled None i
-left (i ∷ j ∷ st) = missing
+-- the only item that steps leave
+abbrev pub left_as : {A : Type 0} → (Item → Outcome A) → List Item → Outcome A
+left_as last [] = missing
+left_as last (i ∷ []) = last i
+left_as last (i ∷ j ∷ st) = missing
 
+-- what steps leave over columns without kinds
 abbrev pub tree_left : Fields → List Step → Outcome Tree
-tree_left scope ss = and_then (run scope ss []) left
+tree_left scope ss = and_then (run (column_of scope) ss []) (left_as (settled None))
+
+-- and over columns with kinds
+abbrev pub logical_left : Fields → List Kind → List Step → Outcome LogicalTree
+logical_left scope kinds ss = and_then (run (column_in scope kinds) ss []) (left_as ended)
+
+-- the stack that steps leave, or why one of them stops
+abbrev pub RunsTo : Fields → List Kind → List Step → Result stack.Stack stopped.Stopped → Type 0
+RunsTo scope kinds ss result =
+    MatchResult result
+    (λ s. run (column_in scope kinds) ss [] ≡ answers (stack_in s.items.items))
+    (λ s. StopsBy (run (column_in scope kinds) ss []) s.stop)

@@ -1,15 +1,17 @@
 //! Binding: the steps of a syntax tree, one after another, over a stack of items.
 ghost use Rattle.std.specs.Prelude.{◌≡◌, ◌<◌, [], ◌∷◌, suc, map, option_map, MatchResult};
-ghost use Rattle.std.specs.Prelude.{MatchOption};
+ghost use Rattle.std.specs.Prelude.{MatchOption, None};
 ghost use Rattle.vortex_types.specs.TypeOf.{struct_fields};
 ghost use Rattle.vortex_syntax.specs.Postfix.{step_in};
 ghost use Rattle.vortex_expressions.specs.declared.refusal.BindStop.TheVariants.{Missing};
-ghost use Rattle.vortex_expressions.specs.Items.{item_in};
-ghost use Rattle.vortex_expressions.specs.Stacks.{stack_in, call_made, stepped, tree_left, left};
+ghost use Rattle.vortex_expressions.specs.Items.{item_in, settled};
+ghost use Rattle.vortex_expressions.specs.Binding.{ended, logical_in};
+ghost use Rattle.vortex_expressions.specs.Stacks.{stack_in, call_made, stepped, tree_left, left_as};
+ghost use Rattle.vortex_expressions.specs.Stacks.{logical_left, RunsTo};
 ghost use Rattle.vortex_expressions.specs.Stacks.{with_two, last_items, with_last, case_count};
 ghost use Rattle.vortex_expressions.specs.Applied.{applied_item};
 ghost use Rattle.vortex_expressions.specs.Outcomes.{answers};
-ghost use Rattle.vortex_expressions.specs.Calls.{matched_item, listed_item, chosen_item};
+ghost use Rattle.vortex_expressions.specs.Calls.{matched_item, listed_item, chosen_item, column_in};
 ghost use Rattle.vortex_expressions.specs.Answering.{Gives, StopsBy};
 
 use crate::applied::applied_item;
@@ -20,11 +22,12 @@ use crate::calls::{
 };
 use crate::cases::chosen_item;
 use crate::casts::cast_item;
-use crate::item::Item;
+use crate::item::{Item, LogicalTree};
 use crate::refusal::BindStop;
 use std::alloc::Global;
 use vortex_columns::StructFields;
 use vortex_functions::BoundExpression;
+use vortex_logical::kind::Kind;
 use vortex_standard::Standard;
 use vortex_syntax::{Call, LikeKind, Step};
 
@@ -178,13 +181,19 @@ impl Stack {
         self.push(chosen_item(alloc, has_operand, items)?)
     }
 
-    fn step(&mut self, alloc: Global, scope: &StructFields, step: Step<'_>) -> Result<(), BindStop>
+    fn step(
+        &mut self,
+        alloc: Global,
+        scope: &StructFields,
+        kinds: &[Kind],
+        step: Step<'_>,
+    ) -> Result<(), BindStop>
         ensures { Gives (λ _. stack_in self.new.items.items) result
-            (stepped (struct_fields scope.now) (step_in step.entry)
+            (stepped (column_in (struct_fields scope.now) kinds.now) (step_in step.entry)
             (stack_in self.old.items.items)) }
     {
         match step {
-            Step::Operand(token) => self.push(operand_item(alloc, scope, token)?),
+            Step::Operand(token) => self.push(operand_item(alloc, scope, kinds, token)?),
             Step::Negative(digits) => self.push(negative_item(alloc, digits)?),
             Step::Typed(name, is_nullable) => {
                 let item = self.pop()?;
@@ -204,16 +213,53 @@ impl Stack {
         }
     }
 
-    /// The only tree that is left.
-    fn finish(mut self, alloc: Global) -> Result<BoundExpression<Standard>, BindStop>
-        ensures { Gives (λ t. t) result (left (stack_in self.items.items)) }
+    /// The only item that is left.
+    fn only(mut self) -> Result<Item, BindStop>
+        ensures { Gives item_in result (left_as answers (stack_in self.items.items)) }
     {
         let item = self.pop()?;
         if !self.items.is_empty() {
             return Err(BindStop::Missing);
         }
+        Ok(item)
+    }
+
+    /// The only tree that is left.
+    fn finish(self, alloc: Global) -> Result<BoundExpression<Standard>, BindStop>
+        ensures { Gives (λ t. t) result
+            (left_as (settled None) (stack_in self.items.items)) }
+    {
+        let item = self.only()?;
         item.settle(alloc, None)
     }
+
+    /// The only tree that is left, and the kind of its values.
+    fn finish_logical(self, alloc: Global) -> Result<LogicalTree, BindStop>
+        ensures { Gives logical_in result (left_as ended (stack_in self.items.items)) }
+    {
+        let item = self.only()?;
+        item.end(alloc)
+    }
+}
+
+/// The stack that the steps leave over the columns of a scope, with their kinds.
+fn run(
+    alloc: Global,
+    scope: &StructFields,
+    kinds: &[Kind],
+    steps: &[Step<'_>],
+) -> Result<Stack, Stopped>
+    ensures { RunsTo (struct_fields scope.now) kinds.now (map step_in steps.now) result }
+{
+    let mut stack = Stack {
+        items: Vec::new(alloc),
+    };
+    for (number, step) in steps.iter().enumerate() {
+        if let Err(stop) = stack.step(alloc, scope, kinds, *step) {
+            return Err(Stopped { step: number, stop });
+        }
+    }
+    Ok(stack)
 }
 
 /// The tree that the steps leave over the columns of a scope.
@@ -226,15 +272,31 @@ pub(crate) fn bind(
         (λ t. tree_left (struct_fields scope.now) (map step_in steps.now) ≡ answers t)
         (λ s. StopsBy (tree_left (struct_fields scope.now) (map step_in steps.now)) s.stop) }
 {
-    let mut stack = Stack {
-        items: Vec::new(alloc),
-    };
-    for (number, step) in steps.iter().enumerate() {
-        if let Err(stop) = stack.step(alloc, scope, *step) {
-            return Err(Stopped { step: number, stop });
-        }
-    }
+    let stack = run(alloc, scope, &[], steps)?;
     match stack.finish(alloc) {
+        Ok(tree) => Ok(tree),
+        Err(stop) => Err(Stopped {
+            step: steps.len(),
+            stop,
+        }),
+    }
+}
+
+/// The tree that the steps leave over the columns of a scope with kinds, and the kind of its values.
+pub(crate) fn bind_logical(
+    alloc: Global,
+    scope: &StructFields,
+    kinds: &[Kind],
+    steps: &[Step<'_>],
+) -> Result<LogicalTree, Stopped>
+    ensures { MatchResult result
+        (λ t. logical_left (struct_fields scope.now) kinds.now (map step_in steps.now)
+        ≡ answers (logical_in t))
+        (λ s. StopsBy (logical_left (struct_fields scope.now) kinds.now (map step_in steps.now))
+        s.stop) }
+{
+    let stack = run(alloc, scope, kinds, steps)?;
+    match stack.finish_logical(alloc) {
         Ok(tree) => Ok(tree),
         Err(stop) => Err(Stopped {
             step: steps.len(),
@@ -247,6 +309,7 @@ pub(crate) fn bind(
 pub(crate) fn operands(
     alloc: Global,
     scope: &StructFields,
+    kinds: &[Kind],
     steps: &[Step<'_>],
     count: usize,
 ) -> Vec<Item> {
@@ -254,7 +317,7 @@ pub(crate) fn operands(
         items: Vec::new(alloc),
     };
     for step in steps.iter().take(count) {
-        if stack.step(alloc, scope, *step).is_err() {
+        if stack.step(alloc, scope, kinds, *step).is_err() {
             return stack.items;
         }
     }

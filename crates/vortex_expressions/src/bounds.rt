@@ -6,10 +6,11 @@ ghost use Rattle.vortex_expressions.specs.Answering.{Gives};
 
 use crate::calls::negated_if;
 use crate::item::{Item, called, common_type};
+use crate::kinded::{is_kinded, kinded_between, within_bounds};
 use crate::refusal::BindStop;
 use std::alloc::Global;
 use vortex_functions::{BoundExpression, ScalarFnRef};
-use vortex_operators::{BetweenOptions, Operator, StrictComparison};
+use vortex_operators::Operator;
 use vortex_standard::Standard;
 use vortex_syntax::BetweenKind;
 
@@ -19,14 +20,11 @@ fn between(alloc: Global, items: Vec<Item>) -> Result<BoundExpression<Standard>,
         (specs.between_all (map item_in items.items)) }
 {
     let dtype = common_type(alloc, &items)?;
-    let function = ScalarFnRef::Between(BetweenOptions {
-        lower_strict: StrictComparison::NonStrict,
-        upper_strict: StrictComparison::NonStrict,
-    });
+    let function = ScalarFnRef::Between(within_bounds());
     called(alloc, function, dtype.as_ref(), items)
 }
 
-/// BETWEEN of three.
+/// BETWEEN of three without kinds.
 fn plain_between(
     alloc: Global,
     item: Item,
@@ -37,6 +35,23 @@ fn plain_between(
         (specs.between_all (item_in item ∷ item_in lower ∷ item_in upper ∷ [])) }
 {
     between(alloc, vec![in alloc; item, lower, upper]?)
+}
+
+/// BETWEEN of three.
+fn between_three(
+    alloc: Global,
+    item: Item,
+    lower: Item,
+    upper: Item,
+) -> Result<BoundExpression<Standard>, BindStop>
+    ensures { Gives (λ t. t) result
+        (specs.between_three (item_in item) (item_in lower) (item_in upper)) }
+{
+    if is_kinded(&item) || (is_kinded(&lower) || is_kinded(&upper)) {
+        kinded_between(alloc, item, lower, upper)
+    } else {
+        plain_between(alloc, item, lower, upper)
+    }
 }
 
 /// BETWEEN of the bounds in either order.
@@ -54,8 +69,8 @@ fn either_between(
         lower.try_clone(alloc)?,
         upper.try_clone(alloc)?,
     );
-    let first = plain_between(alloc, item, lower, upper)?;
-    let second = plain_between(alloc, operand, high, low)?;
+    let first = between_three(alloc, item, lower, upper)?;
+    let second = between_three(alloc, operand, high, low)?;
     let either = vec![in alloc; Item::Bound(first), Item::Bound(second)]?;
     called(alloc, ScalarFnRef::Binary(Operator::Or), None, either)
 }
@@ -73,7 +88,7 @@ fn between_tree(
     if is_symmetric {
         either_between(alloc, item, lower, upper)
     } else {
-        plain_between(alloc, item, lower, upper)
+        between_three(alloc, item, lower, upper)
     }
 }
 

@@ -13,6 +13,7 @@ ghost use Rattle.vortex_expressions.specs.Answering.{Gives};
 use crate::applied::function_call;
 use crate::casts::type_of_name;
 use crate::item::{Item, callable, called, common_type, constant_at};
+use crate::kinded::{is_kinded, is_plain, kinded_joined, stored_item, stores};
 use crate::literal::Literal;
 use crate::quotes::{between_quotes, text_of};
 use crate::refusal::{BindStop, Refusal};
@@ -20,15 +21,49 @@ use std::alloc::Global;
 use vortex_cells::escapes;
 use vortex_columns::{DType, Nullability, StructFields, VortexResult};
 use vortex_functions::{BoundExpression, LikeOptions, ScalarFnRef};
+use vortex_logical::kind::Kind;
 use vortex_operators::Operator;
 use vortex_standard::{BitOperator, Shift, Standard, TruthTest};
 use vortex_syntax::{LikeKind, Sign, Test, Token, WrittenOperator as Written};
 
-/// The column of that name.
-fn column_of(alloc: Global, scope: &StructFields, name: &str) -> Result<Item, BindStop>
-    ensures { Gives item_in result (specs.column_of (struct_fields scope.now) name.now) }
+/// The kind of the column at a place: those behind the list are plain.
+fn kind_at(kinds: &[Kind], place: usize) -> Kind
+    ensures { result ≡ specs.kind_at kinds.now place }
 {
-    Ok(Item::Bound(BoundExpression::column(alloc, scope, name)?))
+    match kinds.get(place) {
+        Some(kind) => *kind,
+        None => Kind::Plain,
+    }
+}
+
+/// A column of a kind, whose type stores the kind.
+fn column_item(kind: Kind, tree: BoundExpression<Standard>) -> Result<Item, BindStop>
+    ensures { Gives item_in result (specs.column_item kind tree) }
+{
+    if is_plain(&kind) {
+        return Ok(Item::Bound(tree));
+    }
+    if stores(&kind, tree.dtype()) {
+        Ok(Item::Kinded(kind, tree))
+    } else {
+        Err(BindStop::Refused(Refusal::Kinds(vortex_lowering::Refusal::NotStored(kind))))
+    }
+}
+
+/// The column of that name, with its kind.
+fn column_in(
+    alloc: Global,
+    scope: &StructFields,
+    kinds: &[Kind],
+    name: &str,
+) -> Result<Item, BindStop>
+    ensures { Gives item_in result (specs.column_in (struct_fields scope.now) kinds.now name.now) }
+{
+    let tree = BoundExpression::column(alloc, scope, name)?;
+    match tree.as_column() {
+        Some(place) => column_item(kind_at(kinds, place), tree),
+        None => Ok(Item::Bound(tree)),
+    }
 }
 
 fn sign_item(sign: Sign) -> Result<Item, BindStop>
@@ -46,19 +81,21 @@ fn sign_item(sign: Sign) -> Result<Item, BindStop>
 pub(crate) fn operand_item(
     alloc: Global,
     scope: &StructFields,
+    kinds: &[Kind],
     token: Token<'_>,
 ) -> Result<Item, BindStop>
     ensures { Gives item_in result
-        (specs.operand_item (struct_fields scope.now) (token_in token.entry)) }
+        (specs.operand_by (specs.column_in (struct_fields scope.now) kinds.now)
+        (token_in token.entry)) }
 {
     match token {
         Token::Name(name) => {
             let name = text_of(alloc, name)?;
-            column_of(alloc, scope, name.as_str())
+            column_in(alloc, scope, kinds, name.as_str())
         }
         Token::Quoted(name) => {
             let name = between_quotes(alloc, b'"', name)?;
-            column_of(alloc, scope, name.as_str())
+            column_in(alloc, scope, kinds, name.as_str())
         }
         Token::Number(digits) => {
             let digits = text_of(alloc, digits)?;
@@ -93,7 +130,7 @@ pub(crate) fn typed_item(
     ensures { Gives item_in result (specs.typed_item name.now is_nullable (item_in item)) }
 {
     match item {
-        Item::Bound(_) => Err(BindStop::Missing),
+        Item::Bound(_) | Item::Kinded(_, _) => Err(BindStop::Missing),
         Item::Literal(literal) => {
             let dtype = type_of_name(alloc, name, is_nullable)?;
             Ok(Item::Bound(constant_at(alloc, &literal, dtype)?))
@@ -167,6 +204,20 @@ pub(crate) fn not_item(alloc: Global, item: Item) -> Result<Item, BindStop>
     Ok(Item::Bound(tree))
 }
 
+fn plain_joined(
+    alloc: Global,
+    written: Written,
+    left: Item,
+    right: Item,
+) -> Result<Item, BindStop>
+    ensures { Gives item_in result (specs.plain_joined written (item_in left) (item_in right)) }
+{
+    let items = vec![in alloc; left, right]?;
+    let dtype = joined_type(alloc, written, &items)?;
+    let tree = called(alloc, written_function(written), dtype.as_ref(), items)?;
+    Ok(Item::Bound(tree))
+}
+
 pub(crate) fn joined_item(
     alloc: Global,
     written: Written,
@@ -175,10 +226,11 @@ pub(crate) fn joined_item(
 ) -> Result<Item, BindStop>
     ensures { Gives item_in result (specs.joined_item written (item_in left) (item_in right)) }
 {
-    let items = vec![in alloc; left, right]?;
-    let dtype = joined_type(alloc, written, &items)?;
-    let tree = called(alloc, written_function(written), dtype.as_ref(), items)?;
-    Ok(Item::Bound(tree))
+    if is_kinded(&left) || is_kinded(&right) {
+        kinded_joined(alloc, written, left, right)
+    } else {
+        plain_joined(alloc, written, left, right)
+    }
 }
 
 /// IS NULL, or IS NOT NULL.
@@ -190,7 +242,7 @@ fn null_item(alloc: Global, negated: bool, item: Item) -> Result<Item, BindStop>
     } else {
         ScalarFnRef::IsNull
     };
-    let tree = called(alloc, function, None, vec![in alloc; item]?)?;
+    let tree = called(alloc, function, None, vec![in alloc; stored_item(item)]?)?;
     Ok(Item::Bound(tree))
 }
 

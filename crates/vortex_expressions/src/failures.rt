@@ -5,7 +5,9 @@ use crate::calls::joined_item;
 use crate::casts::type_of_name;
 use crate::forms::{function_in, function_text, push_accepted};
 use crate::item::{Item, common_type};
-use crate::item_texts::{is_fraction, push_fraction, push_literal, push_types};
+use crate::item_texts::{
+    is_fraction, push_fraction, push_literal, push_literals, push_operand, push_types,
+};
 use crate::meeting::met_next;
 use crate::quotes::unquoted;
 use crate::refusal::Refusal;
@@ -14,6 +16,8 @@ use std::alloc::Global;
 use std::fmt::Write;
 use std::str;
 use vortex_columns::{DType, MismatchPlace, StructFields, VortexError, VortexResult};
+use vortex_logical::kind::Kind;
+use vortex_logical_calls as calls;
 use vortex_standard::{Takes, has_all_of};
 use vortex_syntax::{Call, Step, SyntaxTree, Token, WrittenOperator};
 
@@ -194,6 +198,7 @@ fn alike_types(alloc: Global, items: &[Item], are_cases: bool) -> VortexResult<V
 pub(crate) struct TextFailure<'a> {
     pub(crate) alloc: Global,
     pub(crate) scope: &'a StructFields,
+    pub(crate) kinds: &'a [Kind],
     pub(crate) text: &'a str,
     pub(crate) tree: &'a SyntaxTree<'a>,
     pub(crate) step: usize,
@@ -207,7 +212,13 @@ impl<'a> TextFailure<'a> {
 
     /// The items that the step takes.
     fn items(&self) -> VortexResult<Vec<Item>> {
-        let mut items = operands(self.alloc, self.scope, &self.tree.steps, self.step);
+        let mut items = operands(
+            self.alloc,
+            self.scope,
+            self.kinds,
+            &self.tree.steps,
+            self.step,
+        );
         let count = operand_count(self.failing_step());
         let kept = items.len().saturating_sub(count);
         Ok(items.split_off(kept)?)
@@ -315,6 +326,42 @@ impl<'a> TextFailure<'a> {
         }
     }
 
+    /// That a value of the kind does not go there.
+    fn kind_text(&self, kind: Kind) -> VortexResult<String> {
+        let found = found_at(self.text, self.byte);
+        Ok(format!(in self.alloc; "{found} takes no values of kind {kind}")?)
+    }
+
+    /// That values of kinds do not go together.
+    fn kinds_text(&self, refusal: &calls::Refusal) -> VortexResult<String> {
+        let alloc = self.alloc;
+        let found = found_at(self.text, self.byte);
+        match refusal {
+            calls::Refusal::NoCommonKind(left, right) | calls::Refusal::NotShipped(left, right) => {
+                let mut out = format!(in alloc; "{found} takes no ")?;
+                push_operand(&mut out, left)?;
+                out.push_str(" next to ")?;
+                push_operand(&mut out, right)?;
+                Ok(out)
+            }
+            calls::Refusal::NotOfKind(kind) => {
+                let mut out = String::new(alloc);
+                if !push_literals(&mut out, &self.items()?)? {
+                    out.push_str("a literal")?;
+                }
+                write!(out, " is no {kind}")?;
+                Ok(out)
+            }
+            calls::Refusal::NotStored(kind) => {
+                Ok(format!(in alloc; "the type of the column does not store the kind {kind}")?)
+            }
+            calls::Refusal::Binding(error) => {
+                let (number, name) = (error.number(), error.name());
+                Ok(format!(in alloc; "E{number} {name}")?)
+            }
+        }
+    }
+
     pub(crate) fn told(&self, refusal: &Refusal) -> VortexResult<String> {
         let alloc = self.alloc;
         let text = match refusal {
@@ -326,6 +373,8 @@ impl<'a> TextFailure<'a> {
                     "no type {found}; types are bool, utf8, i8, i16, i32, i64, u8, u16, u32 and u64, with ? where they have null"
                 )?);
             }
+            Refusal::OfKind(kind) => return self.kind_text(*kind),
+            Refusal::Kinds(refusal) => return self.kinds_text(refusal),
             Refusal::NoFunction => return function_text(alloc, self.failing_step()),
             Refusal::NotUtf8 => "a text is not UTF-8",
             Refusal::UntypedNull => "null has no type here; give it one, as null::i64?",

@@ -9,6 +9,7 @@ ghost use Rattle.vortex_expressions.specs.Items.{item_in, bound_type, literal_ty
 ghost use Rattle.vortex_expressions.specs.Items.{common_type, constant_at, settled, all_settled};
 ghost use Rattle.vortex_expressions.specs.Items.{call_of, called, bound};
 ghost use Rattle.vortex_expressions.specs.Literals.{literal_in};
+ghost use Rattle.vortex_expressions.specs.Binding.{ended, logical_in};
 ghost use Rattle.vortex_expressions.specs.Answering.{Gives};
 
 use crate::literal::Literal;
@@ -17,13 +18,15 @@ use crate::refusal::{BindStop, Refusal};
 use std::alloc::Global;
 use vortex_columns::{DType, MismatchPlace, PType, VortexError, VortexResult};
 use vortex_functions::{BoundExpression, EmptyOptions, ScalarFnRef};
+use vortex_logical::kind::Kind;
 use vortex_standard::{Standard, Widen};
 
-/// A literal without a type yet, or a tree.
+/// A literal without a type yet, a tree, or a tree of the stored integers of a kind.
 #[derive(Drop)]
 pub(crate) enum Item {
     Literal(Literal),
     Bound(BoundExpression<Standard>),
+    Kinded(Kind, BoundExpression<Standard>),
 }
 
 /// The literal of that type.
@@ -40,6 +43,13 @@ pub(crate) fn constant_at(
     }
 }
 
+/// A tree, and the kind of its values.
+#[derive(Drop)]
+pub struct LogicalTree {
+    pub tree: BoundExpression<Standard>,
+    pub kind: Kind,
+}
+
 impl Item {
     /// The type of a tree.
     pub(crate) fn bound_type(&self) -> Option<&DType>
@@ -48,6 +58,7 @@ impl Item {
         match self {
             Item::Bound(tree) => Some(tree.dtype()),
             Item::Literal(_) => None,
+            Item::Kinded(_, _) => None,
         }
     }
 
@@ -58,6 +69,7 @@ impl Item {
         match self {
             Item::Literal(literal) => literal.own_type(),
             Item::Bound(_) => None,
+            Item::Kinded(_, _) => None,
         }
     }
 
@@ -68,11 +80,12 @@ impl Item {
         match self {
             Item::Bound(tree) => Ok(Item::Bound(tree.try_clone(alloc)?)),
             Item::Literal(literal) => Ok(Item::Literal(literal.try_clone(alloc)?)),
+            Item::Kinded(kind, tree) => Ok(Item::Kinded(*kind, tree.try_clone(alloc)?)),
         }
     }
 
     /// Its tree where that type is taken: a tree of a narrower integer type is cast, and a literal
-    /// takes the type.
+    /// takes the type. A value of a kind has none.
     pub(crate) fn settle(
         &self,
         alloc: Global,
@@ -84,11 +97,24 @@ impl Item {
         let literal = match self {
             Item::Bound(tree) => return meeting(alloc, beside, tree.try_clone(alloc)?),
             Item::Literal(literal) => literal,
+            Item::Kinded(kind, _) => return Err(BindStop::Refused(Refusal::OfKind(*kind))),
         };
         match literal.type_beside(alloc, beside)? {
             Some(dtype) => constant_at(alloc, literal, dtype),
             None => Err(BindStop::Refused(Refusal::UntypedNull)),
         }
+    }
+
+    /// Its tree, with the kind of its values; a literal has its default type.
+    pub(crate) fn end(self, alloc: Global) -> Result<LogicalTree, BindStop>
+        ensures { Gives logical_in result (ended (item_in self)) }
+    {
+        if let Item::Kinded(kind, tree) = self {
+            return Ok(LogicalTree { tree, kind });
+        }
+        let tree = self.settle(alloc, None)?;
+        let kind = Kind::Plain;
+        Ok(LogicalTree { tree, kind })
     }
 }
 

@@ -3,6 +3,8 @@ use crate::item::Item;
 use crate::literal::Literal;
 use std::fmt::Write;
 use vortex_columns::VortexResult;
+use vortex_logical::kind::Kind;
+use vortex_logical::operand::Operand;
 
 /// A literal, as written.
 pub(crate) fn push_literal(out: &mut String, literal: &Literal) -> VortexResult<()> {
@@ -22,6 +24,10 @@ pub(crate) fn push_literal(out: &mut String, literal: &Literal) -> VortexResult<
 fn push_type(out: &mut String, item: &Item) -> VortexResult<()> {
     match item {
         Item::Bound(tree) => tree.dtype().write_text(out),
+        Item::Kinded(kind, _) => {
+            write!(out, "{kind}")?;
+            Ok(())
+        }
         Item::Literal(literal) => match literal.own_type() {
             Some(dtype) => dtype.write_text(out),
             None => push_literal(out, literal),
@@ -42,6 +48,27 @@ pub(crate) fn push_types(out: &mut String, items: &[Item]) -> VortexResult<()> {
         push_type(out, item)?;
     }
     Ok(())
+}
+
+/// What a value is.
+pub(crate) fn push_operand(out: &mut String, operand: &Operand) -> VortexResult<()> {
+    match operand {
+        Operand::Whole(ptype) => out.push_str(ptype.text())?,
+        Operand::Of(Kind::Plain) => out.push_str("value without a kind")?,
+        Operand::Of(kind) => write!(out, "{kind}")?,
+    }
+    Ok(())
+}
+
+/// The last literal among items that is a text or a number; whether there is one.
+pub(crate) fn push_literals(out: &mut String, items: &[Item]) -> VortexResult<bool> {
+    for item in items.iter().rev() {
+        if let Item::Literal(literal) = item {
+            push_literal(out, literal)?;
+            return Ok(true);
+        }
+    }
+    Ok(false)
 }
 
 /// What is said before a number that is not written as a whole one.

@@ -10,6 +10,7 @@ use crate::syntax_texts::syntax_text;
 use crate::words::line_and_column;
 use std::alloc::Global;
 use vortex_columns::{StructFields, VortexError, VortexResult};
+use vortex_logical::kind::Kind;
 use vortex_syntax::{Expected, SyntaxError, SyntaxTree};
 
 /// Out of memory.
@@ -69,6 +70,7 @@ impl Stopped {
         self,
         alloc: Global,
         scope: &StructFields,
+        kinds: &[Kind],
         text: &str,
         tree: &SyntaxTree<'_>,
     ) -> TextError
@@ -83,6 +85,7 @@ impl Stopped {
         let failure = TextFailure {
             alloc,
             scope,
+            kinds,
             text,
             tree,
             step,

@@ -6,6 +6,7 @@ ghost use Rattle.vortex_expressions.specs.declared.refusal.BindStop.TheVariants.
 
 use std::alloc::{AllocError, AllocFailed};
 use vortex_columns::VortexError;
+use vortex_logical::kind::Kind;
 
 /// Why an expression without syntax errors fails.
 #[derive(Debug, Drop)]
@@ -25,6 +26,11 @@ pub enum Refusal {
     NoCast,
     /// No function has that name.
     NoFunction,
+    /// A value of that kind is where none may be.
+    OfKind(Kind),
+    /// Values of kinds do not go together, a text is none of a kind, or the type of a column does
+    /// not store its kind.
+    Kinds(vortex_lowering::Refusal),
     /// The scope has no such column (E11), a function does not accept the types (E3), or an
     /// allocation fails (E9).
     Binding(VortexError),

@@ -1,0 +1,172 @@
+-- Calls on values of kinds: dates, timestamps, decimals and floats.
+use Rattle.std.specs.Prelude.{ℕ, List, [], ◌∷◌, Option, Some, None, Bool, true, false}
+use Rattle.vortex_types.specs.declared.dtype.PType.{PType}
+use Rattle.vortex_types.specs.declared.dtype.PType.TheVariants.{I32, I64}
+use Rattle.vortex_types.specs.LogicalTypes.{LogicalType, integer_type}
+use Rattle.vortex_errors.specs.declared.error.NumericOperator.{NumericOperator}
+use Rattle.vortex_errors.specs.declared.error.NumericOperator.TheVariants as numeric
+use Rattle.vortex_errors.specs.declared.error.VortexError.TheVariants.{OutOfMemory, TypeMismatch}
+use Rattle.vortex_errors.specs.declared.error.MismatchPlace.TheVariants.{Scalars}
+use Rattle.vortex_operators.specs.declared.operators.CompareOperator.{CompareOperator}
+use Rattle.vortex_operators.specs.declared.operators.CompareOperator.TheVariants as compare
+use Rattle.vortex_operators.specs.declared.between.BetweenOptions.{BetweenOptions}
+use Rattle.vortex_operators.specs.declared.between.StrictComparison.TheVariants.{NonStrict}
+use Rattle.vortex_interface.specs.Eval.{tree_type}
+use Rattle.vortex_syntax.specs.declared.step.WrittenOperator as syntax
+use Rattle.vortex_syntax.specs.declared.step.WrittenOperator.TheVariants as written
+use Rattle.vortex_logical.specs.declared.kind.Kind.{Kind}
+use Rattle.vortex_logical.specs.declared.kind.Kind.TheVariants.{Plain, Date}
+use Rattle.vortex_logical.specs.Kinds.{stored_ptype}
+use Rattle.vortex_logical.specs.declared.operand.Operand.{Operand}
+use Rattle.vortex_logical.specs.declared.operand.Operand.TheVariants.{Whole, Of}
+use Rattle.vortex_lowering.specs.Leaves.{is_ptype}
+use Rattle.vortex_lowering.specs.Rows.{lowered}
+use Rattle.vortex_lowering.specs.declared.refusal.Refusal as lowering
+use Rattle.vortex_lowering.specs.declared.refusal.Refusal.TheVariants as unlowered
+use Rattle.vortex_logical_calls.specs.Outcomes as calls
+use Rattle.vortex_logical_calls.specs.Calls.{Lowered}
+use Rattle.vortex_logical_calls.specs.Comparison.{compared}
+use Rattle.vortex_logical_calls.specs.Bounds as bounds
+use Rattle.vortex_logical_calls.specs.Computation.{computed}
+use Rattle.vortex_logical_calls.specs.Literals.{kind_beside, literal_of}
+use Rattle.vortex_expressions.specs.declared.refusal.Refusal.TheVariants.{NotHeld, UntypedNull}
+use Rattle.vortex_expressions.specs.declared.refusal.Refusal.TheVariants.{OfKind, Kinds, Binding}
+use Rattle.vortex_expressions.specs.declared.refusal.BindStop.{BindStop}
+use Rattle.vortex_expressions.specs.declared.refusal.BindStop.TheVariants.{Refused}
+use Rattle.vortex_expressions.specs.Literals.{Literal, number, text, truth, null}
+use Rattle.vortex_expressions.specs.Outcomes.{Outcome, answers, refuses, and_then}
+use Rattle.vortex_expressions.specs.Items.{Item, literal, bound, kinded, Tree, meaning, constant_at}
+use Rattle.vortex_expressions.specs.Items.{as_item}
+
+abbrev pub is_kinded : Item → Bool
+is_kinded (kinded k t) = true
+is_kinded i = false
+
+abbrev pub is_plain : Kind → Bool
+is_plain Plain = true
+is_plain k = false
+
+-- columns of the type store the kind
+abbrev pub stores : Kind → Option LogicalType → Bool
+stores k (Some (integer_type p n)) = is_ptype (stored_ptype k) p
+stores k o = false
+
+-- the tree of a value's stored integers
+abbrev pub stored_item : Item → Item
+stored_item (kinded k t) = bound t
+stored_item i = i
+
+-- the outcome of a call on operands
+abbrev pub told : {A : Type 0} → calls.Outcome A → Outcome A
+told (calls.made a) = answers a
+told (calls.refused r) = refuses (Kinds r)
+told calls.untyped = refuses (Binding (TypeMismatch Scalars))
+
+-- the report of its error
+abbrev pub stop_of : lowering.Refusal → BindStop
+stop_of (unlowered.Binding OutOfMemory) = Refused (Binding OutOfMemory)
+stop_of (unlowered.Binding e) = Refused (Binding (TypeMismatch Scalars))
+stop_of r = Refused (Kinds r)
+
+-- the kind of the first value with one
+abbrev pub first_kind : List Item → Kind
+first_kind [] = Plain
+first_kind (kinded k t ∷ is) = k
+first_kind (i ∷ is) = first_kind is
+
+-- what a tree without a kind is
+abbrev pub plain_operand : Option LogicalType → Operand
+plain_operand (Some (integer_type p n)) = Whole p
+plain_operand o = Of Plain
+
+-- a number without a point next to a date is days
+abbrev pub whole_ptype : Kind → PType
+whole_ptype Date = I32
+whole_ptype k = I64
+
+abbrev pub whole_literal : PType → Literal → Outcome Lowered
+whole_literal p l = and_then (constant_at l (integer_type p false)) (λ t. answers (lowered t (Whole p)))
+
+abbrev pub text_literal : Kind → List ℕ → Outcome Lowered
+text_literal k bs = told (literal_of k bs)
+
+abbrev pub number_literal : Kind → Option Kind → List ℕ → Outcome Lowered
+number_literal k None w = whole_literal (whole_ptype k) (number w)
+number_literal k (Some j) w = text_literal j w
+
+abbrev pub null_of : Kind → Option PType → Outcome Lowered
+null_of k None = refuses UntypedNull
+null_of k (Some p) = and_then (constant_at null (integer_type p true)) (λ t. answers (lowered t (Of k)))
+
+abbrev pub null_literal : Kind → Outcome Lowered
+null_literal k = null_of k (stored_ptype k)
+
+-- a literal next to a value of a kind
+abbrev pub literal_operand : Kind → Literal → Outcome Lowered
+literal_operand k (number w) = number_literal k (kind_beside (Of k) w) w
+literal_operand k (text bs) = text_literal k bs
+literal_operand k (truth b) = refuses NotHeld
+literal_operand k null = null_literal k
+
+-- an item next to a value of a kind
+abbrev pub item_operand : Kind → Item → Outcome Lowered
+item_operand k (literal l) = literal_operand k l
+item_operand k (bound t) = answers (lowered t (plain_operand (tree_type meaning t)))
+item_operand k (kinded j t) = answers (lowered t (Of j))
+
+-- a tree of stored integers; whole numbers have no kind
+abbrev pub value_item : Operand → Tree → Item
+value_item (Whole p) t = bound t
+value_item (Of k) t = kinded k t
+
+-- what an operator does with values of kinds
+pub data KindedOperator : Type 0 where
+  compares : CompareOperator → KindedOperator
+  computes : NumericOperator → KindedOperator
+  neither : KindedOperator
+
+abbrev pub kinded_operator : syntax.WrittenOperator → KindedOperator
+kinded_operator written.Equal = compares compare.Eq
+kinded_operator written.NotEqual = compares compare.NotEq
+kinded_operator written.Less = compares compare.Lt
+kinded_operator written.LessOrEqual = compares compare.Lte
+kinded_operator written.Greater = compares compare.Gt
+kinded_operator written.GreaterOrEqual = compares compare.Gte
+kinded_operator written.Add = computes numeric.Add
+kinded_operator written.Sub = computes numeric.Sub
+kinded_operator written.Mul = computes numeric.Mul
+kinded_operator written.Div = computes numeric.Div
+kinded_operator o = neither
+
+abbrev pub compared_item : CompareOperator → Lowered → Lowered → Outcome Item
+compared_item op x y = as_item (told (compared op x y))
+
+abbrev pub computed_item : NumericOperator → Lowered → Lowered → Outcome Item
+computed_item o x y =
+    and_then (told (computed o x y)) (λ z. answers (value_item z.operand z.tree))
+
+abbrev pub operated : Kind → KindedOperator → Lowered → Lowered → Outcome Item
+operated k (compares op) x y = compared_item op x y
+operated k (computes o) x y = computed_item o x y
+operated k neither x y = refuses (OfKind k)
+
+abbrev pub joined_beside : Kind → KindedOperator → Item → Item → Outcome Item
+joined_beside k o a b =
+    and_then (item_operand k a) (λ x. and_then (item_operand k b) (λ y. operated k o x y))
+
+-- an operator, one of whose operands has a kind
+abbrev pub kinded_joined : syntax.WrittenOperator → Item → Item → Outcome Item
+kinded_joined o a b = joined_beside (first_kind (a ∷ b ∷ [])) (kinded_operator o) a b
+
+-- both bounds are inclusive
+abbrev pub within_bounds : BetweenOptions
+within_bounds = record { lower_strict = NonStrict; upper_strict = NonStrict }
+
+abbrev pub between_beside : Kind → Item → Item → Item → Outcome Tree
+between_beside k a low high =
+    and_then (item_operand k a) (λ x. and_then (item_operand k low) (λ y.
+    and_then (item_operand k high) (λ z. told (bounds.between within_bounds x y z))))
+
+-- BETWEEN of three, one of which has a kind
+abbrev pub kinded_between : Item → Item → Item → Outcome Tree
+kinded_between a low high = between_beside (first_kind (a ∷ low ∷ high ∷ [])) a low high

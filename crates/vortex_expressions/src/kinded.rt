@@ -1,0 +1,282 @@
+//! Calls on values of kinds: dates, timestamps, decimals and floats.
+ghost use Rattle.std.specs.Prelude.{◌≡◌, Some, map};
+ghost use Rattle.vortex_types.specs.TypeOf.{type_of};
+ghost use Rattle.vortex_lowering.specs.Rows.{lowered};
+ghost use Rattle.vortex_expressions.specs.Kinded as specs;
+ghost use Rattle.vortex_expressions.specs.Items.{item_in};
+ghost use Rattle.vortex_expressions.specs.Literals.{literal_in};
+ghost use Rattle.vortex_expressions.specs.Answering.{Gives};
+
+use crate::item::{Item, constant_at};
+use crate::literal::Literal;
+use crate::refusal::{BindStop, Refusal};
+use std::alloc::Global;
+use vortex_columns::{DType, MismatchPlace, Nullability, PType, VortexError};
+use vortex_functions::BoundExpression;
+use vortex_logical::kind::Kind;
+use vortex_logical::operand::Operand;
+use vortex_logical_calls as calls;
+use vortex_logical_calls::{Lowered, kind_beside};
+use vortex_operators::{BetweenOptions, CompareOperator, StrictComparison};
+use vortex_standard::Standard;
+use vortex_syntax::WrittenOperator as Written;
+use vortex_types::NumericOperator;
+
+/// A tree that is not of the type of its operand's values, which no column is, is E3.
+impl From<calls::Refusal> for BindStop {
+    ghost from_gives = { λ r s. s ≡ specs.stop_of r };
+
+    fn from(refusal: calls::Refusal) -> BindStop {
+        match refusal {
+            calls::Refusal::Binding(VortexError::OutOfMemory) => {
+                BindStop::Refused(Refusal::Binding(VortexError::OutOfMemory))
+            }
+            calls::Refusal::Binding(_) => BindStop::Refused(Refusal::Binding(
+                VortexError::TypeMismatch(MismatchPlace::Scalars),
+            )),
+            refusal => BindStop::Refused(Refusal::Kinds(refusal)),
+        }
+    }
+}
+
+/// Whether the item is a value of a kind.
+pub(crate) fn is_kinded(item: &Item) -> bool
+    ensures { result ≡ specs.is_kinded (item_in item.now) }
+{
+    matches!(item, Item::Kinded(_, _))
+}
+
+pub(crate) fn is_plain(kind: &Kind) -> bool
+    ensures { result ≡ specs.is_plain kind.now }
+{
+    matches!(kind, Kind::Plain)
+}
+
+/// Whether columns of the type store the kind.
+pub(crate) fn stores(kind: &Kind, dtype: &DType) -> bool
+    ensures { result ≡ specs.stores kind.now (Some (type_of dtype.now)) }
+{
+    match (kind.stored_ptype(), dtype) {
+        (Some(stored), DType::Primitive(ptype, _)) => stored == *ptype,
+        _ => false,
+    }
+}
+
+/// The tree of a value's stored integers; any other item is unchanged.
+pub(crate) fn stored_item(item: Item) -> Item
+    ensures { item_in result ≡ specs.stored_item (item_in item) }
+{
+    match item {
+        Item::Kinded(_, tree) => Item::Bound(tree),
+        other => other,
+    }
+}
+
+/// The kind of the first value with one.
+fn first_kind(items: &[&Item]) -> Kind
+    ensures { result ≡ specs.first_kind (map (λ i. item_in i.now) items.now) }
+{
+    for item in items {
+        if let Item::Kinded(kind, _) = *item {
+            return *kind;
+        }
+    }
+    Kind::Plain
+}
+
+/// What a tree without a kind is.
+fn plain_operand(dtype: &DType) -> Operand
+    ensures { result ≡ specs.plain_operand (Some (type_of dtype.now)) }
+{
+    match dtype {
+        DType::Primitive(ptype, _) => Operand::Whole(*ptype),
+        _ => Operand::Of(Kind::Plain),
+    }
+}
+
+/// The type of a number without a point next to a value of a kind: days next to a date.
+fn whole_ptype(kind: Kind) -> PType
+    ensures { result ≡ specs.whole_ptype kind }
+{
+    match kind {
+        Kind::Date => PType::I32,
+        _ => PType::I64,
+    }
+}
+
+fn whole_literal(
+    alloc: Global,
+    ptype: PType,
+    literal: &Literal,
+) -> Result<Lowered<Standard>, BindStop>
+    ensures { Gives (λ x. lowered x.tree x.operand) result
+        (specs.whole_literal ptype (literal_in literal.now)) }
+{
+    let dtype = DType::Primitive(ptype, Nullability::NonNullable);
+    let tree = constant_at(alloc, literal, dtype)?;
+    let operand = Operand::Whole(ptype);
+    Ok(Lowered { tree, operand })
+}
+
+/// The value of a text of a kind.
+fn text_literal(alloc: Global, kind: Kind, text: &[u8]) -> Result<Lowered<Standard>, BindStop>
+    ensures { Gives (λ x. lowered x.tree x.operand) result (specs.text_literal kind text.now) }
+{
+    Ok(calls::literal(alloc, kind, text)?)
+}
+
+/// Null next to a value of a kind.
+fn null_literal(alloc: Global, kind: Kind) -> Result<Lowered<Standard>, BindStop>
+    ensures { Gives (λ x. lowered x.tree x.operand) result (specs.null_literal kind) }
+{
+    match kind.stored_ptype() {
+        Some(ptype) => {
+            let dtype = DType::Primitive(ptype, Nullability::Nullable);
+            let tree = constant_at(alloc, &Literal::Null, dtype)?;
+            let operand = Operand::Of(kind);
+            Ok(Lowered { tree, operand })
+        }
+        None => Err(BindStop::Refused(Refusal::UntypedNull)),
+    }
+}
+
+/// A literal next to a value of a kind.
+fn literal_operand(
+    alloc: Global,
+    kind: Kind,
+    literal: &Literal,
+) -> Result<Lowered<Standard>, BindStop>
+    ensures { Gives (λ x. lowered x.tree x.operand) result
+        (specs.literal_operand kind (literal_in literal.now)) }
+{
+    match literal {
+        Literal::Number(word) => match kind_beside(&Operand::Of(kind), word.as_bytes()) {
+            Some(kind) => text_literal(alloc, kind, word.as_bytes()),
+            None => whole_literal(alloc, whole_ptype(kind), literal),
+        },
+        Literal::Text(text) => text_literal(alloc, kind, text.as_bytes()),
+        Literal::Truth(_) => Err(BindStop::Refused(Refusal::NotHeld)),
+        Literal::Null => null_literal(alloc, kind),
+    }
+}
+
+/// An item next to a value of a kind.
+fn item_operand(alloc: Global, kind: Kind, item: Item) -> Result<Lowered<Standard>, BindStop>
+    ensures { Gives (λ x. lowered x.tree x.operand) result
+        (specs.item_operand kind (item_in item)) }
+{
+    match item {
+        Item::Literal(literal) => literal_operand(alloc, kind, &literal),
+        Item::Bound(tree) => {
+            let operand = plain_operand(tree.dtype());
+            Ok(Lowered { tree, operand })
+        }
+        Item::Kinded(kind, tree) => {
+            let operand = Operand::Of(kind);
+            Ok(Lowered { tree, operand })
+        }
+    }
+}
+
+/// A tree of stored integers; whole numbers have no kind.
+fn value_item(value: Lowered<Standard>) -> Item
+    ensures { item_in result ≡ specs.value_item value.operand value.tree }
+{
+    match value.operand {
+        Operand::Whole(_) => Item::Bound(value.tree),
+        Operand::Of(kind) => Item::Kinded(kind, value.tree),
+    }
+}
+
+fn compared(
+    alloc: Global,
+    operator: CompareOperator,
+    left: Lowered<Standard>,
+    right: Lowered<Standard>,
+) -> Result<Item, BindStop>
+    ensures { Gives item_in result (specs.compared_item operator
+        (lowered left.tree left.operand) (lowered right.tree right.operand)) }
+{
+    Ok(Item::Bound(calls::compare(alloc, operator, left, right)?))
+}
+
+fn computed(
+    alloc: Global,
+    operator: NumericOperator,
+    left: Lowered<Standard>,
+    right: Lowered<Standard>,
+) -> Result<Item, BindStop>
+    ensures { Gives item_in result (specs.computed_item operator
+        (lowered left.tree left.operand) (lowered right.tree right.operand)) }
+{
+    Ok(value_item(calls::compute(alloc, operator, left, right)?))
+}
+
+/// An operator on values of kinds.
+fn operated(
+    alloc: Global,
+    kind: Kind,
+    written: Written,
+    left: Lowered<Standard>,
+    right: Lowered<Standard>,
+) -> Result<Item, BindStop>
+    ensures { Gives item_in result (specs.operated kind (specs.kinded_operator written)
+        (lowered left.tree left.operand) (lowered right.tree right.operand)) }
+{
+    match written {
+        Written::Equal => compared(alloc, CompareOperator::Eq, left, right),
+        Written::NotEqual => compared(alloc, CompareOperator::NotEq, left, right),
+        Written::Less => compared(alloc, CompareOperator::Lt, left, right),
+        Written::LessOrEqual => compared(alloc, CompareOperator::Lte, left, right),
+        Written::Greater => compared(alloc, CompareOperator::Gt, left, right),
+        Written::GreaterOrEqual => compared(alloc, CompareOperator::Gte, left, right),
+        Written::Add => computed(alloc, NumericOperator::Add, left, right),
+        Written::Sub => computed(alloc, NumericOperator::Sub, left, right),
+        Written::Mul => computed(alloc, NumericOperator::Mul, left, right),
+        Written::Div => computed(alloc, NumericOperator::Div, left, right),
+        _ => Err(BindStop::Refused(Refusal::OfKind(kind))),
+    }
+}
+
+/// An operator, one of whose operands has a kind.
+pub(crate) fn kinded_joined(
+    alloc: Global,
+    written: Written,
+    left: Item,
+    right: Item,
+) -> Result<Item, BindStop>
+    ensures { Gives item_in result
+        (specs.kinded_joined written (item_in left) (item_in right)) }
+{
+    let kind = first_kind(&[&left, &right]);
+    let left = item_operand(alloc, kind, left)?;
+    let right = item_operand(alloc, kind, right)?;
+    operated(alloc, kind, written, left, right)
+}
+
+/// Both bounds are inclusive.
+pub(crate) fn within_bounds() -> BetweenOptions
+    ensures { result ≡ specs.within_bounds }
+{
+    BetweenOptions {
+        lower_strict: StrictComparison::NonStrict,
+        upper_strict: StrictComparison::NonStrict,
+    }
+}
+
+/// BETWEEN of three, one of which has a kind.
+pub(crate) fn kinded_between(
+    alloc: Global,
+    item: Item,
+    lower: Item,
+    upper: Item,
+) -> Result<BoundExpression<Standard>, BindStop>
+    ensures { Gives (λ t. t) result
+        (specs.kinded_between (item_in item) (item_in lower) (item_in upper)) }
+{
+    let kind = first_kind(&[&item, &lower, &upper]);
+    let item = item_operand(alloc, kind, item)?;
+    let lower = item_operand(alloc, kind, lower)?;
+    let upper = item_operand(alloc, kind, upper)?;
+    Ok(calls::between(alloc, within_bounds(), item, lower, upper)?)
+}

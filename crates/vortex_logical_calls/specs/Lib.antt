@@ -1,0 +1,7 @@
+pub mod Outcomes
+pub mod Calls
+pub mod Turning
+pub mod Comparison
+pub mod Bounds
+pub mod Computation
+pub mod Literals

@@ -1,0 +1,165 @@
+//! What an operand becomes next to another: a float, or an integer of another type.
+ghost use Rattle.std.specs.Prelude.{◌≡◌};
+ghost use Rattle.vortex_lowering.specs.Rows.{lowered};
+ghost use Rattle.vortex_logical_calls.specs.Outcomes.{Makes};
+ghost use Rattle.vortex_logical_calls.specs.Turning as specs;
+
+use crate::call::call_one;
+use std::alloc::Global;
+use vortex_functions::BoundExpression;
+use vortex_logical::common::common_operand;
+use vortex_logical::kind::Kind;
+use vortex_logical::operand::Operand;
+use vortex_lowering::{Lowered, Refusal};
+use vortex_standard::{Cast, DecimalToFloat, Standard, Widen, has_all_of};
+use vortex_types::PType;
+
+/// What an operand becomes.
+#[derive(Clone, Copy, Debug, PartialEq, Eq)]
+pub(crate) enum Turn {
+    /// It stays as it is.
+    Same,
+    /// A float of 64 bits.
+    Float,
+    /// An integer of that type.
+    Integer(PType),
+}
+
+/// Whether operands meet in a float of 64 bits.
+pub(crate) fn meet_in_float(left: &Operand, right: &Operand) -> bool
+    ensures { result ≡ specs.meet_in_float left.now right.now }
+{
+    matches!(common_operand(left, right), Some(Operand::Of(Kind::F64)))
+}
+
+/// The integer type that a whole number takes next to an operand.
+fn integer_turn(operand: &Operand, other: &Operand) -> Turn
+    ensures { result ≡ specs.integer_turn operand.now other.now }
+{
+    match (operand, other) {
+        (Operand::Whole(_), Operand::Of(Kind::Decimal(_))) => Turn::Integer(PType::I64),
+        (Operand::Whole(_), Operand::Of(Kind::Date)) => Turn::Integer(PType::I32),
+        _ => Turn::Same,
+    }
+}
+
+/// What an operand becomes next to another.
+pub(crate) fn turn(operand: &Operand, other: &Operand) -> Turn
+    ensures { result ≡ specs.turn operand.now other.now }
+{
+    if meet_in_float(operand, other) {
+        Turn::Float
+    } else {
+        integer_turn(operand, other)
+    }
+}
+
+/// What an operand becomes next to two others.
+pub(crate) fn turn_by_two(operand: &Operand, first: &Operand, second: &Operand) -> Turn
+    ensures { result ≡ specs.turn_by_two operand.now first.now second.now }
+{
+    if meet_in_float(operand, second) {
+        return Turn::Float;
+    }
+    match turn(operand, first) {
+        Turn::Same => integer_turn(operand, second),
+        other => other,
+    }
+}
+
+/// To an integer type: where it has every number of the other, no row faults.
+pub fn integer_cast(from: PType, to: PType) -> Standard
+    ensures { result ≡ specs.integer_cast from to }
+{
+    if has_all_of(to, from) {
+        Standard::Widen(Widen { ptype: to })
+    } else {
+        Standard::Cast(Cast { ptype: to })
+    }
+}
+
+/// The function that makes a float of 64 bits of a number; none if it is one, or no number.
+fn float_function(operand: &Operand) -> Option<Standard>
+    ensures { result ≡ specs.float_function operand.now }
+{
+    match operand {
+        Operand::Whole(_) => Some(Standard::IntToFloat),
+        Operand::Of(Kind::Decimal(digits)) => {
+            let scale = digits.scale();
+            Some(Standard::DecimalToFloat(DecimalToFloat { scale }))
+        }
+        Operand::Of(Kind::F32) => Some(Standard::WidenFloat),
+        _ => None,
+    }
+}
+
+/// An operand, after a function if there is one.
+fn after(
+    alloc: Global,
+    function: Option<Standard>,
+    operand: Operand,
+    item: Lowered<Standard>,
+) -> Result<Lowered<Standard>, Refusal>
+    ensures { Makes (λ x. lowered x.tree x.operand) result
+        (specs.after function operand (lowered item.tree item.operand)) }
+{
+    match function {
+        Some(function) => {
+            let tree = call_one(alloc, function, item.tree)?;
+            Ok(Lowered { tree, operand })
+        }
+        None => Ok(item),
+    }
+}
+
+/// A number as a float of 64 bits: rounded once, so that it is the nearest float.
+pub fn as_float(alloc: Global, item: Lowered<Standard>) -> Result<Lowered<Standard>, Refusal>
+    ensures { Makes (λ x. lowered x.tree x.operand) result
+        (specs.as_float (lowered item.tree item.operand)) }
+{
+    let function = float_function(&item.operand);
+    after(alloc, function, Operand::Of(Kind::F64), item)
+}
+
+/// The cast of a whole number to another type; none if it is of that type, or no whole number.
+fn integer_function(operand: &Operand, to: PType) -> Option<Standard>
+    ensures { result ≡ specs.integer_function operand.now to }
+{
+    match operand {
+        Operand::Whole(from) => if *from == to {
+            None
+        } else {
+            Some(integer_cast(*from, to))
+        },
+        Operand::Of(_) => None,
+    }
+}
+
+/// A whole number in that type; the fault `OutOfRange` in rows whose number the type does not have.
+fn as_integer(
+    alloc: Global,
+    ptype: PType,
+    item: Lowered<Standard>,
+) -> Result<Lowered<Standard>, Refusal>
+    ensures { Makes (λ x. lowered x.tree x.operand) result
+        (specs.as_integer ptype (lowered item.tree item.operand)) }
+{
+    let function = integer_function(&item.operand, ptype);
+    after(alloc, function, Operand::Whole(ptype), item)
+}
+
+/// What the operand becomes.
+pub(crate) fn turned(
+    alloc: Global,
+    turn: Turn,
+    item: Lowered<Standard>,
+) -> Result<Lowered<Standard>, Refusal>
+    ensures { Makes (λ x. lowered x.tree x.operand) result
+        (specs.turned turn (lowered item.tree item.operand)) }
+{
+    match turn {
+        Turn::Same => Ok(item),
+        Turn::Float => as_float(alloc, item),
+        Turn::Integer(ptype) => as_integer(alloc, ptype, item),
+    }
+}
