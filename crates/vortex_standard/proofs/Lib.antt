@@ -1,1 +1,2 @@
 pub mod Finds
+mod Listed

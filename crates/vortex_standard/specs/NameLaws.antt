@@ -19,12 +19,17 @@ use Rattle.vortex_standard.specs.declared.standard.Standard.{Standard}
 use Rattle.vortex_standard.specs.declared.standard.Standard.TheVariants as standard
 use Rattle.vortex_sql_texts.specs.declared.texts.Measure.TheVariants.{Characters, Bytes}
 use Rattle.vortex_sql_numbers.specs.declared.truth_casts.TruthToInt.{TruthToInt}
+use Rattle.vortex_sql_floats.specs.declared.floats.FloatOperator.TheVariants as float
+use Rattle.vortex_sql_floats.specs.declared.integers.FloatToInt.{FloatToInt}
 use Rattle.vortex_standard.specs.declared.names.TheConstants.{FUNCTIONS}
-use Rattle.vortex_standard.specs.Names.{has_name, is_name, name_of, standard_named}
+use Rattle.vortex_standard.specs.declared.scales.DecimalScale.{DecimalScale}
+use Rattle.vortex_standard.specs.declared.scales.DecimalScale.TheVariants as scale
+use Rattle.vortex_standard.specs.Names.{functions, has_name, is_name, is_short, name_of}
+use Rattle.vortex_standard.specs.Names.{standard_named}
 
 -- a function is the first that has its name
 abbrev IsFirst : Standard → Type 0
-IsFirst f = find (has_name (name_of f)) FUNCTIONS ≡ Some f
+IsFirst f = find (has_name (name_of f)) functions ≡ Some f
 
 first_cast : (p : PType) → IsFirst (standard.Cast (record { ptype = p }))
 first_cast I8 = refl
@@ -86,6 +91,37 @@ first_truth U16 = refl
 first_truth U32 = refl
 first_truth U64 = refl
 
+first_float_cast : (p : PType) → IsFirst (standard.FloatToInt (record { ptype = p }))
+first_float_cast I8 = refl
+first_float_cast I16 = refl
+first_float_cast I32 = refl
+first_float_cast I64 = refl
+first_float_cast U8 = refl
+first_float_cast U16 = refl
+first_float_cast U32 = refl
+first_float_cast U64 = refl
+
+first_decimal : (s : DecimalScale) → IsFirst (standard.DecimalToFloat s)
+first_decimal scale.S0 = refl
+first_decimal scale.S1 = refl
+first_decimal scale.S2 = refl
+first_decimal scale.S3 = refl
+first_decimal scale.S4 = refl
+first_decimal scale.S5 = refl
+first_decimal scale.S6 = refl
+first_decimal scale.S7 = refl
+first_decimal scale.S8 = refl
+first_decimal scale.S9 = refl
+first_decimal scale.S10 = refl
+first_decimal scale.S11 = refl
+first_decimal scale.S12 = refl
+first_decimal scale.S13 = refl
+first_decimal scale.S14 = refl
+first_decimal scale.S15 = refl
+first_decimal scale.S16 = refl
+first_decimal scale.S17 = refl
+first_decimal scale.S18 = refl
+
 first : (f : Standard) → IsFirst f
 first standard.Coalesce = refl
 first standard.NullIf = refl
@@ -111,6 +147,9 @@ first standard.Reverse = refl
 first standard.ConcatAll = refl
 first standard.TryTextToTruth = refl
 first standard.RegexpLike = refl
+first standard.FloatNegate = refl
+first standard.IntToFloat = refl
+first standard.WidenFloat = refl
 first (standard.Extreme Greatest) = refl
 first (standard.Extreme Least) = refl
 first (standard.TruthTest IsTrue) = refl
@@ -136,6 +175,12 @@ first (standard.TryCast f) = first_try_cast f.ptype
 first (standard.TryTextToInt f) = first_try_text f.ptype
 first (standard.Letters Lower) = refl
 first (standard.Letters Upper) = refl
+first (standard.FloatOperator float.Add) = refl
+first (standard.FloatOperator float.Subtract) = refl
+first (standard.FloatOperator float.Multiply) = refl
+first (standard.FloatOperator float.Divide) = refl
+first (standard.DecimalToFloat s) = first_decimal s
+first (standard.FloatToInt f) = first_float_cast f.ptype
 
 -- a function's name names that function
 pub named_back : (f : Standard) → standard_named (name_of f) ≡ Some f
@@ -154,9 +199,12 @@ found_passes p q (y ∷ ys) x e h =
     by false true k l later m n = later m n
     by b false k l later m n = cc
 
--- what holds of each function of the list holds of any
-pub of_each : (q : Standard → Bool) → list_all q FUNCTIONS ≡ true → (f : Standard) → q f ≡ true
-of_each q e f = found_passes (has_name (name_of f)) q FUNCTIONS f (first f) e
+-- what holds of each function of the lists holds of any
+pub of_each : (q : Standard → Bool) → list_all q functions ≡ true → (f : Standard) → q f ≡ true
+of_each q e f = found_passes (has_name (name_of f)) q functions f (first f) e
 
 pub name_is_word : (f : Standard) → is_name (name_of f) ≡ true
 name_is_word = of_each (λ f. is_name (name_of f)) refl
+
+pub short_names : list_all (λ f. is_short (name_of f)) FUNCTIONS ≡ true
+short_names = refl

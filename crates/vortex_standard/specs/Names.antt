@@ -1,11 +1,11 @@
 -- The names by which texts call the functions.
-use Rattle.std.specs.Prelude.{◌≡◌, ◌∷◌, ◌&&◌, ◌||◌, ◌==◌, codes, drop, length, map, nat_le, ℕ, []}
-use Rattle.std.specs.Prelude.{Bool, List, None, Option, Some, false, refl, true, if◌then◌else◌}
+use Rattle.std.specs.Prelude.{◌≡◌, ◌∷◌, ◌++◌, ◌&&◌, ◌||◌, ◌==◌, codes, drop, length, map, nat_le}
+use Rattle.std.specs.Prelude.{ℕ, [], Bool, List, None, Option, Some, false, refl, true, if◌then◌else◌}
 use Rattle.std.specs.Char.{is_ascii_digit, is_ascii_lowercase, to_ascii_lowercase}
 use Rattle.std.specs.List.{find, list_all}
 use Rattle.std.specs.Option.{option_or}
 use Rattle.std.specs.Str.{bytes_eq}
-use Rattle.vortex_standard.specs.declared.names.TheConstants.{FUNCTIONS}
+use Rattle.vortex_standard.specs.declared.names.TheConstants.{FUNCTIONS, KEY_FUNCTIONS}
 use Rattle.vortex_standard.specs.declared.standard.Standard.{Standard}
 use Rattle.vortex_standard.specs.declared.standard.Standard.TheVariants as standard
 use Rattle.vortex_sql_texts.specs.declared.texts.Measure.TheVariants.{Characters}
@@ -34,14 +34,22 @@ alias_of w =
     else if same_word w (codes "character_length") then Some (standard.Measure Characters)
     else None
 
+-- every function
+abbrev pub functions : List Standard
+functions = FUNCTIONS ++ KEY_FUNCTIONS
+
 -- the function that a word names, in either case
 abbrev pub standard_named : List ℕ → Option Standard
-standard_named w = option_or (find (has_name w) FUNCTIONS) (alias_of w)
+standard_named w = option_or (find (has_name w) functions) (alias_of w)
 
 abbrev pub is_name_byte : ℕ → Bool
 is_name_byte b = is_ascii_lowercase b || is_ascii_digit b || (b == 95)
 
--- a lower-case letter, and lower-case letters, digits and `_`; at most 16 bytes
+-- a lower-case letter, and lower-case letters, digits and `_`; at most 19 bytes
 abbrev pub is_name : List ℕ → Bool
 is_name [] = false
-is_name (b ∷ bs) = is_ascii_lowercase b && list_all is_name_byte bs && nat_le (length bs) 15
+is_name (b ∷ bs) = is_ascii_lowercase b && list_all is_name_byte bs && nat_le (length bs) 18
+
+-- at most 16 bytes
+abbrev pub is_short : List ℕ → Bool
+is_short w = nat_le (length w) 16

@@ -35,6 +35,12 @@ use Rattle.vortex_sql_texts.specs.Trims.{trim_row, trim_lawful}
 use Rattle.vortex_sql_try_casts.specs.TryCasts.{try_cast_row, try_cast_lawful, try_text_row}
 use Rattle.vortex_sql_try_casts.specs.TryCasts.{try_text_lawful, try_truth_row, try_truth_lawful}
 use Rattle.vortex_sql_texts.specs.Texts.{begins_row, begins_lawful, measure_row, measure_lawful}
+use Rattle.vortex_sql_floats.specs.ArithmeticRows as floats
+use Rattle.vortex_sql_floats.specs.Conversions as conversions
+use Rattle.vortex_sql_floats.specs.Decimals.{decimal_row, decimal_lawful}
+use Rattle.vortex_sql_floats.specs.Negation.{negate_row, negate_lawful}
+use Rattle.vortex_sql_floats.specs.ToIntegers.{to_int_row, to_int_lawful}
+use Rattle.vortex_standard.specs.Scales.{scale_number}
 
 abbrev pub row_of : Standard → Row
 row_of standard.Coalesce = coalesce_row
@@ -61,6 +67,9 @@ row_of standard.Reverse = reverse_row
 row_of standard.ConcatAll = concat_all_row
 row_of standard.TryTextToTruth = try_truth_row
 row_of standard.RegexpLike = regexp_like_row
+row_of standard.FloatNegate = negate_row
+row_of standard.IntToFloat = conversions.from_int_row
+row_of standard.WidenFloat = conversions.widen_row
 row_of (standard.Extreme x) = extreme_row x
 row_of (standard.TruthTest t) = test_row t
 row_of (standard.BitOperator o) = operator_row o
@@ -75,6 +84,9 @@ row_of (standard.TextToInt f) = int_cast_row f.ptype
 row_of (standard.TryCast f) = try_cast_row f.ptype
 row_of (standard.TryTextToInt f) = try_text_row f.ptype
 row_of (standard.Letters l) = letters_row l
+row_of (standard.FloatOperator o) = floats.operator_row o
+row_of (standard.DecimalToFloat s) = decimal_row (scale_number s)
+row_of (standard.FloatToInt f) = to_int_row f.ptype
 
 pub lawful_of : (f : Standard) → LawfulRow (row_of f)
 lawful_of standard.Coalesce = coalesce_lawful
@@ -101,6 +113,9 @@ lawful_of standard.Reverse = reverse_lawful
 lawful_of standard.ConcatAll = concat_all_lawful
 lawful_of standard.TryTextToTruth = try_truth_lawful
 lawful_of standard.RegexpLike = regexp_like_lawful
+lawful_of standard.FloatNegate = negate_lawful
+lawful_of standard.IntToFloat = conversions.from_int_lawful
+lawful_of standard.WidenFloat = conversions.widen_lawful
 lawful_of (standard.Extreme x) = extreme_lawful x
 lawful_of (standard.TruthTest t) = test_lawful t
 lawful_of (standard.BitOperator o) = operator_lawful o
@@ -115,6 +130,9 @@ lawful_of (standard.TextToInt f) = int_cast_lawful f.ptype
 lawful_of (standard.TryCast f) = try_cast_lawful f.ptype
 lawful_of (standard.TryTextToInt f) = try_text_lawful f.ptype
 lawful_of (standard.Letters l) = letters_lawful l
+lawful_of (standard.FloatOperator o) = floats.operator_lawful o
+lawful_of (standard.DecimalToFloat s) = decimal_lawful (scale_number s)
+lawful_of (standard.FloatToInt f) = to_int_lawful f.ptype
 
 -- What follows comes of the list.
 

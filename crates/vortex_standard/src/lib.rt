@@ -3,13 +3,17 @@
 
 pub mod error_texts;
 pub mod names;
+pub mod scales;
 pub mod standard;
 
 pub use error_texts::ErrorText;
-pub use names::{FUNCTIONS, named};
+pub use names::{FUNCTIONS, KEY_FUNCTIONS, named};
+pub use scales::DecimalScale;
 pub use standard::Standard;
 pub use vortex_sql_choices::extremes::Extreme;
 pub use vortex_sql_choices::truth_tests::TruthTest;
+pub use vortex_sql_floats::floats::FloatOperator;
+pub use vortex_sql_floats::integers::FloatToInt;
 pub use vortex_sql_numbers::bits::{BitOperator, Shift};
 pub use vortex_sql_numbers::integer_casts::{Cast, Widen};
 pub use vortex_sql_numbers::truth_casts::TruthToInt;

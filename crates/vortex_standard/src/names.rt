@@ -1,14 +1,17 @@
 //! The names by which texts call the functions.
 ghost use Rattle.std.specs.Prelude.{◌≡◌, Some, true};
-ghost use Rattle.std.specs.List.{find};
+ghost use Rattle.std.specs.List.{find, list_all};
 ghost use Rattle.vortex_standard.specs.Names.{name_of, same_word, has_name, alias_of};
-ghost use Rattle.vortex_standard.specs.Names.{is_name, standard_named};
+ghost use Rattle.vortex_standard.specs.Names.{functions, is_name, is_short, standard_named};
 
+use crate::scales::DecimalScale;
 use crate::standard::Standard;
 use vortex_columns::PType;
 use vortex_functions::ScalarFnVTable;
 use vortex_sql_choices::extremes::Extreme;
 use vortex_sql_choices::truth_tests::TruthTest;
+use vortex_sql_floats::floats::FloatOperator;
+use vortex_sql_floats::integers::FloatToInt;
 use vortex_sql_numbers::bits::{BitOperator, Shift};
 use vortex_sql_numbers::integer_casts::{Cast, Widen};
 use vortex_sql_numbers::truth_casts::TruthToInt;
@@ -18,7 +21,7 @@ use vortex_sql_texts::text_casts::TextToInt;
 use vortex_sql_texts::texts::Measure;
 use vortex_sql_texts::trims::Trim;
 
-/// The functions, each once.
+/// The functions that texts are written with, each once.
 pub const FUNCTIONS: [Standard; 91] = [
     Standard::Coalesce,
     Standard::NullIf,
@@ -113,6 +116,44 @@ pub const FUNCTIONS: [Standard; 91] = [
     Standard::Letters(Letters::Upper),
 ];
 
+/// The functions on stored keys, each once: what arithmetic over columns of floats calls.
+pub const KEY_FUNCTIONS: [Standard; 34] = [
+    Standard::FloatNegate,
+    Standard::IntToFloat,
+    Standard::WidenFloat,
+    Standard::FloatOperator(FloatOperator::Add),
+    Standard::FloatOperator(FloatOperator::Subtract),
+    Standard::FloatOperator(FloatOperator::Multiply),
+    Standard::FloatOperator(FloatOperator::Divide),
+    Standard::DecimalToFloat(DecimalScale::S0),
+    Standard::DecimalToFloat(DecimalScale::S1),
+    Standard::DecimalToFloat(DecimalScale::S2),
+    Standard::DecimalToFloat(DecimalScale::S3),
+    Standard::DecimalToFloat(DecimalScale::S4),
+    Standard::DecimalToFloat(DecimalScale::S5),
+    Standard::DecimalToFloat(DecimalScale::S6),
+    Standard::DecimalToFloat(DecimalScale::S7),
+    Standard::DecimalToFloat(DecimalScale::S8),
+    Standard::DecimalToFloat(DecimalScale::S9),
+    Standard::DecimalToFloat(DecimalScale::S10),
+    Standard::DecimalToFloat(DecimalScale::S11),
+    Standard::DecimalToFloat(DecimalScale::S12),
+    Standard::DecimalToFloat(DecimalScale::S13),
+    Standard::DecimalToFloat(DecimalScale::S14),
+    Standard::DecimalToFloat(DecimalScale::S15),
+    Standard::DecimalToFloat(DecimalScale::S16),
+    Standard::DecimalToFloat(DecimalScale::S17),
+    Standard::DecimalToFloat(DecimalScale::S18),
+    Standard::FloatToInt(FloatToInt { ptype: PType::I8 }),
+    Standard::FloatToInt(FloatToInt { ptype: PType::I16 }),
+    Standard::FloatToInt(FloatToInt { ptype: PType::I32 }),
+    Standard::FloatToInt(FloatToInt { ptype: PType::I64 }),
+    Standard::FloatToInt(FloatToInt { ptype: PType::U8 }),
+    Standard::FloatToInt(FloatToInt { ptype: PType::U16 }),
+    Standard::FloatToInt(FloatToInt { ptype: PType::U32 }),
+    Standard::FloatToInt(FloatToInt { ptype: PType::U64 }),
+];
+
 fn is_same_word(word: &[u8], other: &[u8]) -> bool
     ensures { result ≡ same_word word.now other.now }
 {
@@ -158,11 +199,19 @@ fn first_named(word: &[u8], functions: &[Standard]) -> Option<Standard>
     None
 }
 
+/// The function of the lists that has the name.
+#[tactic(auto, using(crate::proofs::Listed::in_either))]
+fn listed(word: &[u8]) -> Option<Standard>
+    ensures { result ≡ find (has_name word.now) functions }
+{
+    first_named(word, &FUNCTIONS).or(first_named(word, &KEY_FUNCTIONS))
+}
+
 /// The function that a word names, ignoring the case of ASCII letters.
 pub fn named(word: &[u8]) -> Option<Standard>
     ensures { result ≡ standard_named word.now }
 {
-    first_named(word, &FUNCTIONS).or(alias_of(word))
+    listed(word).or(alias_of(word))
 }
 
 impl Standard {
@@ -181,8 +230,10 @@ pub fn names_are_read_back()
     ensures { (f : Standard) → standard_named (name_of f) ≡ Some f }
 {}
 
-/// A function's name is a lower-case letter, and lower-case letters, digits and `_`.
-#[tactic(auto, using(crate::specs::NameLaws::name_is_word))]
+/// A function's name is a lower-case letter, and lower-case letters, digits and `_`: at most 19, of
+/// those that texts are written with at most 16.
+#[tactic(auto, using(crate::specs::NameLaws::name_is_word, crate::specs::NameLaws::short_names))]
 pub fn names_are_words()
-    ensures { (f : Standard) → is_name (name_of f) ≡ true }
+    ensures words { (f : Standard) → is_name (name_of f) ≡ true }
+    ensures short { list_all (λ f. is_short (name_of f)) FUNCTIONS ≡ true }
 {}

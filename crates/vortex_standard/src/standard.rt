@@ -5,6 +5,7 @@ ghost use Rattle.vortex_standard.specs.Standard.{row_of, standard_meaning};
 ghost use Rattle.vortex_standard.specs.StandardLaws.{standard_lawful, standard_rules_lawful};
 ghost use Rattle.vortex_standard.specs.StandardLaws.{standard_identity};
 
+use crate::scales::DecimalScale;
 use std::alloc::Global;
 use vortex_columns::{Arity, Column, DType, ExecutionCtx, VortexResult};
 use vortex_functions::{
@@ -16,6 +17,10 @@ use vortex_sql_calls::call::{execute_rows, row_dtype};
 use vortex_sql_calls::maker::{execute_texts, text_dtype};
 use vortex_sql_choices::extremes::Extreme;
 use vortex_sql_choices::truth_tests::TruthTest;
+use vortex_sql_float_columns::execute_float_operator;
+use vortex_sql_floats::decimals::DecimalToFloat;
+use vortex_sql_floats::floats::FloatOperator;
+use vortex_sql_floats::integers::FloatToInt;
 use vortex_sql_in_list::execute_in_list;
 use vortex_sql_numbers::bits::{BitOperator, Shift};
 use vortex_sql_numbers::integer_casts::{Cast, Widen};
@@ -141,6 +146,22 @@ macro_rules! with_row {
                 let $f = &vortex_sql_patterns::regexp_like::RegexpLike;
                 $patterns
             }
+            Standard::FloatNegate => {
+                let $f = &vortex_sql_floats::negation::FloatNegate;
+                $rows
+            }
+            Standard::IntToFloat => {
+                let $f = &vortex_sql_floats::conversions::IntToFloat;
+                $rows
+            }
+            Standard::WidenFloat => {
+                let $f = &vortex_sql_floats::conversions::WidenFloat;
+                $rows
+            }
+            Standard::DecimalToFloat(scale) => {
+                let $f = &DecimalToFloat { scale: scale.number() };
+                $rows
+            }
             Standard::Extreme($f) => $rows,
             Standard::TruthTest($f) => $rows,
             Standard::BitOperator($f) => $rows,
@@ -153,6 +174,8 @@ macro_rules! with_row {
             Standard::Trim($f) => $rows,
             Standard::TextToInt($f) => $rows,
             Standard::Letters($f) => $texts,
+            Standard::FloatOperator($f) => $rows,
+            Standard::FloatToInt($f) => $rows,
         }
     };
 }
@@ -184,6 +207,9 @@ pub enum Standard {
     ConcatAll,
     TryTextToTruth,
     RegexpLike,
+    FloatNegate,
+    IntToFloat,
+    WidenFloat,
     Extreme(Extreme),
     TruthTest(TruthTest),
     BitOperator(BitOperator),
@@ -198,6 +224,9 @@ pub enum Standard {
     TryCast(Cast),
     TryTextToInt(TextToInt),
     Letters(Letters),
+    FloatOperator(FloatOperator),
+    DecimalToFloat(DecimalScale),
+    FloatToInt(FloatToInt),
 }
 
 impl Standard {
@@ -250,6 +279,9 @@ impl ScalarFnVTable for Standard {
     ) -> VortexResult<Column> {
         if let Standard::InList = self {
             return execute_in_list(args, ctx);
+        }
+        if let Standard::FloatOperator(operator) = self {
+            return execute_float_operator(*operator, args, ctx);
         }
         with_row!(
             self,
