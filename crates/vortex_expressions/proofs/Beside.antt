@@ -25,7 +25,9 @@ use Rattle.vortex_expressions.specs.Literals as literal
 use Rattle.vortex_expressions.specs.Literals.{Literal, own_type, number_type, type_beside}
 use Rattle.vortex_expressions.specs.Outcomes.{answers, and_then, or_refuses}
 use Rattle.vortex_expressions.specs.declared.refusal.Refusal.TheVariants.{UntypedNull}
-use Rattle.vortex_expressions.specs.Items.{Item, literal, bound, Tree, meaning, bound_type}
+use Rattle.vortex_expressions.specs.Items.{Item, literal, bound, kinded, Tree, meaning}
+use Rattle.vortex_expressions.specs.Items.{bound_type}
+use Rattle.vortex_expressions.specs.Kinded.{is_kinded, stored_item}
 use Rattle.vortex_expressions.specs.Items.{literal_type, first_some, common_type, constant_at}
 use Rattle.vortex_expressions.specs.Items.{settled, widened, meeting}
 use Rattle.vortex_expressions.specs.Meeting.{meeting_type}
@@ -75,6 +77,7 @@ pub settles : (o : Option LogicalType) (i : Item) (t : Tree) (ty : LogicalType) 
 settles o (bound u) t ty st e h =
     ap (λ v. meeting o (tree_type meaning v) v) st ∙ ap (λ p. meeting o p t) e
     ∙ stays_there o t ty h
+settles o (kinded k u) t ty st e h = absurd st
 settles o (literal l) t ty st e h =
     let s = st.0 in
     let is : s.dtype ≡ ty = some_is s.dtype ty (ap (tree_type meaning) st.1 ∙ e) in
@@ -82,15 +85,28 @@ settles o (literal l) t ty st e h =
     ap (λ v. and_then (or_refuses UntypedNull v) (constant_at l)) (takes_own o l ty own_here h)
     ∙ ap (constant_at l) (sym is) ∙ st.3 ∙ ap (λ v. answers v) st.1
 
+-- it has no kind
+pub stands_plain : (i : Item) (t : Tree) → Stands i t → is_kinded i ≡ false
+stands_plain (bound u) t st = refl
+stands_plain (literal l) t st = refl
+stands_plain (kinded k u) t st = absurd st
+
+pub stands_stored : (i : Item) (t : Tree) → Stands i t → stored_item i ≡ i
+stands_stored (bound u) t st = refl
+stands_stored (literal l) t st = refl
+stands_stored (kinded k u) t st = absurd st
+
 -- the type of an item, if it has one
 pub bound_is : (i : Item) (t : Tree) (ty u : LogicalType) → Stands i t → tree_type meaning t ≡ Some ty
     → bound_type i ≡ Some u → u ≡ ty
 bound_is (bound v) t ty u st e h = some_is u ty (sym h ∙ ap (tree_type meaning) st ∙ e)
+bound_is (kinded k v) t ty u st e h = absurd st
 bound_is (literal l) t ty u st e h = absurd cc
 
 pub literal_type_is : (i : Item) (t : Tree) (ty u : LogicalType) → Stands i t
     → tree_type meaning t ≡ Some ty → literal_type i ≡ Some u → u ≡ ty
 literal_type_is (bound v) t ty u st e h = absurd cc
+literal_type_is (kinded k v) t ty u st e h = absurd st
 literal_type_is (literal l) t ty u st e h =
     some_is u ty (sym h ∙ st.2 ∙ ap (tree_type meaning) st.1 ∙ e)
 

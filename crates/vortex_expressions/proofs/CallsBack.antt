@@ -46,6 +46,8 @@ use Rattle.vortex_expressions.proofs.Options.{some_is, both_is, three_is, mapped
 use Rattle.vortex_expressions.proofs.LiteralsBack.{quoted_text, Standing, tree_standing}
 use Rattle.vortex_expressions.proofs.LiteralsBack.{at_level_item, column_standing, bool_back}
 use Rattle.vortex_expressions.proofs.LiteralsBack.{constant_standing}
+use Rattle.vortex_expressions.proofs.PlainItems.{joined_plain, between_plain}
+use Rattle.vortex_expressions.proofs.Beside.{stands_plain, stands_stored}
 use Rattle.vortex_expressions.proofs.Beside.{settles, no_option, Operand, three_beside, none_beside}
 use Rattle.vortex_expressions.proofs.Beside.{other_beside, settled_operand, operator_pair}
 use Rattle.vortex_expressions.proofs.Beside.{operator_back, bounded_alike}
@@ -136,6 +138,8 @@ module _ (scope : Fields) where
       tree_standing scope a (call (ours (NullTest n)) (trees.tree x no_trees))
       (ap (item_of scope) (sym m.made)
       ∙ ap (λ i. and_then i (tested_item test.Null n)) (placed is_level m.a x s)
+      ∙ ap (λ i. as_item (called (ours (NullTest n)) None (i ∷ [])))
+      (stands_stored p.item x s.stands)
       ∙ ap as_item
       (one_called (ours (NullTest n)) None p.item x
       (settled_operand None p (none_beside p.dtype)) h))
@@ -188,6 +192,8 @@ module _ (scope : Fields) where
       (λ v. and_then (item_of scope (at_level (right w) m.b)) (joined_item w v)))
       (placed (left w) m.a x s)
       ∙ ap (λ i. and_then i (joined_item w p.item)) (placed (right w) m.b y r)
+      ∙ joined_plain w p.item q.item (stands_plain p.item x s.stands)
+      (stands_plain q.item y r.stands)
       ∙ ap (λ f. as_item (called f beside (p.item ∷ q.item ∷ []))) (operator_back o)
       ∙ ap as_item
       (two_called (ours (Binary o)) beside p.item q.item x y
@@ -270,6 +276,9 @@ module _ (scope : Fields) where
       ∙ ap (λ i. and_then i (λ l. and_then (item_of scope high) (between_item plain_kind p.item l)))
       (placed concat_level m.b y r)
       ∙ ap (λ i. and_then i (between_item plain_kind p.item q.item)) (placed concat_level m.c z u)
+      ∙ ap (λ v. as_item (and_then v (λ t. answers t)))
+      (between_plain p.item q.item w.item (stands_plain p.item x s.stands)
+      (stands_plain q.item y r.stands) (stands_plain w.item z u.stands))
       ∙ ap (λ v. as_item (and_then (called (ours (Between v)) beside is) (λ t. answers t)))
       (within_is o g.so)
       ∙ ap (λ v. as_item (and_then v (λ t. answers t)))

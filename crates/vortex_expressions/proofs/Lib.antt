@@ -10,6 +10,7 @@ pub mod Options
 pub mod MetTypes
 pub mod FunctionNames
 pub mod NamedSyntax
+pub mod PlainItems
 pub mod SyntaxLevels
 pub mod SyntaxNests
 pub mod SyntaxWritten
@@ -29,6 +30,7 @@ pub mod ReadOver
 pub mod Saying
 pub mod Finding
 pub mod SureCalls
+pub mod SureKinds
 pub mod Sure
 pub mod Why
 pub mod Likened

@@ -42,7 +42,7 @@ use Rattle.vortex_expressions.specs.Literals as literal
 use Rattle.vortex_expressions.specs.Literals.{Literal, own_type}
 use Rattle.vortex_expressions.specs.Outcomes.{answers, and_then, or_refuses}
 use Rattle.vortex_expressions.specs.declared.refusal.Refusal.TheVariants.{UnknownType}
-use Rattle.vortex_expressions.specs.Items.{Item, literal, bound, Tree, constant_at}
+use Rattle.vortex_expressions.specs.Items.{Item, literal, bound, kinded, Tree, constant_at}
 use Rattle.vortex_expressions.specs.Calls.{unquoted_behind, unquoted, text_of, between_quotes}
 use Rattle.vortex_expressions.specs.Calls.{as_item, field_found, column_of, operand_item}
 use Rattle.vortex_expressions.specs.Calls.{type_of_name, typed_item}
@@ -73,6 +73,7 @@ quoted_text q bs u = ap text_of (unquoted_doubled q bs) ∙ utf8_text bs u
 -- an item of a tree: the tree, or a literal with its default type
 abbrev pub Stands : Item → Tree → Type 0
 Stands (bound u) t = u ≡ t
+Stands (kinded k u) t = ⊥
 Stands (literal l) t = (s : ScalarView) × (constant s ≡ t) × (own_type l ≡ Some s.dtype)
     × (constant_at l s.dtype ≡ answers (constant s))
 
@@ -99,8 +100,8 @@ pub column_standing : (scope : Fields) (p : ℕ) (w : List ℕ) (t : LogicalType
     → operand_item scope (name_token w) ≡ answers (bound (leaf (place p w t)))
 column_standing scope p w t h u = by (is_bare w)
   where
-    found : field_found w (find_field w scope) ≡ answers (bound (leaf (place p w t)))
-    found = ap (field_found w) h
+    found : field_found [] w (find_field w scope) ≡ answers (bound (leaf (place p w t)))
+    found = ap (field_found [] w) h
 
     by : (b : Bool) → operand_item scope (if b then token.name w else token.quoted (doubled 34 w))
         ≡ answers (bound (leaf (place p w t)))

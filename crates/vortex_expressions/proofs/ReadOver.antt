@@ -1,7 +1,7 @@
 -- The meaning of an expression fits the scope that it is read over.
 use Rattle.std.specs.Prelude.{codes, if◌then◌else◌}
 use Rattle.std.proofs.Common.{◌≡◌, ℕ, Bool, true, false, List, [], ◌∷◌, length, Option, Some, None}
-use Rattle.std.proofs.Common.{refl, sym, subst, reverse, ◌++◌}
+use Rattle.std.proofs.Common.{refl, sym, subst, reverse, ◌++◌, ◌∙◌}
 use Rattle.std.proofs.lemmas.List.{reverse-append}
 use Rattle.std.specs.Prelude.{is_some, IsUtf8, ⊤, MatchOption}
 use Rattle.std.specs.Char.{IsScalar}
@@ -51,7 +51,7 @@ use Rattle.vortex_sql_rows.specs.declared.types.Takes.{Takes}
 use Rattle.vortex_sql_rows.specs.declared.types.Takes.TheVariants.{Alike, Each, Cases}
 use Rattle.vortex_standard.specs.Standard.{row_of}
 use Rattle.vortex_standard.specs.Names.{standard_named}
-use Rattle.vortex_expressions.specs.Items.{Item, literal, bound, Tree, Callable, meaning}
+use Rattle.vortex_expressions.specs.Items.{Item, literal, bound, kinded, Tree, Callable, meaning}
 use Rattle.vortex_expressions.specs.Items.{common_type, constant_at, settled, all_settled, call_of}
 use Rattle.vortex_expressions.specs.Items.{called, callable, refused_at, place_of, unfit, widened}
 use Rattle.vortex_expressions.specs.Items.{meeting}
@@ -59,7 +59,7 @@ use Rattle.vortex_expressions.specs.Calls.{unquoted, text_of, between_quotes, as
 use Rattle.vortex_expressions.specs.Calls.{column_of, sign_item, text_item, operand_item}
 use Rattle.vortex_expressions.specs.Calls.{type_of_name, typed_item, cast_to, cast_item, truth_type}
 use Rattle.vortex_expressions.specs.Calls.{written_function, joined_type, negated_if, not_item}
-use Rattle.vortex_expressions.specs.Calls.{joined_item, tested_item, distinct_item, within_bounds, between_all}
+use Rattle.vortex_expressions.specs.Calls.{joined_item, tested_item, distinct_item, within_bounds}
 use Rattle.vortex_expressions.specs.Calls.{between_item, like_options, escape_said, escape_in}
 use Rattle.vortex_expressions.specs.Calls.{liked_item, matched_item, minus_item, listed_item}
 use Rattle.vortex_expressions.specs.Calls.{plus_item, bit_not_item, is_number}
@@ -69,7 +69,8 @@ use Rattle.vortex_expressions.specs.Applied.{function_call, applied_item}
 use Rattle.vortex_expressions.specs.Meeting.{widened_to}
 use Rattle.vortex_expressions.specs.Casts.{cast_function, cast_by, cast_from, cast_tree, cast_hint}
 use Rattle.vortex_expressions.specs.Casts.{tried_if}
-use Rattle.vortex_expressions.specs.Calls.{between_tree}
+use Rattle.vortex_expressions.specs.Calls.{between_tree, between_three, stored_item, is_kinded}
+use Rattle.vortex_expressions.proofs.PlainItems.{joined_plain, between_plain}
 use Rattle.vortex_operators.specs.declared.operators.Operator.TheVariants as operator
 use Rattle.std.specs.Option.{option_map}
 use Rattle.vortex_syntax.specs.declared.step.BetweenKind.{BetweenKind}
@@ -84,6 +85,7 @@ use Rattle.vortex_expressions.proofs.LiteralsOver.{text_read, IsText, value_type
 module _ (scope : Fields) where
   abbrev ItemOver : Item → Type 0
   ItemOver (bound t) = IsOver scope t
+  ItemOver (kinded k t) = ⊥
   ItemOver (literal l) = IsText l
 
   constant_over : (l : Literal) (ty : LogicalType) (t : Tree) → IsText l
@@ -136,6 +138,7 @@ module _ (scope : Fields) where
   settled_over : (o : Option LogicalType) (i : Item) (t : Tree) → ItemOver i
       → settled o i ≡ answers t → IsOver scope t
   settled_over o (bound u) t h e = meeting_over o (tree_type meaning u) u t h e
+  settled_over o (kinded k u) t h e = absurd h
   settled_over o (literal l) t h e =
       let m = then_is (or_refuses UntypedNull (type_beside o l)) (constant_at l) t e in
       constant_over l m.a t h m.second
@@ -167,7 +170,7 @@ module _ (scope : Fields) where
   column_over : (w : List ℕ) (i : Item) → IsUtf8 w → column_of scope w ≡ answers i → ItemOver i
   column_over w i u e = by (find_field w scope) refl e
     where
-      by : (o : Option (ℕ × LogicalType)) → find_field w scope ≡ o → field_found w o ≡ answers i
+      by : (o : Option (ℕ × LogicalType)) → find_field w scope ≡ o → field_found [] w o ≡ answers i
           → ItemOver i
       by None h g = absurd cc
       by (Some p) h g = subst ItemOver (answers_is (bound (leaf (place p.0 w p.1))) i g) (h, u)
@@ -205,6 +208,7 @@ module _ (scope : Fields) where
   typed_over : (w : List ℕ) (n : Bool) (j i : Item) → ItemOver j → typed_item w n j ≡ answers i
       → ItemOver i
   typed_over w n (bound t) i h e = absurd cc
+  typed_over w n (kinded k t) i h e = absurd h
   typed_over w n (literal l) i h e =
       as_item_over (and_then (type_of_name w n) (constant_at l)) i
       (λ t g. let m = then_is (type_of_name w n) (constant_at l) t g in
@@ -248,11 +252,22 @@ module _ (scope : Fields) where
       as_item_over (called (ours Not) truth_type (j ∷ [])) i
       (λ t g. called_over (ours Not) truth_type (j ∷ []) t tt (h, tt) g) e
 
+  stored_over : (j : Item) → ItemOver j → ItemOver (stored_item j)
+  stored_over (bound t) h = h
+  stored_over (literal l) h = h
+  stored_over (kinded k t) h = absurd h
+
+  over_plain : (j : Item) → ItemOver j → is_kinded j ≡ false
+  over_plain (bound t) h = refl
+  over_plain (literal l) h = refl
+  over_plain (kinded k t) h = absurd h
+
   null_over : (n : Bool) (j i : Item) → ItemOver j → tested_item test.Null n j ≡ answers i
       → ItemOver i
   null_over n j i h e =
-      as_item_over (called (ours (NullTest n)) None (j ∷ [])) i
-      (λ t g. called_over (ours (NullTest n)) None (j ∷ []) t tt (h, tt) g) e
+      let s = stored_item j in
+      as_item_over (called (ours (NullTest n)) None (s ∷ [])) i
+      (λ t g. called_over (ours (NullTest n)) None (s ∷ []) t tt (stored_over j h, tt) g) e
 
   written_callable : (o : syntax.WrittenOperator) → IsCallable (written_function o)
   written_callable written.Or = tt
@@ -281,7 +296,7 @@ module _ (scope : Fields) where
       let is = j ∷ k ∷ [] in
       as_item_over (called (written_function o) (joined_type o is) is) i
       (λ t m. called_over (written_function o) (joined_type o is) is t (written_callable o)
-      (h, (g, tt)) m) e
+      (h, (g, tt)) m) (sym (joined_plain o j k (over_plain j h) (over_plain k g)) ∙ e)
 
   negated_over : (n : Bool) (u t : Tree) → IsOver scope u → negated_if n u ≡ answers t
       → IsOver scope t
@@ -343,20 +358,22 @@ module _ (scope : Fields) where
   tested_over test.Unknown n j i h e = truth_over (standard.TruthTest IsUnknown) n j i h e
 
   within_over : (j k l : Item) (t : Tree) → ItemOver j → ItemOver k → ItemOver l
-      → between_all (j ∷ k ∷ l ∷ []) ≡ answers t → IsOver scope t
+      → between_three j k l ≡ answers t → IsOver scope t
   within_over j k l t h g m e =
       let is = j ∷ k ∷ l ∷ [] in
-      called_over (ours (Between within_bounds)) (common_type is) is t tt (h, (g, (m, tt))) e
+      let plain = between_plain j k l (over_plain j h) (over_plain k g) (over_plain l m) in
+      called_over (ours (Between within_bounds)) (common_type is) is t tt (h, (g, (m, tt)))
+      (sym plain ∙ e)
 
   bounds_over : (s : Bool) (j k l : Item) (t : Tree) → ItemOver j → ItemOver k → ItemOver l
       → between_tree s j k l ≡ answers t → IsOver scope t
   bounds_over false j k l t h g m e = within_over j k l t h g m e
   bounds_over true j k l t h g m e =
       let f : Callable = ours (Binary operator.Or) in
-      let x = then_is (between_all (j ∷ k ∷ l ∷ []))
-      (λ u. and_then (between_all (j ∷ l ∷ k ∷ []))
+      let x = then_is (between_three j k l)
+      (λ u. and_then (between_three j l k)
       (λ v. called f None (bound u ∷ bound v ∷ []))) t e in
-      let y = then_is (between_all (j ∷ l ∷ k ∷ []))
+      let y = then_is (between_three j l k)
       (λ v. called f None (bound x.a ∷ bound v ∷ [])) t x.second in
       called_over f None (bound x.a ∷ bound y.a ∷ []) t tt
       (within_over j k l x.a h g m x.first, (within_over j l k y.a h m g y.first, tt)) y.second

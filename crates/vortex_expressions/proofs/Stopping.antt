@@ -20,6 +20,8 @@ unless-weaker refusal.UntypedNull f h = f h
 unless-weaker refusal.NoEscape f h = f h
 unless-weaker refusal.NoCast f h = f h
 unless-weaker refusal.NoFunction f h = f h
+unless-weaker (refusal.OfKind k) f h = f h
+unless-weaker (refusal.Kinds r) f h = f h
 
 -- where the first call stops, both do
 pub stops_first : {A B : Type 0} (o : Outcome A) (f : A → Outcome B) (s : BindStop)

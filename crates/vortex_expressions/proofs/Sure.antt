@@ -1,10 +1,10 @@
 -- No part of an expression is missing.
-use Rattle.std.proofs.Common.{◌≡◌, ℕ, ◌≤◌, Bool, true, false, List, [], ◌∷◌, length, Option}
+use Rattle.std.proofs.Common.{◌≡◌, ℕ, ◌≤◌, ◌||◌, Bool, true, false, List, [], ◌∷◌, length, Option}
 use Rattle.std.proofs.Common.{Some, None, refl, ap, sym, subst, arith, reverse, ◌++◌}
 use Rattle.std.proofs.lemmas.List.{reverse-append}
 use Rattle.std.specs.Prelude.{IfSome, codes}
 use Rattle.std.specs.Str.{chars}
-use Rattle.vortex_types.specs.LogicalTypes.{LogicalType, Fields, find_field, is_bool_type}
+use Rattle.vortex_types.specs.LogicalTypes.{LogicalType, Fields, is_bool_type}
 use Rattle.vortex_types.specs.LogicalTypes.{is_nullable, text_type}
 use Rattle.vortex_interface.specs.Meaning.{fits}
 use Rattle.vortex_interface.specs.Shipped.{Binary, Not, Cast, Between, Like}
@@ -40,9 +40,12 @@ use Rattle.vortex_standard.specs.Standard.{row_of}
 use Rattle.vortex_standard.specs.Names.{standard_named}
 use Rattle.vortex_expressions.specs.declared.refusal.Refusal.TheVariants.{NoFunction}
 use Rattle.vortex_expressions.specs.Outcomes.{Outcome, answers, or_refuses}
-use Rattle.vortex_expressions.specs.Items.{Tree, Item, literal, bound, meaning, settled, all_settled}
+use Rattle.vortex_expressions.specs.Items.{Tree, Item, literal, bound, kinded, meaning}
+use Rattle.vortex_expressions.specs.Items.{settled, all_settled}
 use Rattle.vortex_expressions.specs.Items.{call_of, called, callable, common_type, truth_type}
 use Rattle.vortex_expressions.specs.Calls as calls
+use Rattle.vortex_expressions.specs.Calls.{column_of, column_in}
+use Rattle.vortex_logical.specs.declared.kind.Kind.{Kind}
 use Rattle.vortex_expressions.specs.Applied.{values_of, cases_settled, arguments_settled}
 use Rattle.vortex_expressions.specs.Applied.{function_call, applied_item}
 use Rattle.vortex_expressions.specs.Casts.{cast_function, cast_by, cast_from, cast_tree, cast_hint}
@@ -50,8 +53,8 @@ use Rattle.std.specs.Option.{option_map}
 use Rattle.vortex_expressions.specs.Casts.{tried_if}
 use Rattle.vortex_syntax.specs.declared.step.BetweenKind.{BetweenKind}
 use Rattle.vortex_types.specs.TypeEquality.{alike_types}
-use Rattle.vortex_expressions.specs.Binding.{with_item, item_of, items_after, branch_items}
-use Rattle.vortex_expressions.specs.Binding.{tree_of}
+use Rattle.vortex_expressions.specs.Binding.{with_item, item_by, item_of, items_by, branches_by}
+use Rattle.vortex_expressions.specs.Binding.{tree_of, logical_of, ended}
 use Rattle.vortex_syntax.specs.Postfix.{has_operand, test_of}
 use Rattle.vortex_expressions.specs.Literals as literals
 use Rattle.vortex_expressions.specs.Answers.{name_of, written_name, answer_of, answers_of}
@@ -59,23 +62,24 @@ use Rattle.vortex_expressions.proofs.SureCalls.{Sure, sure_then, sure_or, sure_i
 use Rattle.vortex_expressions.proofs.SureCalls.{AllItems, AllTyped, sure_constant, sure_settled}
 use Rattle.vortex_expressions.proofs.SureCalls.{sure_all, sure_less, sure_named_call}
 use Rattle.vortex_expressions.proofs.SureCalls.{sure_type, sure_null, sure_called, sure_item}
-use Rattle.vortex_expressions.proofs.SureCalls.{sure_text, sure_quoted, sure_field, sure_named}
+use Rattle.vortex_expressions.proofs.SureCalls.{sure_text, sure_quoted, sure_column, sure_named}
+use Rattle.vortex_expressions.proofs.SureKinds.{sure_kinded_joined, sure_kinded_between, sure_stored}
 
-module _ (scope : Fields) where
+module _ (columns : List ℕ → Outcome Item) (sure_columns : (w : List ℕ) → Sure IsItem (columns w)) where
   sure_sign : (s : Sign) → is_operand (sign s) ≡ true → Sure IsItem (calls.sign_item s)
   sure_sign sign.True h = tt
   sure_sign sign.False h = tt
   sure_sign sign.Null h = tt
   sure_sign s h = absurd cc
 
-  sure_operand : (t : Token) → is_operand t ≡ true → Sure IsItem (calls.operand_item scope t)
+  sure_operand : (t : Token) → is_operand t ≡ true → Sure IsItem (calls.operand_by columns t)
   sure_operand (name w) h =
-      sure_then _ IsItem (calls.text_of w) _ (sure_text w) (λ v k. sure_field v (find_field v scope))
+      sure_then _ IsItem (calls.text_of w) _ (sure_text w) (λ v k. sure_columns v)
   sure_operand (nullable w) h = absurd cc
   sure_operand (function w) h = absurd cc
   sure_operand (quoted w) h =
       sure_then _ IsItem (calls.between_quotes 34 w) _ (sure_quoted 34 w)
-      (λ v k. sure_field v (find_field v scope))
+      (λ v k. sure_columns v)
   sure_operand (number ds) h =
       sure_then _ IsItem (calls.text_of ds) _ (sure_text ds) (λ v k. tt)
   sure_operand (text bs) h =
@@ -86,6 +90,7 @@ module _ (scope : Fields) where
   abbrev IsLiteral : Item → Type 0
   IsLiteral (literal l) = Unit {0}
   IsLiteral (bound t) = ⊥
+  IsLiteral (kinded k t) = ⊥
 
   literal_sign : (s : Sign) → is_operand (sign s) ≡ true → Sure IsLiteral (calls.sign_item s)
   literal_sign sign.True h = tt
@@ -94,7 +99,7 @@ module _ (scope : Fields) where
   literal_sign s h = absurd cc
 
   literal_token : (t : Token) → is_operand t ≡ true → 14 ≤ operand_level t
-      → Sure IsLiteral (calls.operand_item scope t)
+      → Sure IsLiteral (calls.operand_by columns t)
   literal_token (name w) h le = absurd (let k : ⊥ = omega (arith, le) in k)
   literal_token (nullable w) h le = absurd cc
   literal_token (function w) h le = absurd cc
@@ -105,7 +110,7 @@ module _ (scope : Fields) where
       sure_then _ IsLiteral (calls.between_quotes 39 bs) _ (sure_quoted 39 bs) (λ v k. tt)
   literal_token (sign s) h le = literal_sign s h
 
-  sure_literal : (t : Syntax) → Fits t → 14 ≤ level t → Sure IsLiteral (item_of scope t)
+  sure_literal : (t : Syntax) → Fits t → 14 ≤ level t → Sure IsLiteral (item_by columns t)
   sure_literal (tree.operand t) f le = literal_token t f le
   sure_literal (tree.negative ds) f le =
       sure_then _ IsLiteral (calls.text_of (45 ∷ ds)) _ (sure_text (45 ∷ ds)) (λ v k. tt)
@@ -133,6 +138,7 @@ module _ (scope : Fields) where
   sure_typed : (w : List ℕ) (n : Bool) (i : Item) → IsLiteral i
       → Sure IsItem (calls.typed_item w n i)
   sure_typed w n (bound t) h = absurd h
+  sure_typed w n (kinded k t) h = absurd h
   sure_typed w n (literal l) h =
       sure_item _ (sure_then _ IsTyped (calls.type_of_name w n) _ (sure_named w n)
       (λ t k. sure_constant l t))
@@ -227,7 +233,8 @@ module _ (scope : Fields) where
   sure_joined : (o : written.WrittenOperator) (a b : Item) → IsItem a → IsItem b
       → Sure IsItem (calls.joined_item o a b)
   sure_joined o a b h k =
-      sure_item _ (sure_written o (calls.joined_type o (a ∷ b ∷ [])) (a ∷ b ∷ []) refl (h, (k, tt)))
+      sure_if IsItem (calls.is_kinded a || calls.is_kinded b) _ _ (sure_kinded_joined o a b)
+      (sure_item _ (sure_written o (calls.joined_type o (a ∷ b ∷ [])) (a ∷ b ∷ []) refl (h, (k, tt))))
 
   sure_not : (o : Option LogicalType) (i : Item) → IsItem i
       → Sure IsTyped (called (ours Not) o (i ∷ []))
@@ -238,17 +245,19 @@ module _ (scope : Fields) where
   sure_negated false t h = h
 
   sure_within : (a b c : Item) → IsItem a → IsItem b → IsItem c
-      → Sure IsTyped (calls.between_all (a ∷ b ∷ c ∷ []))
+      → Sure IsTyped (calls.between_three a b c)
   sure_within a b c h k j =
-      sure_called (Between calls.within_bounds) _ (a ∷ b ∷ c ∷ []) refl (λ ks. refl)
-      (h, (k, (j, tt)))
+      sure_if IsTyped (calls.is_kinded a || (calls.is_kinded b || calls.is_kinded c)) _ _
+      (sure_kinded_between a b c)
+      (sure_called (Between calls.within_bounds) _ (a ∷ b ∷ c ∷ []) refl (λ ks. refl)
+      (h, (k, (j, tt))))
 
   sure_bounds : (s : Bool) (a b c : Item) → IsItem a → IsItem b → IsItem c
       → Sure IsTyped (calls.between_tree s a b c)
   sure_bounds false a b c h k j = sure_within a b c h k j
   sure_bounds true a b c h k j =
-      sure_then IsTyped IsTyped (calls.between_all (a ∷ b ∷ c ∷ [])) _ (sure_within a b c h k j)
-      (λ t x. sure_then IsTyped IsTyped (calls.between_all (a ∷ c ∷ b ∷ [])) _
+      sure_then IsTyped IsTyped (calls.between_three a b c) _ (sure_within a b c h k j)
+      (λ t x. sure_then IsTyped IsTyped (calls.between_three a c b) _
       (sure_within a c b h j k)
       (λ u y. sure_operator operator.Or None (bound t ∷ bound u ∷ []) refl (x, (y, tt))))
 
@@ -276,8 +285,9 @@ module _ (scope : Fields) where
   sure_null_test : (n : Bool) (i : Item) → IsItem i
       → Sure IsItem (calls.tested_item test.Null n i)
   sure_null_test n i h =
-      sure_item _ (sure_then _ IsTyped (all_settled None (i ∷ [])) _
-      (sure_all None (i ∷ []) (h, tt)) (λ ts j. sure_null n ts j.0 j.1))
+      let s = calls.stored_item i in
+      sure_item _ (sure_then _ IsTyped (all_settled None (s ∷ [])) _
+      (sure_all None (s ∷ []) (sure_stored i h, tt)) (λ ts j. sure_null n ts j.0 j.1))
 
   sure_truth_test : (f : Standard) (n : Bool) (i : Item) → IsItem i
       → Sure IsItem (calls.truth_test f n i)
@@ -359,94 +369,109 @@ module _ (scope : Fields) where
       (λ f k. sure_item _ (sure_call_on f is h))
 
   mutual
-    pub sure : (t : Syntax) → Fits t → Sure IsItem (item_of scope t)
+    pub sure : (t : Syntax) → Fits t → Sure IsItem (item_by columns t)
     sure (tree.operand t) f = sure_operand t f
     sure (tree.negative ds) f =
         sure_then _ IsItem (calls.text_of (45 ∷ ds)) _ (sure_text (45 ∷ ds)) (λ v k. tt)
     sure (tree.typed a w n) f =
-        sure_then IsLiteral IsItem (item_of scope a) _ (sure_literal a f.1 f.0)
+        sure_then IsLiteral IsItem (item_by columns a) _ (sure_literal a f.1 f.0)
         (λ i h. sure_typed w n i h)
     sure (tree.grouped a) f = sure a f
     sure (tree.negated a) f =
-        sure_then IsItem IsItem (item_of scope a) _ (sure a f.1)
+        sure_then IsItem IsItem (item_by columns a) _ (sure a f.1)
         (λ i h. sure_item _ (sure_not calls.truth_type i h))
     sure (tree.joined o a b) f =
-        sure_then IsItem IsItem (item_of scope a) _ (sure a f.2)
-        (λ x h. sure_then IsItem IsItem (item_of scope b) _ (sure b f.3)
+        sure_then IsItem IsItem (item_by columns a) _ (sure a f.2)
+        (λ x h. sure_then IsItem IsItem (item_by columns b) _ (sure b f.3)
         (λ y k. sure_joined o x y h k))
     sure (tree.tested k n a) f =
-        sure_then IsItem IsItem (item_of scope a) _ (sure a f.1) (λ i h. sure_tested (test_of k) n i h)
+        sure_then IsItem IsItem (item_by columns a) _ (sure a f.1) (λ i h. sure_tested (test_of k) n i h)
     sure (tree.null_tested n a) f =
-        sure_then IsItem IsItem (item_of scope a) _ (sure a f.1) (λ i h. sure_null_test n i h)
+        sure_then IsItem IsItem (item_by columns a) _ (sure a f.1) (λ i h. sure_null_test n i h)
     sure (tree.distinct n a b) f =
-        sure_then IsItem IsItem (item_of scope a) _ (sure a f.2)
-        (λ x h. sure_then IsItem IsItem (item_of scope b) _ (sure b f.3)
+        sure_then IsItem IsItem (item_by columns a) _ (sure a f.2)
+        (λ x h. sure_then IsItem IsItem (item_by columns b) _ (sure b f.3)
         (λ y k. sure_distinct n x y h k))
     sure (tree.between n a b c) f =
-        sure_then IsItem IsItem (item_of scope a) _ (sure a f.3)
-        (λ x h. sure_then IsItem IsItem (item_of scope b) _ (sure b f.4)
-        (λ y k. sure_then IsItem IsItem (item_of scope c) _ (sure c f.5)
+        sure_then IsItem IsItem (item_by columns a) _ (sure a f.3)
+        (λ x h. sure_then IsItem IsItem (item_by columns b) _ (sure b f.4)
+        (λ y k. sure_then IsItem IsItem (item_by columns c) _ (sure c f.5)
         (λ z j. sure_between n x y z h k j)))
     sure (tree.matched l a p e) f =
-        sure_then IsItem IsItem (item_of scope a) _ (sure a f.2)
-        (λ x h. sure_then IsItem IsItem (item_of scope p) _ (sure p f.3)
+        sure_then IsItem IsItem (item_by columns a) _ (sure a f.2)
+        (λ x h. sure_then IsItem IsItem (item_by columns p) _ (sure p f.3)
         (λ y k. sure_matched l e x y h k))
     sure (tree.converted a w n) f =
-        sure_then IsItem IsItem (item_of scope a) _ (sure a f.2) (λ i h. sure_cast false w n i h)
+        sure_then IsItem IsItem (item_by columns a) _ (sure a f.2) (λ i h. sure_cast false w n i h)
     sure (tree.cast p a w n) f =
-        sure_then IsItem IsItem (item_of scope a) _ (sure a f) (λ i h. sure_cast p w n i h)
+        sure_then IsItem IsItem (item_by columns a) _ (sure a f) (λ i h. sure_cast p w n i h)
     sure (tree.minus a) f =
-        sure_then IsItem IsItem (item_of scope a) _ (sure a f.2)
+        sure_then IsItem IsItem (item_by columns a) _ (sure a f.2)
         (λ i h. sure_joined signs.Sub (literal (literals.number (codes "0"))) i tt h)
     sure (tree.plus a) f =
-        sure_then IsItem IsItem (item_of scope a) _ (sure a f.1) (λ i h. sure_plus i h)
+        sure_then IsItem IsItem (item_by columns a) _ (sure a f.1) (λ i h. sure_plus i h)
     sure (tree.bit_not a) f =
-        sure_then IsItem IsItem (item_of scope a) _ (sure a f.1) (λ i h. sure_bit_not i h)
+        sure_then IsItem IsItem (item_by columns a) _ (sure a f.1) (λ i h. sure_bit_not i h)
     sure (tree.listed n a args b) f =
-        let first = with_item (answers []) (item_of scope a) in
-        sure_then AllItems IsItem (with_item (items_after scope first args) (item_of scope b)) _
-        (sure_more (items_after scope first args) (item_of scope b)
-        (sure_all_items args first f.2 (sure_more (answers []) (item_of scope a) tt (sure a f.1)))
+        let first = with_item (answers []) (item_by columns a) in
+        sure_then AllItems IsItem (with_item (items_by columns first args) (item_by columns b)) _
+        (sure_more (items_by columns first args) (item_by columns b)
+        (sure_all_items args first f.2 (sure_more (answers []) (item_by columns a) tt (sure a f.1)))
         (sure b f.3))
         (λ is h. sure_listed n (reverse is) (all_reversed is h))
     sure (tree.chosen bs c v) f =
-        let o = with_item (with_item (branch_items scope bs) (item_of scope c)) (item_of scope v) in
+        let o = with_item (with_item (branches_by columns bs) (item_by columns c)) (item_by columns v) in
         sure_then AllItems IsItem o _
-        (sure_pair (branch_items scope bs) (item_of scope c) (item_of scope v)
+        (sure_pair (branches_by columns bs) (item_by columns c) (item_by columns v)
         (sure_branches bs f.0) (sure c f.1) (sure v f.2))
         (λ is h. sure_chosen (has_operand bs) (reverse is) (all_reversed is h))
     sure (tree.chosen_else bs c v e) f =
-        let o = with_item (with_item (branch_items scope bs) (item_of scope c)) (item_of scope v) in
-        sure_then AllItems IsItem (with_item o (item_of scope e)) _
-        (sure_more o (item_of scope e)
-        (sure_pair (branch_items scope bs) (item_of scope c) (item_of scope v)
+        let o = with_item (with_item (branches_by columns bs) (item_by columns c)) (item_by columns v) in
+        sure_then AllItems IsItem (with_item o (item_by columns e)) _
+        (sure_more o (item_by columns e)
+        (sure_pair (branches_by columns bs) (item_by columns c) (item_by columns v)
         (sure_branches bs f.0) (sure c f.1) (sure v f.2)) (sure e f.3))
         (λ is h. sure_chosen (has_operand bs) (reverse is) (all_reversed is h))
     sure (tree.nullary p w) f = sure_applied w [] tt
     sure (tree.applied p w args a) f =
-        let some = items_after scope (answers []) args in
-        sure_then AllItems IsItem (with_item some (item_of scope a)) _
-        (sure_more some (item_of scope a) (sure_all_items args (answers []) f.0 tt) (sure a f.1))
+        let some = items_by columns (answers []) args in
+        sure_then AllItems IsItem (with_item some (item_by columns a)) _
+        (sure_more some (item_by columns a) (sure_all_items args (answers []) f.0 tt) (sure a f.1))
         (λ is h. sure_applied w (reverse is) (all_reversed is h))
 
     sure_all_items : (args : Arguments) (o : Outcome (List Item)) → AllFit args → Sure AllItems o
-        → Sure AllItems (items_after scope o args)
+        → Sure AllItems (items_by columns o args)
     sure_all_items tree.no_arguments o f h = h
     sure_all_items (tree.argument args a) o f h =
-        sure_more (items_after scope o args) (item_of scope a) (sure_all_items args o f.0 h)
+        sure_more (items_by columns o args) (item_by columns a) (sure_all_items args o f.0 h)
         (sure a f.1)
 
-    sure_branches : (bs : Branches) → BranchesFit bs → Sure AllItems (branch_items scope bs)
+    sure_branches : (bs : Branches) → BranchesFit bs → Sure AllItems (branches_by columns bs)
     sure_branches tree.without_operand f = tt
-    sure_branches (tree.of_operand a) f = sure_more (answers []) (item_of scope a) tt (sure a f)
+    sure_branches (tree.of_operand a) f = sure_more (answers []) (item_by columns a) tt (sure a f)
     sure_branches (tree.branch bs c v) f =
-        sure_pair (branch_items scope bs) (item_of scope c) (item_of scope v)
+        sure_pair (branches_by columns bs) (item_by columns c) (item_by columns v)
         (sure_branches bs f.0) (sure c f.1) (sure v f.2)
 
-  pub sure_tree : (t : Syntax) → Fits t → Sure IsTyped (tree_of scope t)
-  sure_tree t f =
-      sure_then IsItem IsTyped (item_of scope t) _ (sure t f) (λ i h. sure_settled None i h)
+pub sure_tree : (scope : Fields) (t : Syntax) → Fits t → Sure IsTyped (tree_of scope t)
+sure_tree scope t f =
+    sure_then IsItem IsTyped (item_of scope t) _ (sure (column_of scope) (sure_column scope []) t f)
+    (λ i h. sure_settled None i h)
 
+sure_ended : (i : Item) → IsItem i → Sure (λ x. Unit {0}) (ended i)
+sure_ended (kinded k t) h = tt
+sure_ended (bound t) h =
+    sure_then IsTyped _ (settled None (bound t)) _ (sure_settled None (bound t) h) (λ u j. tt)
+sure_ended (literal l) h =
+    sure_then IsTyped _ (settled None (literal l)) _ (sure_settled None (literal l) h) (λ u j. tt)
+
+pub sure_logical : (scope : Fields) (kinds : List Kind) (t : Syntax) → Fits t
+    → Sure (λ x. Unit {0}) (logical_of scope kinds t)
+sure_logical scope kinds t f =
+    sure_then IsItem _ (item_by (column_in scope kinds) t) ended
+    (sure (column_in scope kinds) (sure_column scope kinds) t f) sure_ended
+
+module _ (scope : Fields) where
   -- names
   sure_name : (t : Token) → is_name t ≡ true → Sure (λ w. Unit {0}) (name_of t)
   sure_name (name w) h = sure_text w
@@ -460,7 +485,7 @@ module _ (scope : Fields) where
   sure_answer : {ts : List Token} (a : syntax.Answer) → SpellsAnswer ts a
       → Sure (λ x. Unit {0}) (answer_of scope a)
   sure_answer a s =
-      sure_then IsTyped _ (tree_of scope a.tree) _ (sure_tree a.tree s.levels)
+      sure_then IsTyped _ (tree_of scope a.tree) _ (sure_tree scope a.tree s.levels)
       (λ t h. sure_then _ _ (written_name a.name) _ (sure_said a.name s.named) (λ w k. tt))
 
   pub sure_answers : {ts : List Token} {bs : List syntax.Answer} → SpellsAnswers ts bs

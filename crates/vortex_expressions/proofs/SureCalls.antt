@@ -6,7 +6,8 @@ use Rattle.std.specs.Str.{is_utf8}
 use Rattle.vortex_errors.specs.declared.error.MismatchPlace.{MismatchPlace}
 use Rattle.vortex_errors.specs.declared.error.MismatchPlace.TheVariants.{Scalars}
 use Rattle.vortex_types.specs.declared.dtype.PType.{PType}
-use Rattle.vortex_types.specs.LogicalTypes.{LogicalType}
+use Rattle.vortex_types.specs.LogicalTypes.{LogicalType, Fields, find_field}
+use Rattle.vortex_logical.specs.declared.kind.Kind.{Kind}
 use Rattle.vortex_interface.specs.Meaning.{fits}
 use Rattle.vortex_interface.specs.Shipped.{Shipped, NullTest}
 use Rattle.vortex_interface.specs.Shipped.{shipped_place}
@@ -21,7 +22,8 @@ use Rattle.vortex_expressions.specs.declared.refusal.Refusal.{Refusal}
 use Rattle.vortex_expressions.specs.Literals.{Literal, value_at, type_beside}
 use Rattle.vortex_expressions.specs.Outcomes.{Outcome, answers, refuses, missing, and_then}
 use Rattle.vortex_expressions.specs.Outcomes.{or_refuses}
-use Rattle.vortex_expressions.specs.Items.{Tree, Item, literal, bound, meaning, settled, all_settled}
+use Rattle.vortex_expressions.specs.Items.{Tree, Item, literal, bound, kinded, meaning}
+use Rattle.vortex_expressions.specs.Items.{settled, all_settled}
 use Rattle.vortex_expressions.specs.Items.{callable, constant_at, refused_at, call_of, called}
 use Rattle.vortex_expressions.specs.Items.{widened, meeting}
 use Rattle.vortex_expressions.specs.Meeting.{widened_to}
@@ -61,6 +63,7 @@ IsTyped t = is_some (tree_type meaning t) ≡ true
 abbrev pub IsItem : Item → Type 0
 IsItem (literal l) = Unit {0}
 IsItem (bound t) = IsTyped t
+IsItem (kinded k t) = IsTyped t
 
 abbrev pub AllTyped : List Tree → Type 0
 AllTyped [] = Unit {0}
@@ -100,6 +103,7 @@ sure_meeting (Some k) (Some l) t h = sure_widened (widened_to k l) t h
 
 pub sure_settled : (o : Option LogicalType) (i : Item) → IsItem i → Sure IsTyped (settled o i)
 sure_settled o (bound t) h = sure_meeting o (tree_type meaning t) t h
+sure_settled o (kinded k t) h = tt
 sure_settled o (literal l) h =
     sure_then (λ t. Unit {0}) IsTyped _ _ (sure_or _ (type_beside o l)) (λ t k. sure_constant l t)
 
@@ -154,9 +158,18 @@ sure_text bs = sure_if _ (is_utf8 bs) _ _ tt tt
 pub sure_quoted : (q : ℕ) (bs : List ℕ) → Sure (λ w. Unit {0}) (calls.between_quotes q bs)
 sure_quoted q bs = sure_text (calls.unquoted q bs)
 
-pub sure_field : (w : List ℕ) (o : Option (ℕ × LogicalType)) → Sure IsItem (calls.field_found w o)
-sure_field w None = tt
-sure_field w (Some p) = refl
+-- columns
+sure_field : (ks : List Kind) (w : List ℕ) (o : Option (ℕ × LogicalType))
+    → Sure IsItem (calls.field_found ks w o)
+sure_field ks w None = tt
+sure_field ks w (Some p) =
+    let k = calls.kind_at ks p.0 in
+    sure_if IsItem (calls.is_plain k) _ _ refl
+    (sure_if IsItem (calls.stores k (Some p.1)) _ _ refl tt)
+
+pub sure_column : (scope : Fields) (ks : List Kind) (w : List ℕ)
+    → Sure IsItem (calls.column_in scope ks w)
+sure_column scope ks w = sure_field ks w (find_field w scope)
 
 pub sure_named : (w : List ℕ) (n : Bool) → Sure (λ t. Unit {0}) (calls.type_of_name w n)
 sure_named w n = sure_then _ _ (calls.text_of w) _ (sure_text w) (λ v k. sure_or _ (named_type n v))

@@ -14,57 +14,57 @@ use Rattle.vortex_syntax.specs.Postfix as step
 use Rattle.vortex_syntax.specs.Postfix.{Step, postfix, all_postfix, argument_count}
 use Rattle.vortex_syntax.specs.Postfix.{branches_postfix, has_operand, branch_count, test_of}
 use Rattle.vortex_expressions.specs.Outcomes.{Outcome, answers, refuses, missing, and_then}
-use Rattle.vortex_expressions.specs.Items.{Item}
+use Rattle.vortex_expressions.specs.Items.{Item, settled}
 use Rattle.vortex_expressions.specs.Calls.{typed_item, cast_item, not_item, joined_item}
 use Rattle.vortex_expressions.specs.Calls.{minus_item, tested_item, distinct_item, between_item}
 use Rattle.vortex_expressions.specs.Calls.{matched_item, listed_item, chosen_item, plus_item}
-use Rattle.vortex_expressions.specs.Calls.{bit_not_item}
-use Rattle.vortex_expressions.specs.Binding.{with_item, of_items, item_of, items_after}
-use Rattle.vortex_expressions.specs.Binding.{branch_items, tree_of}
+use Rattle.vortex_expressions.specs.Calls.{bit_not_item, column_of}
+use Rattle.vortex_expressions.specs.Binding.{with_item, of_items, item_by, items_by}
+use Rattle.vortex_expressions.specs.Binding.{branches_by, tree_of}
 use Rattle.vortex_expressions.specs.Applied.{applied_item}
-use Rattle.vortex_expressions.specs.Stacks.{run, stepped, pushed, with_last, case_count, left}
+use Rattle.vortex_expressions.specs.Stacks.{run, stepped, pushed, with_last, case_count, left_as}
 use Rattle.vortex_expressions.specs.Stacks.{tree_left}
 use Rattle.vortex_expressions.proofs.Chains.{and_then-assoc, and_then-same, and_then-there}
 use Rattle.vortex_expressions.proofs.Lasts.{last_taken}
 
-module _ (scope : Fields) where
+module _ (columns : List ℕ → Outcome Item) where
   -- over these items the steps leave one item in their place
   abbrev Leaves : List Item → List Step → Outcome Item → Type 0
   Leaves below ps o =
       (ss : List Step) (st : List Item)
-      → run scope (ps ++ ss) (below ++ st) ≡ and_then o (λ i. run scope ss (i ∷ st))
+      → run columns (ps ++ ss) (below ++ st) ≡ and_then o (λ i. run columns ss (i ∷ st))
 
   last : (below : List Item) (s : Step) (o : Outcome Item)
-      → ((st : List Item) → stepped scope s (below ++ st) ≡ pushed st o) → Leaves below (s ∷ []) o
+      → ((st : List Item) → stepped columns s (below ++ st) ≡ pushed st o) → Leaves below (s ∷ []) o
   unfolding run
   last below s o h = λ ss st.
-      ap (λ r. and_then r (run scope ss)) (h st)
-      ∙ and_then-assoc o (λ i. answers (i ∷ st)) (run scope ss)
+      ap (λ r. and_then r (run columns ss)) (h st)
+      ∙ and_then-assoc o (λ i. answers (i ∷ st)) (run columns ss)
 
   next : (below : List Item) (ps rest : List Step) (o : Outcome Item) (f : Item → Outcome Item)
       → Leaves [] ps o → ((i : Item) → Leaves (i ∷ below) rest (f i))
       → Leaves below (ps ++ rest) (and_then o f)
   next below ps rest o f h k = λ ss st.
-      ap (λ zs. run scope zs (below ++ st)) (append_assoc ps rest ss)
+      ap (λ zs. run columns zs (below ++ st)) (append_assoc ps rest ss)
       ∙ h (rest ++ ss) (below ++ st)
       ∙ and_then-same o _ _ (λ i. k i ss st)
-      ∙ sym (and_then-assoc o f (λ j. run scope ss (j ∷ st)))
+      ∙ sym (and_then-assoc o f (λ j. run columns ss (j ∷ st)))
 
   -- the steps leave as many items as there are, over those below
   abbrev LeaveAll : List Step → Outcome (List Item) → Type 0
   LeaveAll ps o =
       (ss : List Step) (st : List Item)
-      → run scope (ps ++ ss) st ≡ and_then o (λ is. run scope ss (is ++ st))
+      → run columns (ps ++ ss) st ≡ and_then o (λ is. run columns ss (is ++ st))
 
   one_more : (ps qs : List Step) (o : Outcome (List Item)) (p : Outcome Item) → LeaveAll ps o
       → Leaves [] qs p → LeaveAll (ps ++ qs) (with_item o p)
   one_more ps qs o p h k = λ ss st.
-      ap (λ zs. run scope zs st) (append_assoc ps qs ss)
+      ap (λ zs. run columns zs st) (append_assoc ps qs ss)
       ∙ h (qs ++ ss) st
       ∙ and_then-same o _ _ (λ is. k ss (is ++ st)
-      ∙ sym (and_then-assoc p (λ i. answers (i ∷ is)) (λ js. run scope ss (js ++ st))))
+      ∙ sym (and_then-assoc p (λ i. answers (i ∷ is)) (λ js. run columns ss (js ++ st))))
       ∙ sym (and_then-assoc o (λ is. and_then p (λ i. answers (i ∷ is)))
-      (λ js. run scope ss (js ++ st)))
+      (λ js. run columns ss (js ++ st)))
 
   -- there are so many items
   abbrev Counts : Outcome (List Item) → ℕ → Type 0
@@ -81,25 +81,25 @@ module _ (scope : Fields) where
 
   -- a step that takes all of them
   abbrev TakesLast : Step → (List Item → Outcome Item) → ℕ → Type 0
-  TakesLast s f n = (st : List Item) → stepped scope s st ≡ with_last f n st
+  TakesLast s f n = (st : List Item) → stepped columns s st ≡ with_last f n st
 
   last_called : (s : Step) (f : List Item → Outcome Item) (n : ℕ) → TakesLast s f n
       → (is : List Item) → length is ≡ n → (ss : List Step) (st : List Item)
-      → run scope (s ∷ ss) (is ++ st) ≡ and_then (f (reverse is)) (λ i. run scope ss (i ∷ st))
+      → run columns (s ∷ ss) (is ++ st) ≡ and_then (f (reverse is)) (λ i. run columns ss (i ∷ st))
   unfolding run
   last_called s f n h is e ss st =
-      ap (λ o. and_then o (run scope ss))
+      ap (λ o. and_then o (run columns ss))
       (h (is ++ st) ∙ ap (λ m. with_last f m (is ++ st)) (sym e) ∙ last_taken f is st)
-      ∙ and_then-assoc (f (reverse is)) (λ i. answers (i ∷ st)) (run scope ss)
+      ∙ and_then-assoc (f (reverse is)) (λ i. answers (i ∷ st)) (run columns ss)
 
   call_leaves : (ps : List Step) (o : Outcome (List Item)) (s : Step) (f : List Item → Outcome Item)
       (n : ℕ) → LeaveAll ps o → Counts o n → TakesLast s f n
       → Leaves [] (ps ++ (s ∷ [])) (of_items f o)
   call_leaves ps o s f n h k j = λ ss st.
-      ap (λ zs. run scope zs st) (append_assoc ps (s ∷ []) ss)
+      ap (λ zs. run columns zs st) (append_assoc ps (s ∷ []) ss)
       ∙ h (s ∷ ss) st
       ∙ and_then-there o _ _ (λ is e. last_called s f n j is (k is e) ss st)
-      ∙ sym (and_then-assoc o (λ is. f (reverse is)) (λ i. run scope ss (i ∷ st)))
+      ∙ sym (and_then-assoc o (λ is. f (reverse is)) (λ i. run columns ss (i ∷ st)))
 
   -- no step, and a condition with its value
   none_leave : LeaveAll [] (answers [])
@@ -125,10 +125,10 @@ module _ (scope : Fields) where
   else_count o p b n h is e = count_more o p _ h is e ∙ omega arith
 
   counted : (args : Arguments) (o : Outcome (List Item)) (n : ℕ) → Counts o n
-      → Counts (items_after scope o args) (argument_count args + n)
+      → Counts (items_by columns o args) (argument_count args + n)
   counted no_arguments o n h = λ is e. h is e ∙ omega arith
   counted (argument args a) o n h =
-      λ is e. count_more (items_after scope o args) (item_of scope a) _ (counted args o n h) is e
+      λ is e. count_more (items_by columns o args) (item_by columns a) _ (counted args o n h) is e
       ∙ omega arith
 
   applied_count : (args : Arguments) (o : Outcome (List Item)) (p : Outcome Item)
@@ -141,15 +141,15 @@ module _ (scope : Fields) where
   listed_count args o p h is e = count_more o p _ h is e ∙ omega arith
 
   branches_counted : (bs : Branches)
-      → Counts (branch_items scope bs) (case_count (has_operand bs) (branch_count bs) false)
+      → Counts (branches_by columns bs) (case_count (has_operand bs) (branch_count bs) false)
   branches_counted without_operand = none_count
-  branches_counted (of_operand a) = count_more (answers []) (item_of scope a) 0 none_count
+  branches_counted (of_operand a) = count_more (answers []) (item_by columns a) 0 none_count
   branches_counted (branch bs c v) =
-      pair_count (branch_items scope bs) (item_of scope c) (item_of scope v) (has_operand bs)
+      pair_count (branches_by columns bs) (item_by columns c) (item_by columns v) (has_operand bs)
       (branch_count bs) (branches_counted bs)
 
   mutual
-    pub leaves : (t : Syntax) → Leaves [] (postfix t) (item_of scope t)
+    pub leaves : (t : Syntax) → Leaves [] (postfix t) (item_by columns t)
     leaves (operand t) = last [] _ _ (λ st. refl)
     leaves (negative ds) = last [] _ _ (λ st. refl)
     leaves (typed a w n) =
@@ -158,7 +158,7 @@ module _ (scope : Fields) where
     leaves (negated a) =
         next [] (postfix a) _ _ not_item (leaves a) (λ i. last (i ∷ []) _ _ (λ st. refl))
     leaves (joined o a b) =
-        next [] (postfix a) _ _ (λ x. and_then (item_of scope b) (joined_item o x)) (leaves a)
+        next [] (postfix a) _ _ (λ x. and_then (item_by columns b) (joined_item o x)) (leaves a)
         (λ x. next (x ∷ []) (postfix b) _ _ (joined_item o x) (leaves b)
         (λ y. last (y ∷ x ∷ []) _ _ (λ st. refl)))
     leaves (tested k n a) =
@@ -172,23 +172,23 @@ module _ (scope : Fields) where
     leaves (bit_not a) =
         next [] (postfix a) _ _ bit_not_item (leaves a) (λ i. last (i ∷ []) _ _ (λ st. refl))
     leaves (distinct n a b) =
-        next [] (postfix a) _ _ (λ x. and_then (item_of scope b) (distinct_item n x)) (leaves a)
+        next [] (postfix a) _ _ (λ x. and_then (item_by columns b) (distinct_item n x)) (leaves a)
         (λ x. next (x ∷ []) (postfix b) _ _ (distinct_item n x) (leaves b)
         (λ y. last (y ∷ x ∷ []) _ _ (λ st. refl)))
     leaves (between k a low high) =
         next [] (postfix a) _ _
-        (λ x. and_then (item_of scope low) (λ y. and_then (item_of scope high) (between_item k x y)))
+        (λ x. and_then (item_by columns low) (λ y. and_then (item_by columns high) (between_item k x y)))
         (leaves a)
         (λ x. next (x ∷ []) (postfix low) _ _
-        (λ y. and_then (item_of scope high) (between_item k x y)) (leaves low)
+        (λ y. and_then (item_by columns high) (between_item k x y)) (leaves low)
         (λ y. next (y ∷ x ∷ []) (postfix high) _ _ (between_item k x y) (leaves high)
         (λ z. last (z ∷ y ∷ x ∷ []) _ _ (λ st. refl))))
     leaves (matched k a p None) =
-        next [] (postfix a) _ _ (λ x. and_then (item_of scope p) (matched_item k None x)) (leaves a)
+        next [] (postfix a) _ _ (λ x. and_then (item_by columns p) (matched_item k None x)) (leaves a)
         (λ x. next (x ∷ []) (postfix p) _ _ (matched_item k None x) (leaves p)
         (λ y. last (y ∷ x ∷ []) _ _ (λ st. refl)))
     leaves (matched k a p (Some e)) =
-        next [] (postfix a) _ _ (λ x. and_then (item_of scope p) (matched_item k (Some e) x))
+        next [] (postfix a) _ _ (λ x. and_then (item_by columns p) (matched_item k (Some e) x))
         (leaves a)
         (λ x. next (x ∷ []) (postfix p) _ _ (matched_item k (Some e) x) (leaves p)
         (λ y. last (y ∷ x ∷ []) _ _ (λ st. refl)))
@@ -200,11 +200,11 @@ module _ (scope : Fields) where
     leaves (minus a) =
         next [] (postfix a) _ _ minus_item (leaves a) (λ i. last (i ∷ []) _ _ (λ st. refl))
     leaves (nullary p w) =
-        last [] _ (item_of scope (nullary p w)) (λ st. last_taken (applied_item w) [] st)
+        last [] _ (item_by columns (nullary p w)) (λ st. last_taken (applied_item w) [] st)
     leaves (applied p w args a) = λ ss st.
         let n = suc (argument_count args) in
         let s : Step = step.applied w n in
-        ap (λ zs. run scope (zs ++ ss) st)
+        ap (λ zs. run columns (zs ++ ss) st)
         (sym (append_assoc (all_postfix args) (postfix a) (s ∷ [])))
         ∙ call_leaves _ _ s (applied_item w) n
         (one_more (all_postfix args) (postfix a) _ _ (all_leave args [] _ none_leave) (leaves a))
@@ -212,9 +212,9 @@ module _ (scope : Fields) where
     leaves (listed n a args b) = λ ss st.
         let k = suc (argument_count args) in
         let s : Step = step.listed n k in
-        let first = one_more [] (postfix a) (answers []) (item_of scope a) none_leave (leaves a) in
+        let first = one_more [] (postfix a) (answers []) (item_by columns a) none_leave (leaves a) in
         let some = all_leave args (postfix a) _ first in
-        ap (λ zs. run scope (zs ++ ss) st)
+        ap (λ zs. run columns (zs ++ ss) st)
         (ap (λ zs. postfix a ++ zs) (sym (append_assoc (all_postfix args) (postfix b) (s ∷ [])))
         ∙ sym (append_assoc (postfix a) (all_postfix args ++ postfix b) (s ∷ []))
         ∙ ap (λ zs. zs ++ (s ∷ [])) (sym (append_assoc (postfix a) (all_postfix args) (postfix b))))
@@ -225,10 +225,10 @@ module _ (scope : Fields) where
     leaves (chosen bs c v) = λ ss st.
         let k = suc (branch_count bs) in
         let s : Step = step.chosen (has_operand bs) k false in
-        ap (λ zs. run scope (zs ++ ss) st)
+        ap (λ zs. run columns (zs ++ ss) st)
         (sym (append_assoc (branches_postfix bs) (postfix c ++ postfix v) (s ∷ [])
         ∙ ap (λ zs. branches_postfix bs ++ zs) (append_assoc (postfix c) (postfix v) (s ∷ []))))
-        ∙ ap (λ zs. run scope ((zs ++ (s ∷ [])) ++ ss) st)
+        ∙ ap (λ zs. run columns ((zs ++ (s ∷ [])) ++ ss) st)
         (sym (append_assoc (branches_postfix bs) (postfix c) (postfix v)))
         ∙ call_leaves _ _ s (chosen_item (has_operand bs)) (case_count (has_operand bs) k false)
         (pair_leaves (branches_postfix bs) (postfix c) (postfix v) _ _ _ (branches_leave bs)
@@ -239,7 +239,7 @@ module _ (scope : Fields) where
         let k = suc (branch_count bs) in
         let s : Step = step.chosen (has_operand bs) k true in
         let front = (branches_postfix bs ++ postfix c) ++ postfix v in
-        ap (λ zs. run scope (zs ++ ss) st)
+        ap (λ zs. run columns (zs ++ ss) st)
         (sym (append_assoc (branches_postfix bs) (postfix c)
         (postfix v ++ (postfix e ++ (s ∷ []))))
         ∙ sym (append_assoc (branches_postfix bs ++ postfix c) (postfix v) (postfix e ++ (s ∷ [])))
@@ -253,28 +253,33 @@ module _ (scope : Fields) where
         ss st
 
     all_leave : (args : Arguments) (ps : List Step) (o : Outcome (List Item)) → LeaveAll ps o
-        → LeaveAll (ps ++ all_postfix args) (items_after scope o args)
+        → LeaveAll (ps ++ all_postfix args) (items_by columns o args)
     all_leave no_arguments ps o h = λ ss st.
-        ap (λ zs. run scope (zs ++ ss) st) (append-nil ps) ∙ h ss st
+        ap (λ zs. run columns (zs ++ ss) st) (append-nil ps) ∙ h ss st
     all_leave (argument args a) ps o h = λ ss st.
-        ap (λ zs. run scope (zs ++ ss) st) (sym (append_assoc ps (all_postfix args) (postfix a)))
-        ∙ one_more (ps ++ all_postfix args) (postfix a) (items_after scope o args) (item_of scope a)
+        ap (λ zs. run columns (zs ++ ss) st) (sym (append_assoc ps (all_postfix args) (postfix a)))
+        ∙ one_more (ps ++ all_postfix args) (postfix a) (items_by columns o args) (item_by columns a)
         (all_leave args ps o h) (leaves a) ss st
 
-    branches_leave : (bs : Branches) → LeaveAll (branches_postfix bs) (branch_items scope bs)
+    branches_leave : (bs : Branches) → LeaveAll (branches_postfix bs) (branches_by columns bs)
     branches_leave without_operand = none_leave
     branches_leave (of_operand a) =
-        one_more [] (postfix a) (answers []) (item_of scope a) none_leave (leaves a)
+        one_more [] (postfix a) (answers []) (item_by columns a) none_leave (leaves a)
     branches_leave (branch bs c v) = λ ss st.
-        ap (λ zs. run scope (zs ++ ss) st)
+        ap (λ zs. run columns (zs ++ ss) st)
         (sym (append_assoc (branches_postfix bs) (postfix c) (postfix v)))
         ∙ pair_leaves (branches_postfix bs) (postfix c) (postfix v) _ _ _ (branches_leave bs)
         (leaves c) (leaves v) ss st
 
-  -- for an expression
-  pub tree_left-is : (t : Syntax) → tree_left scope (postfix t) ≡ tree_of scope t
+  -- the only item of an expression
+  pub left-is : {A : Type 0} (final : Item → Outcome A) (t : Syntax)
+      → and_then (run columns (postfix t) []) (left_as final)
+      ≡ and_then (item_by columns t) final
   unfolding run
-  tree_left-is t =
-      ap (λ ss. and_then (run scope ss []) left) (sym (append-nil (postfix t)))
-      ∙ ap (λ o. and_then o left) (leaves t [] [])
-      ∙ and_then-assoc (item_of scope t) (λ i. answers (i ∷ [])) left
+  left-is final t =
+      ap (λ ss. and_then (run columns ss []) (left_as final)) (sym (append-nil (postfix t)))
+      ∙ ap (λ o. and_then o (left_as final)) (leaves t [] [])
+      ∙ and_then-assoc (item_by columns t) (λ i. answers (i ∷ [])) (left_as final)
+
+pub tree_left-is : (scope : Fields) (t : Syntax) → tree_left scope (postfix t) ≡ tree_of scope t
+tree_left-is scope t = left-is (column_of scope) (settled None) t

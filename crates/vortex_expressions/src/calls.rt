@@ -204,12 +204,7 @@ pub(crate) fn not_item(alloc: Global, item: Item) -> Result<Item, BindStop>
     Ok(Item::Bound(tree))
 }
 
-fn plain_joined(
-    alloc: Global,
-    written: Written,
-    left: Item,
-    right: Item,
-) -> Result<Item, BindStop>
+fn plain_joined(alloc: Global, written: Written, left: Item, right: Item) -> Result<Item, BindStop>
     ensures { Gives item_in result (specs.plain_joined written (item_in left) (item_in right)) }
 {
     let items = vec![in alloc; left, right]?;

@@ -109,12 +109,14 @@ impl Item {
     pub(crate) fn end(self, alloc: Global) -> Result<LogicalTree, BindStop>
         ensures { Gives logical_in result (ended (item_in self)) }
     {
-        if let Item::Kinded(kind, tree) = self {
-            return Ok(LogicalTree { tree, kind });
+        match self {
+            Item::Kinded(kind, tree) => Ok(LogicalTree { tree, kind }),
+            other => {
+                let tree = other.settle(alloc, None)?;
+                let kind = Kind::Plain;
+                Ok(LogicalTree { tree, kind })
+            }
         }
-        let tree = self.settle(alloc, None)?;
-        let kind = Kind::Plain;
-        Ok(LogicalTree { tree, kind })
     }
 }
 

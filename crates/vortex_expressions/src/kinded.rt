@@ -1,5 +1,5 @@
 //! Calls on values of kinds: dates, timestamps, decimals and floats.
-ghost use Rattle.std.specs.Prelude.{◌≡◌, Some, map};
+ghost use Rattle.std.specs.Prelude.{◌≡◌, Some};
 ghost use Rattle.vortex_types.specs.TypeOf.{type_of};
 ghost use Rattle.vortex_lowering.specs.Rows.{lowered};
 ghost use Rattle.vortex_expressions.specs.Kinded as specs;
@@ -72,16 +72,23 @@ pub(crate) fn stored_item(item: Item) -> Item
     }
 }
 
-/// The kind of the first value with one.
-fn first_kind(items: &[&Item]) -> Kind
-    ensures { result ≡ specs.first_kind (map (λ i. item_in i.now) items.now) }
+/// The kind of a value, if it has one.
+fn item_kind(item: &Item) -> Option<Kind>
+    ensures { result ≡ specs.item_kind (item_in item.now) }
 {
-    for item in items {
-        if let Item::Kinded(kind, _) = *item {
-            return *kind;
-        }
+    match item {
+        Item::Kinded(kind, _) => Some(*kind),
+        _ => None,
     }
-    Kind::Plain
+}
+
+fn kind_or(found: Option<Kind>, kind: Kind) -> Kind
+    ensures { result ≡ specs.kind_or found kind }
+{
+    match found {
+        Some(found) => found,
+        None => kind,
+    }
 }
 
 /// What a tree without a kind is.
@@ -149,8 +156,9 @@ fn literal_operand(
     ensures { Gives (λ x. lowered x.tree x.operand) result
         (specs.literal_operand kind (literal_in literal.now)) }
 {
+    let operand = Operand::Of(kind);
     match literal {
-        Literal::Number(word) => match kind_beside(&Operand::Of(kind), word.as_bytes()) {
+        Literal::Number(word) => match kind_beside(&operand, word.as_bytes()) {
             Some(kind) => text_literal(alloc, kind, word.as_bytes()),
             None => whole_literal(alloc, whole_ptype(kind), literal),
         },
@@ -182,9 +190,10 @@ fn item_operand(alloc: Global, kind: Kind, item: Item) -> Result<Lowered<Standar
 fn value_item(value: Lowered<Standard>) -> Item
     ensures { item_in result ≡ specs.value_item value.operand value.tree }
 {
-    match value.operand {
-        Operand::Whole(_) => Item::Bound(value.tree),
-        Operand::Of(kind) => Item::Kinded(kind, value.tree),
+    let Lowered { tree, operand } = value;
+    match operand {
+        Operand::Whole(_) => Item::Bound(tree),
+        Operand::Of(kind) => Item::Kinded(kind, tree),
     }
 }
 
@@ -248,7 +257,7 @@ pub(crate) fn kinded_joined(
     ensures { Gives item_in result
         (specs.kinded_joined written (item_in left) (item_in right)) }
 {
-    let kind = first_kind(&[&left, &right]);
+    let kind = kind_or(item_kind(&left), kind_or(item_kind(&right), Kind::Plain));
     let left = item_operand(alloc, kind, left)?;
     let right = item_operand(alloc, kind, right)?;
     operated(alloc, kind, written, left, right)
@@ -274,7 +283,8 @@ pub(crate) fn kinded_between(
     ensures { Gives (λ t. t) result
         (specs.kinded_between (item_in item) (item_in lower) (item_in upper)) }
 {
-    let kind = first_kind(&[&item, &lower, &upper]);
+    let bounds = kind_or(item_kind(&lower), kind_or(item_kind(&upper), Kind::Plain));
+    let kind = kind_or(item_kind(&item), bounds);
     let item = item_operand(alloc, kind, item)?;
     let lower = item_operand(alloc, kind, lower)?;
     let upper = item_operand(alloc, kind, upper)?;

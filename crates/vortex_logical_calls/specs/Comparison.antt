@@ -8,7 +8,7 @@ use Rattle.vortex_lowering.specs.Operands.{are_shipped}
 use Rattle.vortex_lowering.specs.LoweredTrees.{compared_tree}
 use Rattle.vortex_logical_calls.specs.Outcomes.{Outcome, refused, and_then}
 use Rattle.vortex_logical_calls.specs.Calls.{Tree, Lowered, typed}
-use Rattle.vortex_logical_calls.specs.Turning.{turn, turned}
+use Rattle.vortex_logical_calls.specs.Conversions.{conversion_beside, converted}
 
 -- of operands that meet, and that shipped functions compare
 abbrev pub if_met : {A : Type 0} → Operand → Operand → Outcome A → Outcome A
@@ -21,5 +21,5 @@ compare_met op x y = if_met x.operand y.operand (typed (compared_tree op x y))
 
 abbrev pub compared : CompareOperator → Lowered → Lowered → Outcome Tree
 compared op x y =
-    and_then (turned (turn x.operand y.operand) x) (λ a.
-    and_then (turned (turn y.operand x.operand) y) (λ b. compare_met op a b))
+    and_then (converted (conversion_beside x.operand y.operand) x) (λ a.
+    and_then (converted (conversion_beside y.operand x.operand) y) (λ b. compare_met op a b))

@@ -14,7 +14,7 @@ use Rattle.vortex_lowering.specs.Results.{result_operand, are_computed}
 use Rattle.vortex_lowering.specs.LoweredTrees.{computed_tree}
 use Rattle.vortex_logical_calls.specs.Outcomes.{Outcome, made, refused, and_then}
 use Rattle.vortex_logical_calls.specs.Calls.{Lowered, Tree, typed, call_two}
-use Rattle.vortex_logical_calls.specs.Turning.{meet_in_float, turn, turned, as_float}
+use Rattle.vortex_logical_calls.specs.Conversions.{meet_in_float, conversion_beside, converted, as_float}
 
 abbrev pub float_operator : NumericOperator → FloatOperator
 float_operator numeric.Add = float.Add
@@ -44,8 +44,8 @@ compute_met o x y =
 
 abbrev pub compute_exact : NumericOperator → Lowered → Lowered → Outcome Lowered
 compute_exact o x y =
-    and_then (turned (turn x.operand y.operand) x) (λ a.
-    and_then (turned (turn y.operand x.operand) y) (λ b. compute_met o a b))
+    and_then (converted (conversion_beside x.operand y.operand) x) (λ a.
+    and_then (converted (conversion_beside y.operand x.operand) y) (λ b. compute_met o a b))
 
 abbrev pub computed : NumericOperator → Lowered → Lowered → Outcome Lowered
 computed o x y =

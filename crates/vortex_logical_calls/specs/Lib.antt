@@ -1,6 +1,6 @@
 pub mod Outcomes
 pub mod Calls
-pub mod Turning
+pub mod Conversions
 pub mod Comparison
 pub mod Bounds
 pub mod Computation

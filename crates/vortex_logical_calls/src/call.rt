@@ -4,6 +4,7 @@ ghost use Rattle.vortex_logical_calls.specs.Outcomes.{Makes};
 ghost use Rattle.vortex_logical_calls.specs.Calls as specs;
 
 use std::alloc::Global;
+use vortex_columns::VortexError;
 use vortex_functions::{BoundExpression, EmptyOptions, ScalarFnRef};
 use vortex_lowering::Refusal;
 use vortex_standard::Standard;
@@ -30,8 +31,11 @@ pub(crate) fn call_one(
 ) -> Result<BoundExpression<Standard>, Refusal>
     ensures { Makes (λ t. t) result (specs.call_one function tree) }
 {
-    let trees = vec![in alloc; tree]?;
-    call_on(alloc, ScalarFnRef::custom(function, EmptyOptions), trees)
+    let function = ScalarFnRef::custom(function, EmptyOptions);
+    match vec![in alloc; tree] {
+        Ok(trees) => call_on(alloc, function, trees),
+        Err(_) => Err(Refusal::Binding(VortexError::OutOfMemory)),
+    }
 }
 
 /// The call of one of SQL's functions on two trees.
@@ -43,6 +47,9 @@ pub(crate) fn call_two(
 ) -> Result<BoundExpression<Standard>, Refusal>
     ensures { Makes (λ t. t) result (specs.call_two function left right) }
 {
-    let trees = vec![in alloc; left, right]?;
-    call_on(alloc, ScalarFnRef::custom(function, EmptyOptions), trees)
+    let function = ScalarFnRef::custom(function, EmptyOptions);
+    match vec![in alloc; left, right] {
+        Ok(trees) => call_on(alloc, function, trees),
+        Err(_) => Err(Refusal::Binding(VortexError::OutOfMemory)),
+    }
 }

@@ -4,7 +4,7 @@ ghost use Rattle.vortex_lowering.specs.Rows.{lowered};
 ghost use Rattle.vortex_logical_calls.specs.Outcomes.{Makes};
 ghost use Rattle.vortex_logical_calls.specs.Comparison as specs;
 
-use crate::turning::{turn, turned};
+use crate::conversions::{conversion_beside, converted};
 use std::alloc::Global;
 use vortex_functions::BoundExpression;
 use vortex_lowering::{Lowered, Refusal};
@@ -37,9 +37,9 @@ pub fn compare(
     ensures { Makes (λ t. t) result (specs.compared operator
         (lowered left.tree left.operand) (lowered right.tree right.operand)) }
 {
-    let of_left = turn(&left.operand, &right.operand);
-    let of_right = turn(&right.operand, &left.operand);
-    let left = turned(alloc, of_left, left)?;
-    let right = turned(alloc, of_right, right)?;
+    let of_left = conversion_beside(&left.operand, &right.operand);
+    let of_right = conversion_beside(&right.operand, &left.operand);
+    let left = converted(alloc, of_left, left)?;
+    let right = converted(alloc, of_right, right)?;
     compare_met(alloc, operator, left, right)
 }

@@ -6,7 +6,7 @@ ghost use Rattle.vortex_logical_calls.specs.Outcomes.{Makes};
 ghost use Rattle.vortex_logical_calls.specs.Computation as specs;
 
 use crate::call::call_two;
-use crate::turning::{as_float, meet_in_float, turn, turned};
+use crate::conversions::{as_float, conversion_beside, converted, meet_in_float};
 use std::alloc::Global;
 use vortex_logical::kind::Kind;
 use vortex_logical::operand::Operand;
@@ -72,10 +72,10 @@ fn compute_exact(
     ensures { Makes (λ x. lowered x.tree x.operand) result (specs.compute_exact operator
         (lowered left.tree left.operand) (lowered right.tree right.operand)) }
 {
-    let of_left = turn(&left.operand, &right.operand);
-    let of_right = turn(&right.operand, &left.operand);
-    let left = turned(alloc, of_left, left)?;
-    let right = turned(alloc, of_right, right)?;
+    let of_left = conversion_beside(&left.operand, &right.operand);
+    let of_right = conversion_beside(&right.operand, &left.operand);
+    let left = converted(alloc, of_left, left)?;
+    let right = converted(alloc, of_right, right)?;
     compute_met(alloc, operator, left, right)
 }
 

@@ -1,14 +1,14 @@
 //! Calls of SQL's operators on values with kinds: dates, timestamps, decimals and floats.
 #![tactic(auto)]
 
-pub mod between;
+pub mod bounds;
 mod call;
 pub mod comparison;
 pub mod computation;
+pub mod conversions;
 pub mod literals;
-pub mod turning;
 
-pub use between::between;
+pub use bounds::between;
 pub use comparison::compare;
 pub use computation::compute;
 pub use literals::{kind_beside, literal};

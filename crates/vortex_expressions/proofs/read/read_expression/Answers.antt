@@ -12,21 +12,21 @@ pub returns-in-Ok-clause-found : goal.returns-in-Ok-clause-found
 returns-in-Ok-clause-found c =
     let t = c.in-Ok.ensures.found in
     let read = subst (λ w. Reads w t.0) c.as_bytes.ensures.value t.1 in
-    found (struct_fields c.args.scope.now) c.args.text.now t.0 c.in-Ok.tree.steps.items read t.2
+    found c.args.text.now t.0 c.in-Ok.tree.steps.items read t.2 (struct_fields c.args.scope.now)
     c.bind_steps.result c.bind_steps.ensures
 
 pub returns-in-Ok-clause-only : goal.returns-in-Ok-clause-only
 returns-in-Ok-clause-only c =
     let t = c.in-Ok.ensures.found in
     let read = subst (λ w. Reads w t.0) c.as_bytes.ensures.value t.1 in
-    only (struct_fields c.args.scope.now) c.args.text.now t.0 c.in-Ok.tree.steps.items read t.2
+    only c.args.text.now t.0 c.in-Ok.tree.steps.items read t.2 (struct_fields c.args.scope.now)
     c.bind_steps.result c.bind_steps.ensures
 
 pub returns-in-Ok-clause-refused : goal.returns-in-Ok-clause-refused
 returns-in-Ok-clause-refused c =
     let t = c.in-Ok.ensures.found in
     let read = subst (λ w. Reads w t.0) c.as_bytes.ensures.value t.1 in
-    refused (struct_fields c.args.scope.now) c.args.text.now t.0 c.in-Ok.tree.steps.items read t.2
+    refused c.args.text.now t.0 c.in-Ok.tree.steps.items read t.2 (struct_fields c.args.scope.now)
     c.bind_steps.result c.bind_steps.ensures
 
 pub returns-in-Err-clause-only : goal.returns-in-Err-clause-only
@@ -45,7 +45,7 @@ pub returns-in-Ok-clause-told : goal.returns-in-Ok-clause-told
 returns-in-Ok-clause-told c =
     let t = c.in-Ok.ensures.found in
     let read = subst (λ w. Reads w t.0) c.as_bytes.ensures.value t.1 in
-    told (struct_fields c.args.scope.now) c.args.text.now t.0 c.in-Ok.tree.steps.items read t.2
+    told c.args.text.now t.0 c.in-Ok.tree.steps.items read t.2 (struct_fields c.args.scope.now)
     c.bind_steps.result c.bind_steps.ensures
 
 pub returns-in-Err-clause-told : goal.returns-in-Err-clause-told

@@ -2,7 +2,7 @@
 ghost use Rattle.std.specs.Prelude.{◌≡◌};
 ghost use Rattle.vortex_lowering.specs.Rows.{lowered};
 ghost use Rattle.vortex_logical_calls.specs.Outcomes.{Makes};
-ghost use Rattle.vortex_logical_calls.specs.Turning as specs;
+ghost use Rattle.vortex_logical_calls.specs.Conversions as specs;
 
 use crate::call::call_one;
 use std::alloc::Global;
@@ -11,14 +11,14 @@ use vortex_logical::common::common_operand;
 use vortex_logical::kind::Kind;
 use vortex_logical::operand::Operand;
 use vortex_lowering::{Lowered, Refusal};
-use vortex_standard::{Cast, DecimalToFloat, Standard, Widen, has_all_of};
+use vortex_standard::{Cast, DecimalScale, Standard, Widen, has_all_of};
 use vortex_types::PType;
 
 /// What an operand becomes.
 #[derive(Clone, Copy, Debug, PartialEq, Eq)]
-pub(crate) enum Turn {
+pub(crate) enum Conversion {
     /// It stays as it is.
-    Same,
+    Keep,
     /// A float of 64 bits.
     Float,
     /// An integer of that type.
@@ -33,36 +33,36 @@ pub(crate) fn meet_in_float(left: &Operand, right: &Operand) -> bool
 }
 
 /// The integer type that a whole number takes next to an operand.
-fn integer_turn(operand: &Operand, other: &Operand) -> Turn
-    ensures { result ≡ specs.integer_turn operand.now other.now }
+fn integer_conversion(operand: &Operand, other: &Operand) -> Conversion
+    ensures { result ≡ specs.integer_conversion operand.now other.now }
 {
     match (operand, other) {
-        (Operand::Whole(_), Operand::Of(Kind::Decimal(_))) => Turn::Integer(PType::I64),
-        (Operand::Whole(_), Operand::Of(Kind::Date)) => Turn::Integer(PType::I32),
-        _ => Turn::Same,
+        (Operand::Whole(_), Operand::Of(Kind::Decimal(_))) => Conversion::Integer(PType::I64),
+        (Operand::Whole(_), Operand::Of(Kind::Date)) => Conversion::Integer(PType::I32),
+        _ => Conversion::Keep,
     }
 }
 
 /// What an operand becomes next to another.
-pub(crate) fn turn(operand: &Operand, other: &Operand) -> Turn
-    ensures { result ≡ specs.turn operand.now other.now }
+pub(crate) fn conversion_beside(operand: &Operand, other: &Operand) -> Conversion
+    ensures { result ≡ specs.conversion_beside operand.now other.now }
 {
     if meet_in_float(operand, other) {
-        Turn::Float
+        Conversion::Float
     } else {
-        integer_turn(operand, other)
+        integer_conversion(operand, other)
     }
 }
 
 /// What an operand becomes next to two others.
-pub(crate) fn turn_by_two(operand: &Operand, first: &Operand, second: &Operand) -> Turn
-    ensures { result ≡ specs.turn_by_two operand.now first.now second.now }
+pub(crate) fn conversion_by_two(operand: &Operand, first: &Operand, second: &Operand) -> Conversion
+    ensures { result ≡ specs.conversion_by_two operand.now first.now second.now }
 {
     if meet_in_float(operand, second) {
-        return Turn::Float;
+        return Conversion::Float;
     }
-    match turn(operand, first) {
-        Turn::Same => integer_turn(operand, second),
+    match conversion_beside(operand, first) {
+        Conversion::Keep => integer_conversion(operand, second),
         other => other,
     }
 }
@@ -85,8 +85,8 @@ fn float_function(operand: &Operand) -> Option<Standard>
     match operand {
         Operand::Whole(_) => Some(Standard::IntToFloat),
         Operand::Of(Kind::Decimal(digits)) => {
-            let scale = digits.scale();
-            Some(Standard::DecimalToFloat(DecimalToFloat { scale }))
+            let scale = DecimalScale::of_number(digits.scale())?;
+            Some(Standard::DecimalToFloat(scale))
         }
         Operand::Of(Kind::F32) => Some(Standard::WidenFloat),
         _ => None,
@@ -149,17 +149,17 @@ fn as_integer(
 }
 
 /// What the operand becomes.
-pub(crate) fn turned(
+pub(crate) fn converted(
     alloc: Global,
-    turn: Turn,
+    conversion: Conversion,
     item: Lowered<Standard>,
 ) -> Result<Lowered<Standard>, Refusal>
     ensures { Makes (λ x. lowered x.tree x.operand) result
-        (specs.turned turn (lowered item.tree item.operand)) }
+        (specs.converted conversion (lowered item.tree item.operand)) }
 {
-    match turn {
-        Turn::Same => Ok(item),
-        Turn::Float => as_float(alloc, item),
-        Turn::Integer(ptype) => as_integer(alloc, ptype, item),
+    match conversion {
+        Conversion::Keep => Ok(item),
+        Conversion::Float => as_float(alloc, item),
+        Conversion::Integer(ptype) => as_integer(alloc, ptype, item),
     }
 }

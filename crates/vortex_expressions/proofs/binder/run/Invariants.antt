@@ -1,8 +1,10 @@
 use Rattle.vortex_types.specs.TypeOf.{struct_fields}
+use Rattle.vortex_expressions.specs.Calls.{column_in}
 use Rattle.vortex_expressions.specs.Stacks.{stack_in}
 use Rattle.vortex_expressions.proofs.Walking.{SoFar}
-use Rattle.vortex_expressions.proofs.binder.bind.Given as goal
+use Rattle.vortex_expressions.proofs.binder.run.Given as goal
 
 abbrev pub invariant-loop-number : goal.invariant-loop-number
 invariant-loop-number l =
-    SoFar (struct_fields l.scope) l.steps l.number (stack_in l.stack.items.items)
+    SoFar (column_in (struct_fields l.scope) l.kinds) l.steps l.number
+    (stack_in l.stack.items.items)

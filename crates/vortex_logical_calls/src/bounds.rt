@@ -4,7 +4,7 @@ ghost use Rattle.vortex_lowering.specs.Rows.{lowered};
 ghost use Rattle.vortex_logical_calls.specs.Outcomes.{Makes};
 ghost use Rattle.vortex_logical_calls.specs.Bounds as specs;
 
-use crate::turning::{turn_by_two, turned};
+use crate::conversions::{conversion_by_two, converted};
 use std::alloc::Global;
 use vortex_functions::BoundExpression;
 use vortex_lowering::{Lowered, Refusal};
@@ -39,8 +39,8 @@ pub fn between(
         (lowered lower.tree lower.operand) (lowered upper.tree upper.operand)) }
 {
     let (a, low, high) = (item.operand, lower.operand, upper.operand);
-    let item = turned(alloc, turn_by_two(&a, &low, &high), item)?;
-    let lower = turned(alloc, turn_by_two(&low, &a, &high), lower)?;
-    let upper = turned(alloc, turn_by_two(&high, &a, &low), upper)?;
+    let item = converted(alloc, conversion_by_two(&a, &low, &high), item)?;
+    let lower = converted(alloc, conversion_by_two(&low, &a, &high), lower)?;
+    let upper = converted(alloc, conversion_by_two(&high, &a, &low), upper)?;
     between_met(alloc, options, item, lower, upper)
 }

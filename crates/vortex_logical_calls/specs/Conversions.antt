@@ -1,5 +1,6 @@
 -- What an operand becomes next to another: a float, or an integer of another type.
 use Rattle.std.specs.Prelude.{Option, Some, None, Bool, true, false, if◌then◌else◌}
+use Rattle.std.specs.Option.{option_map}
 use Rattle.vortex_types.specs.declared.dtype.PType.{PType}
 use Rattle.vortex_types.specs.declared.dtype.PType.TheVariants.{I32, I64}
 use Rattle.vortex_types.specs.TypeEquality.{ptype_eq}
@@ -9,10 +10,11 @@ use Rattle.vortex_logical.specs.declared.operand.Operand.TheVariants.{Whole, Of}
 use Rattle.vortex_logical.specs.CommonKinds.{common_operand}
 use Rattle.vortex_standard.specs.declared.standard.Standard.{Standard}
 use Rattle.vortex_standard.specs.declared.standard.Standard.TheVariants as standard
+use Rattle.vortex_standard.specs.Scales.{scale_of}
 use Rattle.vortex_sql_rows.specs.Types.{has_all_of}
 use Rattle.vortex_lowering.specs.Rows.{lowered}
-use Rattle.vortex_logical_calls.specs.declared.turning.Turn.{Turn}
-use Rattle.vortex_logical_calls.specs.declared.turning.Turn.TheVariants.{Same, Float, Integer}
+use Rattle.vortex_logical_calls.specs.declared.conversions.Conversion.{Conversion}
+use Rattle.vortex_logical_calls.specs.declared.conversions.Conversion.TheVariants.{Keep, Float, Integer}
 use Rattle.vortex_logical_calls.specs.Outcomes.{Outcome, made, and_then}
 use Rattle.vortex_logical_calls.specs.Calls.{Lowered, call_one}
 
@@ -25,23 +27,23 @@ abbrev pub meet_in_float : Operand → Operand → Bool
 meet_in_float a b = is_f64 (common_operand a b)
 
 -- decimals are stored in 64 bits, and days in 32
-abbrev pub integer_turn : Operand → Operand → Turn
-integer_turn (Whole p) (Of (Decimal d)) = Integer I64
-integer_turn (Whole p) (Of Date) = Integer I32
-integer_turn a b = Same
+abbrev pub integer_conversion : Operand → Operand → Conversion
+integer_conversion (Whole p) (Of (Decimal d)) = Integer I64
+integer_conversion (Whole p) (Of Date) = Integer I32
+integer_conversion a b = Keep
 
-abbrev pub turn : Operand → Operand → Turn
-turn a b = if meet_in_float a b then Float else integer_turn a b
+abbrev pub conversion_beside : Operand → Operand → Conversion
+conversion_beside a b = if meet_in_float a b then Float else integer_conversion a b
 
 -- unless it stays, else the second
-abbrev pub first_turn : Turn → Turn → Turn
-first_turn Same t = t
-first_turn t u = t
+abbrev pub first_conversion : Conversion → Conversion → Conversion
+first_conversion Keep t = t
+first_conversion t u = t
 
 -- next to two others
-abbrev pub turn_by_two : Operand → Operand → Operand → Turn
-turn_by_two a b c =
-    if meet_in_float a c then Float else first_turn (turn a b) (integer_turn a c)
+abbrev pub conversion_by_two : Operand → Operand → Operand → Conversion
+conversion_by_two a b c =
+    if meet_in_float a c then Float else first_conversion (conversion_beside a b) (integer_conversion a c)
 
 -- to an integer type: where it has every number of the other, no row faults
 abbrev pub integer_cast : PType → PType → Standard
@@ -52,7 +54,7 @@ integer_cast q p =
 -- the function that makes a float of 64 bits of a number
 abbrev pub float_function : Operand → Option Standard
 float_function (Whole p) = Some standard.IntToFloat
-float_function (Of (Decimal d)) = Some (standard.DecimalToFloat (record { scale = d.scale }))
+float_function (Of (Decimal d)) = option_map standard.DecimalToFloat (scale_of d.scale)
 float_function (Of F32) = Some standard.WidenFloat
 float_function a = None
 
@@ -71,7 +73,7 @@ integer_function (Of k) p = None
 abbrev pub as_integer : PType → Lowered → Outcome Lowered
 as_integer p x = after (integer_function x.operand p) (Whole p) x
 
-abbrev pub turned : Turn → Lowered → Outcome Lowered
-turned Same x = made x
-turned Float x = as_float x
-turned (Integer p) x = as_integer p x
+abbrev pub converted : Conversion → Lowered → Outcome Lowered
+converted Keep x = made x
+converted Float x = as_float x
+converted (Integer p) x = as_integer p x

@@ -1,0 +1,194 @@
+-- Calls on values of kinds are trees with a type, or are refused.
+use Rattle.std.proofs.Common.{◌≡◌, ℕ, Bool, true, false, cond, List, [], ◌∷◌, Option, Some, None, refl}
+use Rattle.std.specs.Prelude.{is_some}
+use Rattle.vortex_types.specs.declared.dtype.PType.{PType}
+use Rattle.vortex_types.specs.LogicalTypes.{integer_type}
+use Rattle.vortex_errors.specs.declared.error.NumericOperator.{NumericOperator}
+use Rattle.vortex_operators.specs.declared.operators.CompareOperator.{CompareOperator}
+use Rattle.vortex_interface.specs.Meaning.{fits}
+use Rattle.vortex_interface.specs.Functions.{custom, function_arity}
+use Rattle.vortex_interface.specs.Eval.{tree_type}
+use Rattle.vortex_logical.specs.declared.kind.Kind.{Kind}
+use Rattle.vortex_logical.specs.Kinds.{stored_ptype}
+use Rattle.vortex_logical.specs.declared.operand.Operand.{Operand}
+use Rattle.vortex_logical.specs.declared.operand.Operand.TheVariants.{Whole, Of}
+use Rattle.vortex_logical.specs.CommonKinds.{common_operand}
+use Rattle.vortex_lowering.specs.Operands.{are_shipped}
+use Rattle.vortex_lowering.specs.Results.{result_operand, are_computed}
+use Rattle.vortex_lowering.specs.LoweredTrees.{compared_tree, bounded_tree, computed_tree}
+use Rattle.vortex_standard.specs.declared.standard.Standard.{Standard}
+use Rattle.vortex_logical_calls.specs.Outcomes as calls
+use Rattle.vortex_logical_calls.specs.Calls.{Lowered, typed, call_two}
+use Rattle.vortex_logical_calls.specs.Conversions.{conversion_beside, conversion_by_two, converted, as_float, meet_in_float}
+use Rattle.vortex_logical_calls.specs.Comparison.{if_met, compare_met, compared}
+use Rattle.vortex_logical_calls.specs.Bounds as bounds
+use Rattle.vortex_logical_calls.specs.Computation.{of_operand, of_result, compute_floats}
+use Rattle.vortex_logical_calls.specs.Computation.{compute_met, compute_exact, computed}
+use Rattle.vortex_logical_calls.specs.Literals.{kind_beside, literal_of}
+use Rattle.vortex_syntax.specs.declared.step.WrittenOperator as written
+use Rattle.vortex_expressions.specs.Literals.{Literal, number, text, truth, null}
+use Rattle.vortex_expressions.specs.Items.{Tree, Item, literal, bound, kinded, meaning}
+use Rattle.vortex_expressions.specs.Items.{constant_at}
+use Rattle.vortex_expressions.specs.Kinded.{told, stored_item, first_kind, whole_ptype}
+use Rattle.vortex_expressions.specs.Kinded.{whole_literal, text_literal, number_literal, null_of}
+use Rattle.vortex_expressions.specs.Kinded.{literal_operand, item_operand, value_item}
+use Rattle.vortex_expressions.specs.Kinded.{KindedOperator, compares, computes, neither, operated}
+use Rattle.vortex_expressions.specs.Kinded.{kinded_operator, kinded_joined, kinded_between}
+use Rattle.vortex_expressions.specs.Kinded.{within_bounds}
+use Rattle.vortex_expressions.proofs.SureCalls.{Sure, sure_then, IsTyped, IsItem, sure_constant}
+use Rattle.vortex_expressions.proofs.SureCalls.{sure_item}
+
+-- P of the result, if there is one
+abbrev IfMade : {A : Type 0} → (A → Type 0) → calls.Outcome A → Type 0
+IfMade P (calls.made a) = P a
+IfMade P o = Unit {0}
+
+any_made : {A : Type 0} (o : calls.Outcome A) → IfMade (λ a. Unit {0}) o
+any_made (calls.made a) = tt
+any_made (calls.refused r) = tt
+any_made calls.untyped = tt
+
+if_then : {A B : Type 0} (Q : B → Type 0) (o : calls.Outcome A) (f : A → calls.Outcome B)
+    → ((a : A) → IfMade Q (f a)) → IfMade Q (calls.and_then o f)
+if_then Q (calls.made a) f h = h a
+if_then Q (calls.refused r) f h = tt
+if_then Q calls.untyped f h = tt
+
+if_both : {A B : Type 0} (P : A → Type 0) (Q : B → Type 0) (o : calls.Outcome A)
+    (f : A → calls.Outcome B) → IfMade P o → ((a : A) → P a → IfMade Q (f a))
+    → IfMade Q (calls.and_then o f)
+if_both P Q (calls.made a) f h k = k a h
+if_both P Q (calls.refused r) f h k = tt
+if_both P Q calls.untyped f h k = tt
+
+if_chosen : {A : Type 0} (P : A → Type 0) (b : Bool) (o u : calls.Outcome A) → IfMade P o
+    → IfMade P u → IfMade P (cond b o u)
+if_chosen P true o u h k = h
+if_chosen P false o u h k = k
+
+sure_told : {A : Type 0} (P : A → Type 0) (o : calls.Outcome A) → IfMade P o → Sure P (told o)
+sure_told P (calls.made a) h = h
+sure_told P (calls.refused r) h = tt
+sure_told P calls.untyped h = tt
+
+-- calls
+typed_made : (t : Tree) → IfMade IsTyped (typed t)
+typed_made t = by (is_some (tree_type meaning t)) refl
+  where
+    by : (b : Bool) → is_some (tree_type meaning t) ≡ b
+        → IfMade IsTyped (cond b (calls.made t) calls.untyped)
+    by true e = e
+    by false e = tt
+
+two_made : (f : Standard) (t u : Tree) → IfMade IsTyped (call_two f t u)
+two_made f t u =
+    if_chosen IsTyped (fits (function_arity meaning (custom f (record {}))) 2) _ _
+    (typed_made _) tt
+
+met_made : (a b : Operand) (o : calls.Outcome Tree) → IfMade IsTyped o
+    → IfMade IsTyped (if_met a b o)
+met_made a b o h =
+    if_chosen IsTyped (is_some (common_operand a b)) _ _
+    (if_chosen IsTyped (are_shipped a b) _ _ h tt) tt
+
+compared_made : (op : CompareOperator) (x y : Lowered) → IfMade IsTyped (compared op x y)
+compared_made op x y =
+    if_then IsTyped (converted (conversion_beside x.operand y.operand) x) _
+    (λ a. if_then IsTyped (converted (conversion_beside y.operand x.operand) y) _
+    (λ b. met_made a.operand b.operand _ (typed_made (compared_tree op a b))))
+
+between_made : (x low high : Lowered) → IfMade IsTyped (bounds.between within_bounds x low high)
+between_made x low high =
+    if_then IsTyped (converted (conversion_by_two x.operand low.operand high.operand) x) _
+    (λ a. if_then IsTyped (converted (conversion_by_two low.operand x.operand high.operand) low) _
+    (λ b. if_then IsTyped (converted (conversion_by_two high.operand x.operand low.operand) high) _
+    (λ c. met_made b.operand a.operand _
+    (met_made a.operand c.operand _ (typed_made (bounded_tree within_bounds a b c))))))
+
+abbrev IsValue : Lowered → Type 0
+IsValue x = IsTyped x.tree
+
+operand_made : (a : Operand) (o : calls.Outcome Tree) → IfMade IsTyped o
+    → IfMade IsValue (of_operand a o)
+operand_made a o h = if_both IsTyped IsValue o _ h (λ t k. k)
+
+result_made : (b : Bool) (x y : Lowered) (a : Option Operand) (o : calls.Outcome Tree)
+    → IfMade IsTyped o → IfMade IsValue (of_result b x y a o)
+result_made b x y None o h = tt
+result_made b x y (Some a) o h = if_chosen IsValue b _ _ (operand_made a o h) tt
+
+computed_made : (o : NumericOperator) (x y : Lowered) → IfMade IsValue (computed o x y)
+computed_made o x y =
+    if_chosen IsValue (meet_in_float x.operand y.operand) _ _
+    (if_then IsValue (as_float x) _
+    (λ a. if_then IsValue (as_float y) _ (λ b. operand_made _ _ (two_made _ a.tree b.tree))))
+    (if_then IsValue (converted (conversion_beside x.operand y.operand) x) _
+    (λ a. if_then IsValue (converted (conversion_beside y.operand x.operand) y) _
+    (λ b. result_made (are_computed o a.operand b.operand) a b
+    (result_operand o a.operand b.operand) _ (typed_made (computed_tree o a b)))))
+
+-- items next to a value of a kind
+abbrev Any : {A : Type 0} → A → Type 0
+Any a = Unit {0}
+
+sure_whole : (p : PType) (l : Literal) → Sure Any (whole_literal p l)
+sure_whole p l =
+    sure_then IsTyped Any (constant_at l (integer_type p false)) _ (sure_constant l _) (λ t h. tt)
+
+sure_text_literal : (k : Kind) (bs : List ℕ) → Sure Any (text_literal k bs)
+sure_text_literal k bs = sure_told Any (literal_of k bs) (any_made (literal_of k bs))
+
+sure_number : (k : Kind) (o : Option Kind) (w : List ℕ) → Sure Any (number_literal k o w)
+sure_number k None w = sure_whole (whole_ptype k) (number w)
+sure_number k (Some j) w = sure_text_literal j w
+
+sure_null_of : (k : Kind) (o : Option PType) → Sure Any (null_of k o)
+sure_null_of k None = tt
+sure_null_of k (Some p) =
+    sure_then IsTyped Any (constant_at null (integer_type p true)) _ (sure_constant null _)
+    (λ t h. tt)
+
+sure_literal_operand : (k : Kind) (l : Literal) → Sure Any (literal_operand k l)
+sure_literal_operand k (number w) = sure_number k (kind_beside (Of k) w) w
+sure_literal_operand k (text bs) = sure_text_literal k bs
+sure_literal_operand k (truth b) = tt
+sure_literal_operand k null = sure_null_of k (stored_ptype k)
+
+sure_operand : (k : Kind) (i : Item) → Sure Any (item_operand k i)
+sure_operand k (literal l) = sure_literal_operand k l
+sure_operand k (bound t) = tt
+sure_operand k (kinded j t) = tt
+
+value_is : (a : Operand) (t : Tree) → IsTyped t → IsItem (value_item a t)
+value_is (Whole p) t h = h
+value_is (Of k) t h = h
+
+sure_operated : (k : Kind) (o : KindedOperator) (x y : Lowered) → Sure IsItem (operated k o x y)
+sure_operated k (compares op) x y =
+    sure_item _ (sure_told IsTyped (compared op x y) (compared_made op x y))
+sure_operated k (computes o) x y =
+    sure_then IsValue IsItem (told (computed o x y)) _
+    (sure_told IsValue (computed o x y) (computed_made o x y))
+    (λ z h. value_is z.operand z.tree h)
+sure_operated k neither x y = tt
+
+pub sure_kinded_joined : (o : written.WrittenOperator) (a b : Item)
+    → Sure IsItem (kinded_joined o a b)
+sure_kinded_joined o a b =
+    let k = first_kind (a ∷ b ∷ []) in
+    sure_then Any IsItem (item_operand k a) _ (sure_operand k a)
+    (λ x h. sure_then Any IsItem (item_operand k b) _ (sure_operand k b)
+    (λ y j. sure_operated k (kinded_operator o) x y))
+
+pub sure_kinded_between : (a b c : Item) → Sure IsTyped (kinded_between a b c)
+sure_kinded_between a b c =
+    let k = first_kind (a ∷ b ∷ c ∷ []) in
+    sure_then Any IsTyped (item_operand k a) _ (sure_operand k a)
+    (λ x h. sure_then Any IsTyped (item_operand k b) _ (sure_operand k b)
+    (λ y j. sure_then Any IsTyped (item_operand k c) _ (sure_operand k c)
+    (λ z l. sure_told IsTyped (bounds.between within_bounds x y z) (between_made x y z))))
+
+pub sure_stored : (i : Item) → IsItem i → IsItem (stored_item i)
+sure_stored (literal l) h = h
+sure_stored (bound t) h = h
+sure_stored (kinded k t) h = h
