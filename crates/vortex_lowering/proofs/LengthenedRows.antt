@@ -19,12 +19,8 @@ use Rattle.vortex_logical.specs.StandsFor.{StoredValuesAreOrdered}
 use Rattle.vortex_lowering.specs.Operands.{OperandMeans, are_shipped, scale_of, lacking, is_held, held_at}
 use Rattle.vortex_lowering.specs.Truths.{IsTruth}
 use Rattle.vortex_lowering.specs.Rows.{Lowered, IsRow}
-use Rattle.vortex_lowering.specs.Lengthening.{lengthened, IsLengthened}
+use Rattle.vortex_lowering.proofs.LengthenedTrees.{lengthened, IsLengthened}
 use Rattle.vortex_lowering.proofs.StoredComparisons.{longer, stored_comparison}
-
--- what options have
-pub some_same : {A : Type 0} (x y : A) → Some x ≡ Some y → x ≡ y
-some_same x y e = cc
 
 -- the outcome, or the fault of a product
 abbrev pub or_fault : Bool → Outcome → Outcome

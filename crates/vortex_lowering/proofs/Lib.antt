@@ -2,6 +2,8 @@ mod Powers
 mod StoredComparisons
 mod StoredResults
 mod StoredLiterals
+mod TreeTypes
+mod LengthenedTrees
 mod LengthenedRows
 mod RowComparisons
 mod RowResults

@@ -1,7 +1,6 @@
 -- Comparisons of trees with the digits that they lack mean what they should, row by row.
 use Rattle.std.proofs.Common.{◌≡◌, ◌∙◌, ◌<◌, ◌≤◌, ℕ, Bool, true, false, refl, ap, sym, subst, arith}
-use Rattle.std.specs.Prelude.{List, [], ◌∷◌, Some, None, ◌&&◌, ◌||◌, max, if◌then◌else◌}
-use Rattle.vortex_errors.specs.declared.error.VortexError.{VortexError}
+use Rattle.std.specs.Prelude.{List, [], ◌∷◌, Some, None, ◌&&◌, ◌||◌, max, is_some, option_and_then, if◌then◌else◌}
 use Rattle.vortex_types.specs.declared.dtype.PType.{PType}
 use Rattle.vortex_types.specs.declared.dtype.PType.TheVariants.{I64}
 use Rattle.vortex_types.specs.LogicalTypes.{LogicalType, integer_type, bool_type}
@@ -9,6 +8,7 @@ use Rattle.vortex_types.specs.TypeEquality.{ptype_yes, ptype_refl}
 use Rattle.vortex_types.specs.Values.{Value}
 use Rattle.vortex_operators.specs.declared.operators.CompareOperator.{CompareOperator}
 use Rattle.vortex_operators.specs.declared.operators.CompareOperator.TheVariants as compare
+use Rattle.vortex_operators.specs.declared.operators.Operator.{Operator}
 use Rattle.vortex_operators.specs.Operators.{operator_of}
 use Rattle.vortex_operators.specs.OperatorValues.{comparison_value}
 use Rattle.vortex_interface.specs.Meaning.{Meaning}
@@ -16,10 +16,9 @@ use Rattle.vortex_interface.specs.Outcomes.{Outcome, gives}
 use Rattle.vortex_interface.specs.ComparisonTrees.{compared_means}
 use Rattle.vortex_interface.specs.Shipped.{Binary}
 use Rattle.vortex_interface.specs.Shipped.BinaryFunction.{operator_means, operator_type, compared_type}
-use Rattle.vortex_interface.specs.Functions.{ours}
+use Rattle.vortex_interface.specs.Functions.{Function, ours, call_type}
 use Rattle.vortex_interface.specs.Trees.{Tree, trees_of}
-use Rattle.vortex_interface.specs.Eval.{eval, tree_types, all_give, with_first, then_means, with_type, types_or_none}
-use Rattle.vortex_functions.specs.Binding.{IsCall, RefusesCall, count, types}
+use Rattle.vortex_interface.specs.Eval.{eval, tree_type, tree_types, all_give, with_first, then_means, with_type, types_or_none}
 use Rattle.vortex_logical.specs.declared.kind.Kind.TheVariants.{Plain, Date, Timestamp, Decimal, F64, F32}
 use Rattle.vortex_logical.specs.declared.operand.Operand.{Operand}
 use Rattle.vortex_logical.specs.declared.operand.Operand.TheVariants.{Whole, Of}
@@ -27,9 +26,11 @@ use Rattle.vortex_logical.specs.Decimals.{RescalingOrders}
 use Rattle.vortex_logical.specs.StandsFor.{StoredValuesAreOrdered}
 use Rattle.vortex_lowering.specs.Operands.{are_shipped, operand_ptype, common_scale, scale_of, lacking, held_at}
 use Rattle.vortex_lowering.specs.Rows.{Lowered, IsOfType, IsTyped}
-use Rattle.vortex_lowering.specs.Lengthening.{IsLengthened}
+use Rattle.vortex_lowering.specs.LoweredTrees.{operated_tree, tree_at_scale, compared_tree}
 use Rattle.vortex_lowering.specs.Comparing.{Compares}
-use Rattle.vortex_lowering.proofs.LengthenedRows.{some_same, or_fault, row_outcome, truth_value}
+use Rattle.vortex_lowering.proofs.TreeTypes.{each_some, arguments_some}
+use Rattle.vortex_lowering.proofs.LengthenedTrees.{some_same, scaled, scaled_typed}
+use Rattle.vortex_lowering.proofs.LengthenedRows.{or_fault, row_outcome, truth_value}
 
 -- the outcome of a comparison for those of its operands
 abbrev of_compared : CompareOperator → List LogicalType → Outcome → Outcome → Outcome
@@ -99,51 +100,53 @@ compared_integers op p n k = by op
     by compare.Lt = same
     by compare.Lte = same
 
-module _ {V O : Type 0} (m : Meaning V O) where
-  comparison_refused : (op : CompareOperator) (l r : Tree V O) (e : VortexError) (p : PType)
-      → RefusesCall m (ours (Binary (operator_of op))) (l ∷ r ∷ []) e → IsOfType m p l → IsOfType m p r → ⊥
-  comparison_refused op l r e p (count f g) h k = cc
-  comparison_refused op l r e p (types ks f g w q) h k =
-      let these = integer_type p h.0 ∷ integer_type p k.0 ∷ [] in
-      let same = some_same these ks (sym (λ i. with_type (h.1 i) (with_type (k.1 i) (Some []))) ∙ g) in
-      let none : operator_type (operator_of op) these ≡ None = ap (operator_type (operator_of op)) same ∙ w in
-      let some = compared_integers op p h.0 k.0 in
-      cc
+-- the tree of the definition, from its parts
+pub compared_made : {V O : Type 0} (op : CompareOperator) (x y : Lowered V O) (u : ℕ) (p : Operator) (l r : Tree V O)
+    → u ≡ common_scale x.operand y.operand → p ≡ operator_of op → l ≡ tree_at_scale u x → r ≡ tree_at_scale u y
+    → operated_tree p l r ≡ compared_tree op x y
+compared_made op x y u p l r e f g h =
+    (λ i. operated_tree (f i) (g i) (h i)) ∙ (λ i. operated_tree (operator_of op) (tree_at_scale (e i) x) (tree_at_scale (e i) y))
 
-  module _ (op : CompareOperator) (x y : Lowered V O) (shipped : are_shipped x.operand y.operand ≡ true) where
-    pub compares : StoredValuesAreOrdered → RescalingOrders → (l r t : Tree V O)
-        → IsLengthened m (lacking (common_scale x.operand y.operand) x.operand) x.tree l
-        → IsLengthened m (lacking (common_scale x.operand y.operand) y.operand) y.tree r
-        → IsCall m (ours (Binary (operator_of op))) (l ∷ r ∷ []) t → Compares m op x y t
-    compares ordered orders l r t left right c cs i v w p h g e =
-        let u = common_scale x.operand y.operand in
-        let ts = types_or_none (tree_types m (trees_of (l ∷ r ∷ []))) in
-        let one = row_outcome m u x l left cs i v h in
-        let two = row_outcome m u y r right cs i w g in
-        let truth = truth_value ordered orders op u x.operand y.operand shipped
-        (left_most (scale_of x.operand) (scale_of y.operand)) (right_most (scale_of x.operand) (scale_of y.operand))
-        v w p one.0 two.0 one.2 two.2 e in
-        ap (λ s. eval m cs s i) c.is
-        ∙ (λ j. of_compared op ts (one.1 j) (two.1 j))
-        ∙ compared_rows op ts (held_at u x.operand v) (held_at u y.operand w) one.0 two.0
-        ∙ ap (λ s. or_fault (held_at u x.operand v && held_at u y.operand w) (gives s)) truth
+module _ {V O : Type 0} (m : Meaning V O) (op : CompareOperator) (x y : Lowered V O)
+    (shipped : are_shipped x.operand y.operand ≡ true) where
+  abbrev compared_function : Function V O
+  compared_function = ours (Binary (operator_of op))
 
-    -- a comparison is refused only where a tree is not of its stored type
-    pub refused : (l r : Tree V O) (e : VortexError)
-        → IsLengthened m (lacking (common_scale x.operand y.operand) x.operand) x.tree l
-        → IsLengthened m (lacking (common_scale x.operand y.operand) y.operand) y.tree r
-        → RefusesCall m (ours (Binary (operator_of op))) (l ∷ r ∷ []) e → ¬ (IsTyped m x × IsTyped m y)
-    refused l r e left right f h =
-        let same = some_same h.1.0 h.0.0 (sym h.1.1 ∙ sym (same_ptype x.operand y.operand shipped) ∙ h.0.1) in
-        comparison_refused op l r e h.0.0 f (left.keeps h.0.0 h.0.2)
-        (right.keeps h.0.0 (subst (λ p. IsOfType m p y.tree) same h.1.2))
+  pub compares : StoredValuesAreOrdered → RescalingOrders → (t : Tree V O) → t ≡ compared_tree op x y
+      → is_some (tree_type m t) ≡ true → Compares m op x y t
+  compares ordered orders t is takes cs i v w p h g e =
+      let u = common_scale x.operand y.operand in
+      let l = tree_at_scale u x in
+      let r = tree_at_scale u y in
+      let ts = types_or_none (tree_types m (trees_of (l ∷ r ∷ []))) in
+      let both = arguments_some m compared_function (trees_of (l ∷ r ∷ [])) (ap (λ s. is_some (tree_type m s)) (sym is) ∙ takes) in
+      let left = each_some (tree_type m l) (tree_types m (trees_of (r ∷ []))) both in
+      let right = each_some (tree_type m r) (Some []) left.1 in
+      let one = row_outcome m u x l (scaled m u x left.0) cs i v h in
+      let two = row_outcome m u y r (scaled m u y right.0) cs i w g in
+      let truth = truth_value ordered orders op u x.operand y.operand shipped
+      (left_most (scale_of x.operand) (scale_of y.operand)) (right_most (scale_of x.operand) (scale_of y.operand))
+      v w p one.0 two.0 one.2 two.2 e in
+      ap (λ s. eval m cs s i) is
+      ∙ (λ j. of_compared op ts (one.1 j) (two.1 j))
+      ∙ compared_rows op ts (held_at u x.operand v) (held_at u y.operand w) one.0 two.0
+      ∙ ap (λ s. or_fault (held_at u x.operand v && held_at u y.operand w) (gives s)) truth
 
-    pub left_refused : (0 < lacking (common_scale x.operand y.operand) x.operand) × ¬ (IsOfType m I64 x.tree)
-        → ¬ (IsTyped m x × IsTyped m y)
-    left_refused f h =
-        f.1 (subst (λ p. IsOfType m p x.tree) (some_same h.0.0 I64 (sym h.0.1 ∙ wide_left x.operand y.operand shipped f.0)) h.0.2)
+  -- operands of their stored types are compared
+  compared_typed : IsTyped m x → IsTyped m y → is_some (tree_type m (compared_tree op x y)) ≡ true
+  compared_typed h g =
+      let u = common_scale x.operand y.operand in
+      let same = some_same g.0 h.0 (sym g.1 ∙ sym (same_ptype x.operand y.operand shipped) ∙ h.1) in
+      let left = (scaled_typed m u x (wide_left x.operand y.operand shipped) h).keeps h.0 h.2 in
+      let right = (scaled_typed m u y (wide_right x.operand y.operand shipped) g).keeps h.0 (subst (λ p. IsOfType m p y.tree) same g.2) in
+      (λ i. is_some (option_and_then (call_type m compared_function) (with_type (left.1 i) (with_type (right.1 i) (Some [])))))
+      ∙ ap is_some (compared_integers op h.0 left.0 right.0)
 
-    pub right_refused : (0 < lacking (common_scale x.operand y.operand) y.operand) × ¬ (IsOfType m I64 y.tree)
-        → ¬ (IsTyped m x × IsTyped m y)
-    right_refused f h =
-        f.1 (subst (λ p. IsOfType m p y.tree) (some_same h.1.0 I64 (sym h.1.1 ∙ wide_right x.operand y.operand shipped f.0)) h.1.2)
+  -- so no type means that one is not of its stored type
+  pub comparison_none : (t : Tree V O) → t ≡ compared_tree op x y → tree_type m t ≡ None
+      → (tree_type m (compared_tree op x y) ≡ None) × ¬ (IsTyped m x × IsTyped m y)
+  comparison_none t is e =
+      let none : tree_type m (compared_tree op x y) ≡ None = ap (tree_type m) (sym is) ∙ e in (
+        none,
+        λ h. let some = compared_typed h.0 h.1 in let no : is_some (tree_type m (compared_tree op x y)) ≡ false = ap is_some none in cc,
+      )

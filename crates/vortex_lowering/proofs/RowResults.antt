@@ -4,7 +4,6 @@ use Rattle.std.specs.Prelude.{List, [], ◌∷◌, Option, Some, None, ◌&&◌,
 use Rattle.std.specs.Option.{option_map, option_and_then}
 use Rattle.std.specs.Bool.{MatchBool}
 use Rattle.vortex_checked.specs.Exact.{is_outside}
-use Rattle.vortex_errors.specs.declared.error.VortexError.{VortexError}
 use Rattle.vortex_errors.specs.declared.error.NumericOperator.{NumericOperator}
 use Rattle.vortex_errors.specs.declared.error.NumericOperator.TheVariants as numeric
 use Rattle.vortex_types.specs.declared.dtype.PType.{PType}
@@ -14,6 +13,7 @@ use Rattle.vortex_types.specs.TypeEquality.{ptype_eq, ptype_yes, ptype_refl}
 use Rattle.vortex_types.specs.Typing.{least_of, greatest_of}
 use Rattle.vortex_types.specs.Values.{Value, null, number}
 use Rattle.vortex_columns.specs.ColumnView.{ColumnView}
+use Rattle.vortex_operators.specs.declared.operators.Operator.{Operator}
 use Rattle.vortex_operators.specs.Arithmetic.{held, integer_of_both}
 use Rattle.vortex_interface.specs.Meaning.{Meaning}
 use Rattle.vortex_interface.specs.Outcomes.{Outcome, gives, faults, arithmetic}
@@ -23,7 +23,6 @@ use Rattle.vortex_interface.specs.Shipped.BinaryFunction.{operator_means, operat
 use Rattle.vortex_interface.specs.Functions.{ours, call_type}
 use Rattle.vortex_interface.specs.Trees.{Tree, trees_of}
 use Rattle.vortex_interface.specs.Eval.{eval, tree_type, tree_types, all_give, with_first, then_means, with_type, types_or_none}
-use Rattle.vortex_functions.specs.Binding.{IsCall, RefusesCall, count, types}
 use Rattle.vortex_logical.specs.Digits.{Digits, digits_of}
 use Rattle.vortex_logical.specs.declared.kind.Kind.TheVariants.{Plain, Date, Timestamp, Decimal, F64, F32}
 use Rattle.vortex_logical.specs.declared.operand.Operand.{Operand}
@@ -32,11 +31,12 @@ use Rattle.vortex_logical.specs.CommonKinds.{product_digits, decimal_operand, wh
 use Rattle.vortex_logical.specs.StandsFor as logical
 use Rattle.vortex_lowering.specs.Operands.{operand_ptype, lacking, held_at}
 use Rattle.vortex_lowering.specs.Results.{result_operand, are_computed, met_scale, IsResult, stored_of, type_holds, result_held}
-use Rattle.vortex_lowering.specs.Rows.{Lowered, IsOfType, IsTyped, IsRow}
-use Rattle.vortex_lowering.specs.Lengthening.{IsLengthened}
-use Rattle.vortex_lowering.specs.Computing.{arithmetic_operator, Computes}
+use Rattle.vortex_lowering.specs.Rows.{Lowered, lowered, IsOfType, IsTyped, IsRow}
+use Rattle.vortex_lowering.specs.LoweredTrees.{arithmetic_operator, operated_tree, tree_at_scale, computed_tree}
+use Rattle.vortex_lowering.specs.Computing.{Computes}
 use Rattle.vortex_lowering.proofs.StoredResults.{computed_value}
-use Rattle.vortex_lowering.proofs.LengthenedRows.{some_same, or_fault, RowValue, row_outcome}
+use Rattle.vortex_lowering.proofs.LengthenedTrees.{IsLengthened, some_same, scaled_typed}
+use Rattle.vortex_lowering.proofs.LengthenedRows.{or_fault, RowValue, row_outcome}
 
 -- operands and result are stored in one integer type
 abbrev SamePTypes : Operand → Operand → Operand → Type 0
@@ -195,6 +195,13 @@ value_outcome o a b c p l e q None w r s t h g k =
     ap (λ x. arithmetic_of o (Some p) x t) h
     ∙ ap (λ x. if result_held c x then gives (result_value x) else faults (arithmetic o)) (sym k)
 
+-- the tree of the definition, from its parts
+pub computed_made : {V O : Type 0} (o : NumericOperator) (x y : Lowered V O) (u : ℕ) (p : Operator) (l r : Tree V O)
+    → u ≡ met_scale o x.operand y.operand → p ≡ arithmetic_operator o → l ≡ tree_at_scale u x → r ≡ tree_at_scale u y
+    → operated_tree p l r ≡ computed_tree o x y
+computed_made o x y u p l r e f g h =
+    (λ i. operated_tree (f i) (g i) (h i)) ∙ (λ i. operated_tree (arithmetic_operator o) (tree_at_scale (e i) x) (tree_at_scale (e i) y))
+
 module _ {V O : Type 0} (m : Meaning V O) where
   -- a row with that outcome
   row_of : (z : Lowered V O) (cs : List ColumnView) (i : ℕ) (o : NumericOperator) (h g : Bool) (r : Option logical.Meaning)
@@ -217,42 +224,30 @@ module _ {V O : Type 0} (m : Meaning V O) where
     result_ptype : operand_ptype z.operand ≡ Some tx.0
     result_ptype = (same_ptypes o x.operand y.operand z.operand shipped kind).1 ∙ tx.1
 
-    pub computation_refused : (l r : Tree V O) (e : VortexError)
-        → IsLengthened m (lacking (met_scale o x.operand y.operand) x.operand) x.tree l
-        → IsLengthened m (lacking (met_scale o x.operand y.operand) y.operand) y.tree r
-        → RefusesCall m (ours (Binary (arithmetic_operator o))) (l ∷ r ∷ []) e → ⊥
-    computation_refused l r e left right (count f g) = cc
-    computation_refused l r e left right (types ks f g w q) =
+    left : IsLengthened m (lacking (met_scale o x.operand y.operand) x.operand) x.tree (tree_at_scale (met_scale o x.operand y.operand) x)
+    left = scaled_typed m (met_scale o x.operand y.operand) x (lacking_left o x.operand y.operand shipped) tx
+
+    right : IsLengthened m (lacking (met_scale o x.operand y.operand) y.operand) y.tree (tree_at_scale (met_scale o x.operand y.operand) y)
+    right = scaled_typed m (met_scale o x.operand y.operand) y (lacking_right o x.operand y.operand shipped) ty
+
+    abbrev pair_type : Option LogicalType → Option LogicalType → Option LogicalType
+    pair_type a b = option_and_then (call_type m (ours (Binary (arithmetic_operator o)))) (with_type a (with_type b (Some [])))
+
+    pub result_type : IsOfType m tx.0 (computed_tree o x y)
+    result_type =
         let h = left.keeps tx.0 tx.2 in
         let k = right.keeps tx.0 right_typed in
-        let these = integer_type tx.0 h.0 ∷ integer_type tx.0 k.0 ∷ [] in
-        let same = some_same these ks (sym (λ i. with_type (h.1 i) (with_type (k.1 i) (Some []))) ∙ g) in
-        let none : operator_type (arithmetic_operator o) these ≡ None = ap (operator_type (arithmetic_operator o)) same ∙ w in
-        let some = computed_type o tx.0 h.0 k.0 in
-        cc
+        (h.0 || k.0, (λ i. pair_type (h.1 i) (k.1 i)) ∙ computed_type o tx.0 h.0 k.0)
 
-    module _ (l r : Tree V O) (left : IsLengthened m (lacking (met_scale o x.operand y.operand) x.operand) x.tree l)
-        (right : IsLengthened m (lacking (met_scale o x.operand y.operand) y.operand) y.tree r)
-        (c : IsCall m (ours (Binary (arithmetic_operator o))) (l ∷ r ∷ []) z.tree) where
-      abbrev pair_type : Option LogicalType → Option LogicalType → Option LogicalType
-      pair_type a b = option_and_then (call_type m (ours (Binary (arithmetic_operator o)))) (with_type a (with_type b (Some [])))
-
+    module _ (is : z.tree ≡ computed_tree o x y) where
       pub result_typed : IsTyped m z
-      result_typed =
-          let h = left.keeps tx.0 tx.2 in
-          let k = right.keeps tx.0 right_typed in (
-            tx.0,
-            result_ptype,
-            (
-              h.0 || k.0,
-              ap (λ s. tree_type m s) c.is ∙ (λ i. pair_type (h.1 i) (k.1 i))
-                  ∙ computed_type o tx.0 h.0 k.0,
-            ),
-          )
+      result_typed = (tx.0, result_ptype, subst (IsOfType m tx.0) (sym is) result_type)
 
       pub computes : Computes m o x y z
       computes cs i v w q hx hy e =
           let u = met_scale o x.operand y.operand in
+          let l = tree_at_scale u x in
+          let r = tree_at_scale u y in
           let h = left.keeps tx.0 tx.2 in
           let k = right.keeps tx.0 right_typed in
           let ts = types_or_none (tree_types m (trees_of (l ∷ r ∷ []))) in
@@ -263,7 +258,7 @@ module _ {V O : Type 0} (m : Meaning V O) where
           let outcome = value_outcome o x.operand y.operand z.operand tx.0 shipped kind result_ptype v w q one.0 two.0 one.2 two.2 e in
           row_of z cs i o (held_at u x.operand v && held_at u y.operand w) (result_held z.operand q) q
           (meaning cs i v w q hx hy e)
-          (ap (λ s. eval m cs s i) c.is
+          (ap (λ s. eval m cs s i) is
           ∙ (λ j. of_computed o ts (one.1 j) (two.1 j))
           ∙ computed_rows o ts (held_at u x.operand v) (held_at u y.operand w) one.0 two.0
           ∙ ap (λ p. or_fault (held_at u x.operand v && held_at u y.operand w) (arithmetic_of o p one.0 two.0)) integer
@@ -278,13 +273,10 @@ module _ {V O : Type 0} (m : Meaning V O) where
           meaning cs i None w (Some q) hx hy e g = cc
           meaning cs i (Some v) None (Some q) hx hy e g = cc
 
-  module _ (o : NumericOperator) (x y : Lowered V O) (shipped : are_computed o x.operand y.operand ≡ true) where
-    pub left_lacks : (0 < lacking (met_scale o x.operand y.operand) x.operand) × ¬ (IsOfType m I64 x.tree)
-        → ¬ (IsTyped m x × IsTyped m y)
-    left_lacks f h =
-        f.1 (subst (λ p. IsOfType m p x.tree) (some_same h.0.0 I64 (sym h.0.1 ∙ lacking_left o x.operand y.operand shipped f.0)) h.0.2)
-
-    pub right_lacks : (0 < lacking (met_scale o x.operand y.operand) y.operand) × ¬ (IsOfType m I64 y.tree)
-        → ¬ (IsTyped m x × IsTyped m y)
-    right_lacks f h =
-        f.1 (subst (λ p. IsOfType m p y.tree) (some_same h.1.0 I64 (sym h.1.1 ∙ lacking_right o x.operand y.operand shipped f.0)) h.1.2)
+  -- so no type means that one is not of its stored type
+  pub result_none : (o : NumericOperator) (x y : Lowered V O) (c : Operand) → are_computed o x.operand y.operand ≡ true
+      → result_operand o x.operand y.operand ≡ Some c → (t : Tree V O) → t ≡ computed_tree o x y → tree_type m t ≡ None
+      → (tree_type m (computed_tree o x y) ≡ None) × ¬ (IsTyped m x × IsTyped m y)
+  result_none o x y c shipped kind t is e =
+      let none : tree_type m (computed_tree o x y) ≡ None = ap (tree_type m) (sym is) ∙ e in
+      (none, λ h. let some = result_type o x y (lowered x.tree c) shipped kind h.0 h.1 in let typed = some.1 in cc)

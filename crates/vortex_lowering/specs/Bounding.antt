@@ -1,5 +1,6 @@
 -- Operands between two bounds, row by row, and why they are not.
-use Rattle.std.specs.Prelude.{◌≡◌, ◌⊎◌, ◌&&◌, max, ℕ, List, Option, Bool, if◌then◌else◌}
+use Rattle.std.specs.Prelude.{◌≡◌, ◌⊎◌, ◌&&◌, ℕ, List, Option, Bool, true}
+use Rattle.std.specs.Prelude.{None, is_some, if◌then◌else◌}
 use Rattle.vortex_errors.specs.declared.error.NumericOperator.TheVariants.{Mul}
 use Rattle.vortex_errors.specs.Answers.{UnlessMemory}
 use Rattle.vortex_types.specs.Values.{truth_or_null}
@@ -11,19 +12,15 @@ use Rattle.vortex_operators.specs.Kleene.{kleene}
 use Rattle.vortex_interface.specs.Meaning.{Meaning}
 use Rattle.vortex_interface.specs.Outcomes.{gives, faults, arithmetic}
 use Rattle.vortex_interface.specs.Trees.{Tree}
-use Rattle.vortex_interface.specs.Eval.{eval}
-use Rattle.vortex_logical.specs.declared.operand.Operand.{Operand}
+use Rattle.vortex_interface.specs.Eval.{tree_type, eval}
 use Rattle.vortex_logical.specs.StandsFor as logical
 use Rattle.vortex_lowering.specs.declared.refusal.Refusal.{Refusal}
 use Rattle.vortex_lowering.specs.declared.refusal.Refusal.TheVariants as refusal
-use Rattle.vortex_lowering.specs.Operands.{common_scale, scale_of, held_at}
+use Rattle.vortex_lowering.specs.Operands.{bounds_scale, held_at}
 use Rattle.vortex_lowering.specs.Truths.{IsTruth}
 use Rattle.vortex_lowering.specs.Rows.{Lowered, IsTyped, IsRow}
+use Rattle.vortex_lowering.specs.LoweredTrees.{bounded_tree}
 use Rattle.vortex_lowering.specs.Comparing.{AreCompared, RefusesPair}
-
--- the largest of three scales
-abbrev pub bounds_scale : Operand → Operand → Operand → ℕ
-bounds_scale a low high = max (common_scale low a) (scale_of high)
 
 module _ {V O : Type 0} (m : Meaning V O) where
   -- in each row of any columns: Kleene's And of both comparisons by the order of what the operands
@@ -44,12 +41,17 @@ module _ {V O : Type 0} (m : Meaning V O) where
     where
       pub lower : AreCompared low.operand x.operand
       pub upper : AreCompared x.operand high.operand
-      pub rows : Bounds o x low high t
+      pub tree : t ≡ bounded_tree o x low high
+    pub takes : is_some (tree_type m t) ≡ true
+    pub rows : Bounds o x low high t
 
-  -- why not: the lower bound first; E3 only where a tree is not of its stored type
-  abbrev pub RefusesBounds : Lowered V O → Lowered V O → Lowered V O → Refusal → Type 0
-  RefusesBounds x low high (refusal.Binding e) =
-      UnlessMemory (λ e. ¬ (IsTyped m x × IsTyped m low × IsTyped m high)) e
-  RefusesBounds x low high e =
+  -- why not: the lower bound first; E3 where the tree has no type, which is only where an operand
+  -- is not of its stored type
+  abbrev pub RefusesBounds : BetweenOptions → Lowered V O → Lowered V O → Lowered V O → Refusal
+      → Type 0
+  RefusesBounds o x low high (refusal.Binding e) =
+      UnlessMemory (λ e. (tree_type m (bounded_tree o x low high) ≡ None)
+      × ¬ (IsTyped m x × IsTyped m low × IsTyped m high)) e
+  RefusesBounds o x low high e =
       RefusesPair low.operand x.operand e
       ⊎ (AreCompared low.operand x.operand × RefusesPair x.operand high.operand e)

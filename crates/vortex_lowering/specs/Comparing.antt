@@ -1,6 +1,6 @@
 -- Comparisons of operands, row by row, and why two are not compared.
 use Rattle.std.specs.Prelude.{◌≡◌, ◌&&◌, ℕ, List, Option, None, Bool, true, false, IsSome}
-use Rattle.std.specs.Prelude.{if◌then◌else◌}
+use Rattle.std.specs.Prelude.{is_some, if◌then◌else◌}
 use Rattle.vortex_errors.specs.declared.error.NumericOperator.TheVariants.{Mul}
 use Rattle.vortex_errors.specs.Answers.{UnlessMemory}
 use Rattle.vortex_types.specs.Values.{truth_or_null}
@@ -9,7 +9,7 @@ use Rattle.vortex_operators.specs.declared.operators.CompareOperator.{CompareOpe
 use Rattle.vortex_interface.specs.Meaning.{Meaning}
 use Rattle.vortex_interface.specs.Outcomes.{gives, faults, arithmetic}
 use Rattle.vortex_interface.specs.Trees.{Tree}
-use Rattle.vortex_interface.specs.Eval.{eval}
+use Rattle.vortex_interface.specs.Eval.{tree_type, eval}
 use Rattle.vortex_logical.specs.declared.operand.Operand.{Operand}
 use Rattle.vortex_logical.specs.CommonKinds.{common_operand}
 use Rattle.vortex_logical.specs.StandsFor as logical
@@ -18,6 +18,7 @@ use Rattle.vortex_lowering.specs.declared.refusal.Refusal.TheVariants as refusal
 use Rattle.vortex_lowering.specs.Operands.{common_scale, held_at, are_shipped}
 use Rattle.vortex_lowering.specs.Truths.{IsTruth}
 use Rattle.vortex_lowering.specs.Rows.{Lowered, IsTyped, IsRow}
+use Rattle.vortex_lowering.specs.LoweredTrees.{compared_tree}
 
 -- the two meet in a kind, and shipped functions compare them
 abbrev pub AreCompared : Operand → Operand → Type 0
@@ -46,10 +47,14 @@ module _ {V O : Type 0} (m : Meaning V O) where
   -- two operands are compared
   pub record IsCompared (op : CompareOperator) (x y : Lowered V O) (t : Tree V O) : Type 0 where
     pub meet : AreCompared x.operand y.operand
+    pub tree : t ≡ compared_tree op x y
+    pub takes : is_some (tree_type m t) ≡ true
     pub rows : Compares op x y t
 
-  -- why not; E3 only where a tree is not of its stored type
-  abbrev pub RefusesComparison : Lowered V O → Lowered V O → Refusal → Type 0
-  RefusesComparison x y (refusal.Binding e) =
-      UnlessMemory (λ e. ¬ (IsTyped m x × IsTyped m y)) e
-  RefusesComparison x y e = RefusesPair x.operand y.operand e
+  -- why not; E3 where the tree has no type, which is only where an operand is not of its stored
+  -- type
+  abbrev pub RefusesComparison : CompareOperator → Lowered V O → Lowered V O → Refusal → Type 0
+  RefusesComparison op x y (refusal.Binding e) =
+      UnlessMemory (λ e. (tree_type m (compared_tree op x y) ≡ None)
+      × ¬ (IsTyped m x × IsTyped m y)) e
+  RefusesComparison op x y e = RefusesPair x.operand y.operand e

@@ -1,15 +1,14 @@
 -- Sums, differences and products of operands, row by row, and why two have none.
 use Rattle.std.specs.Prelude.{◌≡◌, ◌&&◌, ℕ, List, Option, Some, None, true, false, IsSome}
+use Rattle.std.specs.Prelude.{is_some}
 use Rattle.std.specs.Bool.{MatchBool}
 use Rattle.vortex_errors.specs.declared.error.NumericOperator.{NumericOperator}
 use Rattle.vortex_errors.specs.declared.error.NumericOperator.TheVariants as numeric
 use Rattle.vortex_errors.specs.Answers.{UnlessMemory}
 use Rattle.vortex_columns.specs.ColumnView.{ColumnView}
-use Rattle.vortex_operators.specs.declared.operators.Operator.{Operator}
-use Rattle.vortex_operators.specs.declared.operators.Operator.TheVariants as operator
 use Rattle.vortex_interface.specs.Meaning.{Meaning}
 use Rattle.vortex_interface.specs.Outcomes.{faults, arithmetic}
-use Rattle.vortex_interface.specs.Eval.{eval}
+use Rattle.vortex_interface.specs.Eval.{tree_type, eval}
 use Rattle.vortex_logical.specs.declared.operand.Operand.{Operand}
 use Rattle.vortex_logical.specs.StandsFor as logical
 use Rattle.vortex_lowering.specs.declared.refusal.Refusal.{Refusal}
@@ -18,12 +17,7 @@ use Rattle.vortex_lowering.specs.Operands.{held_at}
 use Rattle.vortex_lowering.specs.Results.{result_operand, are_computed, met_scale, IsResult}
 use Rattle.vortex_lowering.specs.Results.{result_held}
 use Rattle.vortex_lowering.specs.Rows.{Lowered, IsTyped, IsRow}
-
-abbrev pub arithmetic_operator : NumericOperator → Operator
-arithmetic_operator numeric.Add = operator.Add
-arithmetic_operator numeric.Sub = operator.Sub
-arithmetic_operator numeric.Mul = operator.Mul
-arithmetic_operator numeric.Div = operator.Div
+use Rattle.vortex_lowering.specs.LoweredTrees.{computed_tree}
 
 -- the error names both operands
 abbrev pub RefusesOperands : NumericOperator → Operand → Operand → Refusal → Type 0
@@ -50,11 +44,15 @@ module _ {V O : Type 0} (m : Meaning V O) where
   pub record IsComputed (o : NumericOperator) (x y z : Lowered V O) : Type 0 where
     pub kind : result_operand o x.operand y.operand ≡ Some z.operand
     pub shipped : are_computed o x.operand y.operand ≡ true
+    pub tree : z.tree ≡ computed_tree o x y
+    pub takes : is_some (tree_type m z.tree) ≡ true
     pub typed : IsTyped m x → IsTyped m y → IsTyped m z
     pub rows : IsTyped m x → IsTyped m y → Computes o x y z
 
-  -- why there is none; E3 only where a tree is not of its stored type
+  -- why there is none; E3 where the tree has no type, which is only where an operand is not of its
+  -- stored type
   abbrev pub RefusesResult : NumericOperator → Lowered V O → Lowered V O → Refusal → Type 0
   RefusesResult o x y (refusal.Binding e) =
-      UnlessMemory (λ e. ¬ (IsTyped m x × IsTyped m y)) e
+      UnlessMemory (λ e. (tree_type m (computed_tree o x y) ≡ None)
+      × ¬ (IsTyped m x × IsTyped m y)) e
   RefusesResult o x y e = RefusesOperands o x.operand y.operand e

@@ -2,7 +2,7 @@ pub mod Operands
 pub mod Truths
 pub mod Results
 pub mod Rows
-pub mod Lengthening
+pub mod LoweredTrees
 pub mod Comparing
 pub mod Leaves
 pub mod Computing

@@ -49,6 +49,10 @@ scale_of a = 0
 abbrev pub common_scale : Operand → Operand → ℕ
 common_scale a b = max (scale_of a) (scale_of b)
 
+-- the largest of three
+abbrev pub bounds_scale : Operand → Operand → Operand → ℕ
+bounds_scale a low high = max (common_scale low a) (scale_of high)
+
 -- how many digits after the point a number lacks at a scale
 abbrev pub lacking : ℕ → Operand → ℕ
 lacking u (Of (Decimal d)) = u - d.scale

@@ -2,8 +2,9 @@
 ghost use Rattle.std.specs.Prelude.{◌≡◌, ◌≤◌, ◌∷◌, [], MatchResult};
 ghost use Rattle.vortex_interface.specs.Shipped.{Between};
 ghost use Rattle.vortex_functions.specs.Words.{AnswersBinding, ours};
+ghost use Rattle.vortex_lowering.specs.Operands.{bounds_scale};
 ghost use Rattle.vortex_lowering.specs.Rows.{lowered};
-ghost use Rattle.vortex_lowering.specs.Bounding.{bounds_scale, IsBounded, RefusesBounds};
+ghost use Rattle.vortex_lowering.specs.Bounding.{IsBounded, RefusesBounds};
 
 use crate::comparing::check_pair;
 use crate::lengthen::at_scale;
@@ -56,7 +57,7 @@ pub fn between<C: ScalarFnVTable>(
     ensures { MatchResult result
         (IsBounded C.meaning options (lowered item.tree item.operand)
         (lowered lower.tree lower.operand) (lowered upper.tree upper.operand))
-        (RefusesBounds C.meaning (lowered item.tree item.operand)
+        (RefusesBounds C.meaning options (lowered item.tree item.operand)
         (lowered lower.tree lower.operand) (lowered upper.tree upper.operand)) }
 {
     check_pair(lower.operand, item.operand)?;

@@ -43,7 +43,7 @@ pub fn compare<C: ScalarFnVTable>(
     ensures { MatchResult result
         (IsCompared C.meaning operator (lowered left.tree left.operand)
         (lowered right.tree right.operand))
-        (RefusesComparison C.meaning (lowered left.tree left.operand)
+        (RefusesComparison C.meaning operator (lowered left.tree left.operand)
         (lowered right.tree right.operand)) }
 {
     check_pair(left.operand, right.operand)?;

@@ -3,8 +3,8 @@ ghost use Rattle.std.specs.Prelude.{◌≡◌, ◌≤◌, Some, true, MatchResul
 ghost use Rattle.vortex_errors.specs.declared.error.NumericOperator.TheVariants.{Add, Sub, Mul};
 ghost use Rattle.vortex_lowering.specs.Results.{result_operand, are_computed, met_scale};
 ghost use Rattle.vortex_lowering.specs.Rows.{lowered};
-ghost use Rattle.vortex_lowering.specs.Computing.{arithmetic_operator, IsComputed};
-ghost use Rattle.vortex_lowering.specs.Computing.{RefusesOperands, RefusesResult};
+ghost use Rattle.vortex_lowering.specs.LoweredTrees.{arithmetic_operator};
+ghost use Rattle.vortex_lowering.specs.Computing.{IsComputed, RefusesOperands, RefusesResult};
 
 use crate::lengthen::{at_scale, operated};
 use crate::operand::Lowered;

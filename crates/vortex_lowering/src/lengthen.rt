@@ -1,16 +1,13 @@
 //! Numbers with more digits after the point.
-ghost use Rattle.std.specs.Prelude.{◌≡◌, ◌≤◌, ◌<◌, ◌^◌, ◌∷◌, [], IfSome, SomeIff, IsTrue, pos};
+ghost use Rattle.std.specs.Prelude.{◌≡◌, ◌≤◌, ◌<◌, ◌^◌, ◌∷◌, [], None, pos, option_and_then};
 ghost use Rattle.vortex_errors.specs.Answers.{Answers};
 ghost use Rattle.vortex_types.specs.TypeOf.{type_of};
-ghost use Rattle.vortex_types.specs.declared.dtype.PType.TheVariants.{I64};
 ghost use Rattle.vortex_interface.specs.Shipped.{Binary};
-ghost use Rattle.vortex_functions.specs.Words.{AnswersBinding, ours, constant};
-ghost use Rattle.vortex_columns.specs.ScalarOf.{int_scalar};
-ghost use Rattle.vortex_logical.specs.Decimals.{shifted};
-ghost use Rattle.vortex_lowering.specs.Operands.{is_held, lacking};
-ghost use Rattle.vortex_lowering.specs.Rows.{IsOfType};
-ghost use Rattle.vortex_lowering.specs.Lengthening.{IsLengthened, IsWideConstant};
-ghost use Rattle.vortex_lowering.specs.Lengthening.{is_wide, IsWide};
+ghost use Rattle.vortex_functions.specs.Words.{AnswersBinding, ours, tree_type};
+ghost use Rattle.vortex_lowering.specs.Rows.{lowered};
+ghost use Rattle.vortex_lowering.specs.LoweredTrees.{is_wide, wide_number, longer_number};
+ghost use Rattle.vortex_lowering.specs.LoweredTrees.{constant_number, lengthened_tree};
+ghost use Rattle.vortex_lowering.specs.LoweredTrees.{tree_at_scale};
 
 use crate::operand::Lowered;
 use crate::scale::lacking;
@@ -30,10 +27,10 @@ fn power(k: u32) -> i64
 }
 
 /// The number with more digits after the point, if 64 bits hold it.
-fn longer(number: i64, more: u32) -> Option<i64>
+fn longer_number(number: i64, more: u32) -> Option<i64>
     requires few { more ≤ 18 }
     requires some { 0 < more }
-    ensures { SomeIff result (IsTrue (is_held more number)) (shifted number more) }
+    ensures { result ≡ longer_number more number }
 {
     number.checked_mul(power(more))
 }
@@ -45,41 +42,31 @@ fn is_wide(dtype: &DType) -> bool
     matches!(dtype, DType::Primitive(PType::I64, _))
 }
 
-fn within_wide(number: i128) -> Option<i64>
-    ensures { IfSome result (λ n. n ≡ number) }
-{
-    if -9223372036854775808 <= number && number <= 9223372036854775807 {
-        Some(number as i64)
-    } else {
-        None
-    }
-}
-
-/// The number of a scalar of `i64`.
+/// The number of a scalar of `i64`, if it is not null.
 fn wide_number(scalar: &Scalar) -> Option<i64>
-    ensures { IfSome result (λ z. IsWide z scalar.now) }
+    ensures { result ≡ wide_number scalar.now }
 {
     if !is_wide(scalar.dtype()) {
         return None;
     }
-    within_wide(scalar.as_int_opt()?)
+    let number = scalar.as_int_opt()?;
+    Some(number as i64)
 }
 
-/// The number of a constant of `i64`.
+/// The number of a constant of `i64`, if it is one and not null.
 fn constant_number<C: ScalarFnVTable>(tree: &BoundExpression<C>) -> Option<i64>
-    ensures { IfSome result (λ z. IsWideConstant z tree.now) }
+    ensures { result ≡ constant_number tree.now }
 {
     wide_number(tree.as_literal()?)
 }
 
-/// The same of a constant with more digits, if it is one and 64 bits hold it.
+/// The same with more digits after the point, if 64 bits hold it.
 fn longer_constant<C: ScalarFnVTable>(tree: &BoundExpression<C>, more: u32) -> Option<i64>
     requires few { more ≤ 18 }
     requires some { 0 < more }
-    ensures { IfSome result (λ n. IsLengthened C.meaning more tree.now
-        (constant (int_scalar I64 n))) }
+    ensures { result ≡ option_and_then (longer_number more) (constant_number tree.now) }
 {
-    longer(constant_number(tree)?, more)
+    longer_number(constant_number(tree)?, more)
 }
 
 /// The call of an operator on two trees.
@@ -99,16 +86,16 @@ pub(crate) fn operated<C: ScalarFnVTable>(
 }
 
 /// The tree with more digits after the point of each number: a constant at once, others by a
-/// product, which is E7 in rows where 64 bits do not hold it. E3 exactly if the tree is not of
-/// `i64`.
+/// product, which is E7 in rows where 64 bits do not hold it. E3 where the product has no type: the
+/// tree is not of `i64`.
 pub(crate) fn lengthened<C: ScalarFnVTable>(
     alloc: Global,
     more: u32,
     tree: BoundExpression<C>,
 ) -> VortexResult<BoundExpression<C>>
     requires { more ≤ 18 }
-    ensures { Answers result (IsLengthened C.meaning more tree)
-        (λ e. (0 < more) × ¬ (IsOfType C.meaning I64 tree)) }
+    ensures { Answers result (λ longer. longer ≡ lengthened_tree more tree)
+        (λ e. tree_type C.meaning (lengthened_tree more tree) ≡ None) }
 {
     if more == 0 {
         return Ok(tree);
@@ -127,8 +114,9 @@ pub(crate) fn at_scale<C: ScalarFnVTable>(
     item: Lowered<C>,
 ) -> VortexResult<BoundExpression<C>>
     requires { scale ≤ 18 }
-    ensures { Answers result (IsLengthened C.meaning (lacking scale item.operand) item.tree)
-        (λ e. (0 < lacking scale item.operand) × ¬ (IsOfType C.meaning I64 item.tree)) }
+    ensures { Answers result
+        (λ tree. tree ≡ tree_at_scale scale (lowered item.tree item.operand))
+        (λ e. tree_type C.meaning (tree_at_scale scale (lowered item.tree item.operand)) ≡ None) }
 {
     let Lowered { tree, operand } = item;
     lengthened(alloc, lacking(scale, &operand), tree)

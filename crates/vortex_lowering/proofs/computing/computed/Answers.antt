@@ -1,18 +1,16 @@
-use Rattle.std.proofs.Common.{ℕ, ◌<◌, subst, [], ◌∷◌}
+use Rattle.std.proofs.Common.{◌≡◌, ◌∙◌, refl, ap, [], ◌∷◌}
+use Rattle.std.specs.Prelude.{None}
 use Rattle.std.proofs.lemmas.Result.{err_from_is_err_and}
-use Rattle.vortex_errors.specs.Answers.{UnlessMemory}
 use Rattle.vortex_errors.proofs.Answering.{UnlessMemory-weaker}
-use Rattle.vortex_types.specs.declared.dtype.PType.TheVariants.{I64}
-use Rattle.vortex_operators.specs.declared.operators.Operator.{Operator}
 use Rattle.vortex_interface.specs.Shipped.{Binary}
 use Rattle.vortex_interface.specs.Functions.{ours}
-use Rattle.vortex_functions.specs.Binding.{IsCall, RefusesCall}
-use Rattle.vortex_lowering.specs.Operands.{lacking}
-use Rattle.vortex_lowering.specs.Results.{met_scale}
-use Rattle.vortex_lowering.specs.Rows.{lowered, IsOfType, IsTyped}
-use Rattle.vortex_lowering.specs.Lengthening.{IsLengthened}
-use Rattle.vortex_lowering.specs.Computing.{arithmetic_operator}
-use Rattle.vortex_lowering.proofs.RowResults.{left_lacks, right_lacks, computation_refused, result_typed, computes}
+use Rattle.vortex_interface.specs.Trees.{trees_of}
+use Rattle.vortex_interface.specs.Eval.{tree_type, tree_types, with_type}
+use Rattle.vortex_functions.specs.Binding.{RefusesCall}
+use Rattle.vortex_lowering.specs.Rows.{lowered, IsTyped}
+use Rattle.vortex_lowering.specs.LoweredTrees.{arithmetic_operator, tree_at_scale, computed_tree}
+use Rattle.vortex_lowering.proofs.TreeTypes.{others_none, arguments_none, bound_some, refused_none}
+use Rattle.vortex_lowering.proofs.RowResults.{computed_made, result_none, result_typed, computes}
 use Rattle.vortex_lowering.proofs.computing.computed.Goals as goal
 
 pub returns-in_err-left : goal.returns-in_err-left
@@ -21,12 +19,17 @@ returns-in_err-left g c =
     let o = c.args.operator in
     let x = lowered c.args.left.tree c.args.left.operand in
     let y = lowered c.args.right.tree c.args.right.operand in
-    let e = c.in_err-left.field-0.0 in
+    let kind = c.in_ok-operand.ensures in
+    let scale = c.met_scale-scale.result in
+    let l = tree_at_scale scale x in
+    let r = tree_at_scale scale y in
+    let made = computed_made o x y scale (arithmetic_operator o) l r c.met_scale-scale.ensures.value refl refl refl in
     let p = err_from_is_err_and c.from_residual-in_err-left.result c.from_residual-in_err-left.ensures.1 in
-    let lacks = λ (u : ℕ). (0 < lacking u x.operand) × ¬ (IsOfType m I64 x.tree) in
-    let told = subst (λ u. UnlessMemory (λ e. lacks u) e) c.met_scale-scale.ensures.value c.in_err-left.ensures in
-    rw (p.1, p.2) (UnlessMemory-weaker (λ e. lacks (met_scale o x.operand y.operand)) (λ e. ¬ (IsTyped m x × IsTyped m y))
-    (λ e h. left_lacks m o x y c.in_ok-operand.ensures.1 h) e told)
+    rw (p.1, p.2) (UnlessMemory-weaker (λ e. tree_type m l ≡ None)
+    (λ e. (tree_type m (computed_tree o x y) ≡ None) × ¬ (IsTyped m x × IsTyped m y))
+    (λ e h. result_none m o x y c.in_ok-operand.operand kind.1 kind.0 _ made
+    (arguments_none m (ours (Binary (arithmetic_operator o))) (trees_of (l ∷ r ∷ []))
+    (ap (λ a. with_type a (tree_types m (trees_of (r ∷ [])))) h))) c.in_err-left.field-0.0 c.in_err-left.ensures)
 
 pub returns-in_err-right : goal.returns-in_err-right
 returns-in_err-right g c =
@@ -34,12 +37,18 @@ returns-in_err-right g c =
     let o = c.args.operator in
     let x = lowered c.args.left.tree c.args.left.operand in
     let y = lowered c.args.right.tree c.args.right.operand in
-    let e = c.in_err-right.field-0.0 in
+    let kind = c.in_ok-operand.ensures in
+    let scale = c.met_scale-scale.result in
+    let l = tree_at_scale scale x in
+    let r = tree_at_scale scale y in
+    let made = computed_made o x y scale (arithmetic_operator o) l r c.met_scale-scale.ensures.value refl refl refl in
     let p = err_from_is_err_and c.from_residual-in_err-right.result c.from_residual-in_err-right.ensures.1 in
-    let lacks = λ (u : ℕ). (0 < lacking u y.operand) × ¬ (IsOfType m I64 y.tree) in
-    let told = subst (λ u. UnlessMemory (λ e. lacks u) e) c.met_scale-scale.ensures.value c.in_err-right.ensures in
-    rw (p.1, p.2) (UnlessMemory-weaker (λ e. lacks (met_scale o x.operand y.operand)) (λ e. ¬ (IsTyped m x × IsTyped m y))
-    (λ e h. right_lacks m o x y c.in_ok-operand.ensures.1 h) e told)
+    rw (p.1, p.2) (UnlessMemory-weaker (λ e. tree_type m r ≡ None)
+    (λ e. (tree_type m (computed_tree o x y) ≡ None) × ¬ (IsTyped m x × IsTyped m y))
+    (λ e h. result_none m o x y c.in_ok-operand.operand kind.1 kind.0 _ made
+    (arguments_none m (ours (Binary (arithmetic_operator o))) (trees_of (l ∷ r ∷ []))
+    (ap (λ a. with_type (tree_type m l) (with_type a (tree_types m (trees_of [])))) h ∙ others_none (tree_type m l))))
+    c.in_err-right.field-0.0 c.in_err-right.ensures)
 
 pub returns-in_err-tree : goal.returns-in_err-tree
 returns-in_err-tree g c =
@@ -47,18 +56,17 @@ returns-in_err-tree g c =
     let o = c.args.operator in
     let x = lowered c.args.left.tree c.args.left.operand in
     let y = lowered c.args.right.tree c.args.right.operand in
-    let z = lowered x.tree c.in_ok-operand.operand in
-    let e = c.in_err-tree.field-0.0 in
+    let kind = c.in_ok-operand.ensures in
     let l = c.in_ok-left.left in
     let r = c.in_ok-right.right in
-    let scale = c.met_scale-scale.ensures.value in
+    let f = ours (Binary c.arithmetic_operator.result) in
+    let made = computed_made o x y c.met_scale-scale.result c.arithmetic_operator.result l r
+    c.met_scale-scale.ensures.value c.arithmetic_operator.ensures c.in_ok-left.ensures c.in_ok-right.ensures in
     let p = err_from_is_err_and c.from_residual-in_err-tree.result c.from_residual-in_err-tree.ensures.1 in
-    let one = subst (λ u. IsLengthened m (lacking u x.operand) x.tree l) scale c.in_ok-left.ensures in
-    let two = subst (λ u. IsLengthened m (lacking u y.operand) y.tree r) scale c.in_ok-right.ensures in
-    let Refuses = λ (p : Operator). RefusesCall m (ours (Binary p)) (l ∷ r ∷ []) in
-    let told = subst (λ p. UnlessMemory (Refuses p) e) c.arithmetic_operator.ensures c.in_err-tree.ensures in
-    rw (p.1, p.2) (UnlessMemory-weaker (Refuses (arithmetic_operator o)) (λ e. ¬ (IsTyped m x × IsTyped m y))
-    (λ e h t. computation_refused m o x y z c.in_ok-operand.ensures.1 c.in_ok-operand.ensures.0 t.0 t.1 l r e one two h) e told)
+    rw (p.1, p.2) (UnlessMemory-weaker (RefusesCall m f (l ∷ r ∷ []))
+    (λ e. (tree_type m (computed_tree o x y) ≡ None) × ¬ (IsTyped m x × IsTyped m y))
+    (λ e h. result_none m o x y c.in_ok-operand.operand kind.1 kind.0 _ made (refused_none m f (l ∷ r ∷ []) e h))
+    c.in_err-tree.field-0.0 c.in_err-tree.ensures)
 
 pub returns : goal.returns
 returns g c =
@@ -67,15 +75,17 @@ returns g c =
     let x = lowered c.args.left.tree c.args.left.operand in
     let y = lowered c.args.right.tree c.args.right.operand in
     let z = lowered c.in_ok-tree.tree c.in_ok-operand.operand in
+    let kind = c.in_ok-operand.ensures in
     let l = c.in_ok-left.left in
     let r = c.in_ok-right.right in
-    let scale = c.met_scale-scale.ensures.value in
-    let one = subst (λ u. IsLengthened m (lacking u x.operand) x.tree l) scale c.in_ok-left.ensures in
-    let two = subst (λ u. IsLengthened m (lacking u y.operand) y.tree r) scale c.in_ok-right.ensures in
-    let made = subst (λ p. IsCall m (ours (Binary p)) (l ∷ r ∷ []) z.tree) c.arithmetic_operator.ensures c.in_ok-tree.ensures in
+    let bound = c.in_ok-tree.ensures in
+    let is = bound.is ∙ computed_made o x y c.met_scale-scale.result c.arithmetic_operator.result l r
+    c.met_scale-scale.ensures.value c.arithmetic_operator.ensures c.in_ok-left.ensures c.in_ok-right.ensures in
     record {
-      kind = c.in_ok-operand.ensures.0;
-      shipped = c.in_ok-operand.ensures.1;
-      typed = λ s t. result_typed m o x y z c.in_ok-operand.ensures.1 c.in_ok-operand.ensures.0 s t l r one two made;
-      rows = λ s t. computes m o x y z c.in_ok-operand.ensures.1 c.in_ok-operand.ensures.0 s t l r one two made;
+      kind = kind.0;
+      shipped = kind.1;
+      tree = is;
+      takes = bound_some m (ours (Binary c.arithmetic_operator.result)) (l ∷ r ∷ []) z.tree bound;
+      typed = λ s t. result_typed m o x y z kind.1 kind.0 s t is;
+      rows = λ s t. computes m o x y z kind.1 kind.0 s t is;
     }
