@@ -68,18 +68,15 @@ stop_of (unlowered.Binding OutOfMemory) = Refused (Binding OutOfMemory)
 stop_of (unlowered.Binding e) = Refused (Binding (TypeMismatch Scalars))
 stop_of r = Refused (Kinds r)
 
-abbrev pub item_kind : Item → Option Kind
-item_kind (kinded k t) = Some k
-item_kind i = None
-
-abbrev pub kind_or : Option Kind → Kind → Kind
-kind_or (Some k) j = k
-kind_or None j = j
+-- the kind of a value, or else the other kind
+abbrev pub kind_or : Item → Kind → Kind
+kind_or (kinded k t) j = k
+kind_or i j = j
 
 -- the kind of the first value with one
 abbrev pub first_kind : List Item → Kind
 first_kind [] = Plain
-first_kind (i ∷ is) = kind_or (item_kind i) (first_kind is)
+first_kind (i ∷ is) = kind_or i (first_kind is)
 
 -- what a tree without a kind is
 abbrev pub plain_operand : Option LogicalType → Operand

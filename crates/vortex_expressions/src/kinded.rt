@@ -4,6 +4,7 @@ ghost use Rattle.vortex_types.specs.TypeOf.{type_of};
 ghost use Rattle.vortex_lowering.specs.Rows.{lowered};
 ghost use Rattle.vortex_expressions.specs.Kinded as specs;
 ghost use Rattle.vortex_expressions.specs.Items.{item_in};
+ghost use Rattle.vortex_expressions.specs.Literals as literals;
 ghost use Rattle.vortex_expressions.specs.Literals.{literal_in};
 ghost use Rattle.vortex_expressions.specs.Answering.{Gives};
 
@@ -72,22 +73,13 @@ pub(crate) fn stored_item(item: Item) -> Item
     }
 }
 
-/// The kind of a value, if it has one.
-fn item_kind(item: &Item) -> Option<Kind>
-    ensures { result ≡ specs.item_kind (item_in item.now) }
+/// The kind of a value, or else the other kind.
+fn kind_or(item: &Item, kind: Kind) -> Kind
+    ensures { result ≡ specs.kind_or (item_in item.now) kind }
 {
     match item {
-        Item::Kinded(kind, _) => Some(*kind),
-        _ => None,
-    }
-}
-
-fn kind_or(found: Option<Kind>, kind: Kind) -> Kind
-    ensures { result ≡ specs.kind_or found kind }
-{
-    match found {
-        Some(found) => found,
-        None => kind,
+        Item::Kinded(found, _) => *found,
+        _ => kind,
     }
 }
 
@@ -132,6 +124,25 @@ fn text_literal(alloc: Global, kind: Kind, text: &[u8]) -> Result<Lowered<Standa
     Ok(calls::literal(alloc, kind, text)?)
 }
 
+/// A number next to a value of a kind: the text of the literal.
+fn number_literal(
+    alloc: Global,
+    kind: Kind,
+    literal: &Literal,
+    number: &[u8],
+) -> Result<Lowered<Standard>, BindStop>
+    requires { literal_in literal.now ≡ literals.number number.now }
+    ensures { Gives (λ x. lowered x.tree x.operand) result
+        (specs.literal_operand kind (literals.number number.now)) }
+{
+    let operand = Operand::Of(kind);
+    let beside = kind_beside(&operand, number);
+    match beside {
+        Some(found) => text_literal(alloc, found, number),
+        None => whole_literal(alloc, whole_ptype(kind), literal),
+    }
+}
+
 /// Null next to a value of a kind.
 fn null_literal(alloc: Global, kind: Kind) -> Result<Lowered<Standard>, BindStop>
     ensures { Gives (λ x. lowered x.tree x.operand) result (specs.null_literal kind) }
@@ -156,12 +167,8 @@ fn literal_operand(
     ensures { Gives (λ x. lowered x.tree x.operand) result
         (specs.literal_operand kind (literal_in literal.now)) }
 {
-    let operand = Operand::Of(kind);
     match literal {
-        Literal::Number(word) => match kind_beside(&operand, word.as_bytes()) {
-            Some(kind) => text_literal(alloc, kind, word.as_bytes()),
-            None => whole_literal(alloc, whole_ptype(kind), literal),
-        },
+        Literal::Number(word) => number_literal(alloc, kind, literal, word.as_bytes()),
         Literal::Text(text) => text_literal(alloc, kind, text.as_bytes()),
         Literal::Truth(_) => Err(BindStop::Refused(Refusal::NotHeld)),
         Literal::Null => null_literal(alloc, kind),
@@ -257,7 +264,7 @@ pub(crate) fn kinded_joined(
     ensures { Gives item_in result
         (specs.kinded_joined written (item_in left) (item_in right)) }
 {
-    let kind = kind_or(item_kind(&left), kind_or(item_kind(&right), Kind::Plain));
+    let kind = kind_or(&left, kind_or(&right, Kind::Plain));
     let left = item_operand(alloc, kind, left)?;
     let right = item_operand(alloc, kind, right)?;
     operated(alloc, kind, written, left, right)
@@ -283,8 +290,7 @@ pub(crate) fn kinded_between(
     ensures { Gives (λ t. t) result
         (specs.kinded_between (item_in item) (item_in lower) (item_in upper)) }
 {
-    let bounds = kind_or(item_kind(&lower), kind_or(item_kind(&upper), Kind::Plain));
-    let kind = kind_or(item_kind(&item), bounds);
+    let kind = kind_or(&item, kind_or(&lower, kind_or(&upper, Kind::Plain)));
     let item = item_operand(alloc, kind, item)?;
     let lower = item_operand(alloc, kind, lower)?;
     let upper = item_operand(alloc, kind, upper)?;
