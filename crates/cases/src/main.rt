@@ -29,6 +29,9 @@
 //! are what the script prints, and last the line that it ends with on standard error, if there is
 //! one. Blank lines at the end of a case are ignored.
 //!
+//! Before a line `logical` each line is a column: its name, its kind, and its cells as in files; the
+//! expression after it prints the kind of its values and their cells.
+//!
 //! An expression follows a line that asks for its `tree`, for the `places` of its steps in the
 //! text, for the text that its tree is `written` as, for the columns of its `answers`, for what
 //! statistics say of these in `groups` of rows, or for what they have `left` of these in each
@@ -37,14 +40,17 @@
 
 mod expressions;
 mod groups;
+mod logical;
 
 use case_files::{Cases, Form, differs, run_files};
 use expressions::{expression_case, expression_text};
+use logical::logical_text;
 use rowfn_scripts::{End, fault_line, interpret};
 use std::alloc::Global;
 use std::io;
 use std::process::ExitCode;
 use std::rt::Files;
+use vortex_columns::VortexResult;
 
 /// A script, and its output.
 #[derive(Clone, Copy)]
@@ -65,13 +71,22 @@ fn case_of(text: &str) -> Option<Case<'_>> {
     })
 }
 
+/// The result of an expression, or the error of its columns or of its rows; none of a script.
+fn result_of(alloc: Global, script: &str) -> Option<VortexResult<String>> {
+    if let Some((columns, text)) = script.split_once("\nlogical\n") {
+        return Some(logical_text(alloc, columns, text));
+    }
+    let case = expression_case(script)?;
+    Some(expression_text(alloc, case))
+}
+
 /// The output of a case, and how it ends.
 fn outcome_of(alloc: Global, script: &str) -> (Vec<u8>, End) {
-    let Some(case) = expression_case(script) else {
+    let Some(result) = result_of(alloc, script) else {
         let outcome = interpret(alloc, script.as_bytes());
         return (outcome.out, outcome.ending);
     };
-    match expression_text(alloc, case) {
+    match result {
         Ok(text) => (text.into_bytes(), End::Done),
         Err(error) => (Vec::new(alloc), End::Refused(error)),
     }
