@@ -24,8 +24,8 @@ use Rattle.vortex_interface.specs.Eval.{eval, tree_type, all_give, with_first, t
 use Rattle.vortex_logical.specs.Decimals.{shifted}
 use Rattle.vortex_lowering.specs.Operands.{operand_ptype, lacking, is_held}
 use Rattle.vortex_lowering.specs.Rows.{Lowered, IsOfType, IsTyped}
-use Rattle.vortex_lowering.specs.LoweredTrees.{is_wide, wide_number, longer_number, constant_number, constant_or}
-use Rattle.vortex_lowering.specs.LoweredTrees.{multiplied_tree, lengthened_tree, tree_at_scale}
+use Rattle.vortex_lowering.specs.LoweredTrees.{is_wide, longer_number, constant_number, constant_or}
+use Rattle.vortex_lowering.specs.LoweredTrees.{operated_tree, multiplied_tree, lengthened_tree, tree_at_scale}
 
 -- what options have
 pub some_same : {A : Type 0} (x y : A) → Some x ≡ Some y → x ≡ y
@@ -66,9 +66,10 @@ numbered v z e = cc
 wide_constant : {V O : Type 0} (t : Tree V O) (z : ℤ) → constant_number t ≡ Some z → IsWideConstant z t
 wide_constant (leaf l) z e = cc
 wide_constant (call f ts) z e = cc
-wide_constant (constant s) z e = by (is_wide s.dtype) refl e
+wide_constant {V} {O} (constant s) z e = by (is_wide s.dtype) refl e
   where
-    by : (b : Bool) → is_wide s.dtype ≡ b → (if b then number_of s.value else None) ≡ Some z → IsWideConstant z (constant s)
+    by : (b : Bool) → is_wide s.dtype ≡ b → (if b then number_of s.value else None) ≡ Some z
+        → IsWideConstant {V = V} {O = O} z (constant s)
     by true w h = let d = wide_type s.dtype w in
         record { scalar = s; is = refl; nullable = d.0; dtype = d.1; value = numbered s.value z h }
     by false w h = cc
@@ -105,6 +106,14 @@ product_outcome k n (gives (number z)) = by (is_outside (least_of I64) (greatest
     by true = refl
     by false = refl
 product_outcome k n (gives v) = refl
+
+-- the product is the tree of the definition where there is no longer constant
+pub product_made : {V O : Type 0} (k : ℕ) (t factor : Tree V O) → (k ≡ 0 → ⊥)
+    → option_and_then (longer_number k) (constant_number t) ≡ None → factor ≡ constant (int_scalar I64 (pos (10 ^ k)))
+    → operated_tree Mul t factor ≡ lengthened_tree k t
+product_made zero t factor h e f = absurd (h refl)
+product_made (suc k) t factor h e f =
+    ap (operated_tree Mul t) f ∙ sym (ap (λ o. constant_or o (multiplied_tree (suc k) t)) e)
 
 module _ {V O : Type 0} (m : Meaning V O) where
   -- the type of a product by a number of 64 bits

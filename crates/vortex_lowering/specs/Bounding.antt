@@ -42,8 +42,8 @@ module _ {V O : Type 0} (m : Meaning V O) where
       pub lower : AreCompared low.operand x.operand
       pub upper : AreCompared x.operand high.operand
       pub tree : t ≡ bounded_tree o x low high
-    pub takes : is_some (tree_type m t) ≡ true
-    pub rows : Bounds o x low high t
+      pub takes : is_some (tree_type m t) ≡ true
+      pub rows : Bounds o x low high t
 
   -- why not: the lower bound first; E3 where the tree has no type, which is only where an operand
   -- is not of its stored type

@@ -1,6 +1,6 @@
 -- The tree that each call makes: a shipped function over the trees of its operands, each with the
 -- digits after the point that it lacks.
-use Rattle.std.specs.Prelude.{◌^◌, ℕ, zero, suc, ℤ, pos, List, [], ◌∷◌, Option, Some, None}
+use Rattle.std.specs.Prelude.{◌^◌, ℕ, zero, suc, ℤ, pos, [], ◌∷◌, Option, Some, None}
 use Rattle.std.specs.Prelude.{Bool, true, false, if◌then◌else◌, option_and_then}
 use Rattle.vortex_errors.specs.declared.error.NumericOperator.{NumericOperator}
 use Rattle.vortex_errors.specs.declared.error.NumericOperator.TheVariants as numeric
