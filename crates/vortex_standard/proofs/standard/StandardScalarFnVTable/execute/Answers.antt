@@ -1,0 +1,25 @@
+use Rattle.std.proofs.Common.{sym, subst, List, ℕ, Result}
+use Rattle.vortex_errors.specs.Answers.{Answers}
+use Rattle.vortex_errors.specs.declared.error.VortexError.{VortexError}
+use Rattle.vortex_columns.specs.ColumnView.{ColumnView}
+use Rattle.vortex_interface.specs.Outcomes.{HasCallRows, IsCallFault}
+use Rattle.vortex_sql_floats.specs.Decimals.{decimal_row}
+use Rattle.vortex_sql_rows.specs.Row.{Row, row_type, row_means}
+use Rattle.vortex_standard.specs.Standard.{row_of}
+use Rattle.vortex_standard.specs.declared.standard.Standard.{Standard}
+use Rattle.vortex_standard.proofs.standard.StandardScalarFnVTable.execute.Goals as goal
+
+-- what a call of a row's function returns
+abbrev ReturnsRows : Row → List ColumnView → ℕ → Result ColumnView VortexError → Type 0
+ReturnsRows row inputs n result =
+    Answers result (HasCallRows (row_type row) (row_means row) inputs n)
+    (IsCallFault (row_means row) inputs n)
+
+pub returns-in-DecimalToFloat : goal.returns-in-DecimalToFloat
+returns-in-DecimalToFloat g c =
+    let inputs = g.A.ExecutionArgs.inputs c.args.args.now in
+    let n = g.A.ExecutionArgs.rows c.args.args.now in
+    let made = c.execute_rows-in-DecimalToFloat.result in
+    subst (λ (f : Standard). ReturnsRows (row_of f) inputs n made) (sym c.in-DecimalToFloat.is)
+    (subst (λ (s : ℕ). ReturnsRows (decimal_row s) inputs n made) c.number.ensures
+    c.execute_rows-in-DecimalToFloat.ensures)
