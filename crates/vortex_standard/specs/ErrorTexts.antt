@@ -1,5 +1,5 @@
 -- The texts of errors: of E10 that of the fault with its number.
-use Rattle.std.specs.Prelude.{ℕ, List, Option, Some, None, map}
+use Rattle.std.specs.Prelude.{ℕ, List, Option, Some, None}
 use Rattle.vortex_errors.specs.declared.error.VortexError.{VortexError}
 use Rattle.vortex_errors.specs.declared.error.VortexError.TheVariants.{Custom}
 use Rattle.vortex_errors.specs.Errors.{error_text}

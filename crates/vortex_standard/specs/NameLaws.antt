@@ -1,26 +1,22 @@
 -- A name is a word, and names its function alone.
-use Rattle.std.specs.Prelude.{◌≡◌, ◌∷◌, ◌&&◌, [], Bool, List, None, Option, Some, false, refl, true}
+use Rattle.std.specs.Prelude.{◌≡◌, ◌∷◌, ◌&&◌, [], Bool, List, Some, false, refl, true}
 use Rattle.std.specs.List.{find, list_all}
 use Rattle.std.proofs.Common.{cond}
 use Rattle.vortex_types.specs.declared.dtype.PType.{PType}
 use Rattle.vortex_types.specs.declared.dtype.PType.TheVariants.{I8, I16, I32, I64, U8, U16, U32}
 use Rattle.vortex_types.specs.declared.dtype.PType.TheVariants.{U64}
 use Rattle.vortex_sql_choices.specs.declared.extremes.Extreme.TheVariants.{Greatest, Least}
-use Rattle.vortex_sql_numbers.specs.declared.integer_casts.Cast.{Cast}
-use Rattle.vortex_sql_numbers.specs.declared.integer_casts.Widen.{Widen}
 use Rattle.vortex_sql_texts.specs.declared.letters.Letters.TheVariants.{Lower, Upper}
-use Rattle.vortex_sql_choices.specs.declared.truth_tests.TruthTest.TheVariants.{IsTrue, IsFalse, IsUnknown}
+use Rattle.vortex_sql_choices.specs.declared.truth_tests.TruthTest.TheVariants.{IsTrue, IsFalse}
+use Rattle.vortex_sql_choices.specs.declared.truth_tests.TruthTest.TheVariants.{IsUnknown}
 use Rattle.vortex_sql_numbers.specs.declared.bits.BitOperator.TheVariants.{And, Or, Xor}
 use Rattle.vortex_sql_numbers.specs.declared.bits.Shift.TheVariants as shift
 use Rattle.vortex_sql_texts.specs.declared.parts.Side.TheVariants as side
 use Rattle.vortex_sql_texts.specs.declared.trims.Trim.TheVariants.{Both, Start, End}
-use Rattle.vortex_sql_texts.specs.declared.text_casts.TextToInt.{TextToInt}
 use Rattle.vortex_standard.specs.declared.standard.Standard.{Standard}
 use Rattle.vortex_standard.specs.declared.standard.Standard.TheVariants as standard
 use Rattle.vortex_sql_texts.specs.declared.texts.Measure.TheVariants.{Characters, Bytes}
-use Rattle.vortex_sql_numbers.specs.declared.truth_casts.TruthToInt.{TruthToInt}
 use Rattle.vortex_sql_floats.specs.declared.floats.FloatOperator.TheVariants as float
-use Rattle.vortex_sql_floats.specs.declared.integers.FloatToInt.{FloatToInt}
 use Rattle.vortex_standard.specs.declared.names.TheConstants.{FUNCTIONS}
 use Rattle.vortex_standard.specs.declared.scales.DecimalScale.{DecimalScale}
 use Rattle.vortex_standard.specs.declared.scales.DecimalScale.TheVariants as scale

@@ -1,6 +1,6 @@
 -- The names by which texts call the functions.
-use Rattle.std.specs.Prelude.{◌≡◌, ◌∷◌, ◌++◌, ◌&&◌, ◌||◌, ◌==◌, codes, drop, length, map, nat_le}
-use Rattle.std.specs.Prelude.{ℕ, [], Bool, List, None, Option, Some, false, refl, true, if◌then◌else◌}
+use Rattle.std.specs.Prelude.{◌∷◌, ◌++◌, ◌&&◌, ◌||◌, ◌==◌, codes, drop, length, map, nat_le}
+use Rattle.std.specs.Prelude.{ℕ, [], Bool, List, None, Option, Some, false, if◌then◌else◌}
 use Rattle.std.specs.Char.{is_ascii_digit, is_ascii_lowercase, to_ascii_lowercase}
 use Rattle.std.specs.List.{find, list_all}
 use Rattle.std.specs.Option.{option_or}

@@ -1,4 +1,4 @@
-use Rattle.std.proofs.Common.{◌≡◌, sym, ◌∙◌, arith}
+use Rattle.std.proofs.Common.{sym, ◌∙◌}
 use Rattle.vortex_standard.proofs.Finds.{find_here, find_past, find_end}
 use Rattle.vortex_standard.specs.Names.{has_name}
 use Rattle.vortex_standard.specs.declared.standard.Standard.TheVariants.{Coalesce}
