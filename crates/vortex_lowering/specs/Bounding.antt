@@ -50,7 +50,8 @@ module _ {V O : Type 0} (m : Meaning V O) where
   abbrev pub RefusesBounds : BetweenOptions → Lowered V O → Lowered V O → Lowered V O → Refusal
       → Type 0
   RefusesBounds o x low high (refusal.Binding e) =
-      UnlessMemory (λ e. (tree_type m (bounded_tree o x low high) ≡ None)
+      UnlessMemory (λ e. AreCompared low.operand x.operand × AreCompared x.operand high.operand
+      × (tree_type m (bounded_tree o x low high) ≡ None)
       × ¬ (IsTyped m x × IsTyped m low × IsTyped m high)) e
   RefusesBounds o x low high e =
       RefusesPair low.operand x.operand e

@@ -51,10 +51,10 @@ module _ {V O : Type 0} (m : Meaning V O) where
     pub takes : is_some (tree_type m t) ≡ true
     pub rows : Compares op x y t
 
-  -- why not; E3 where the tree has no type, which is only where an operand is not of its stored
-  -- type
+  -- why not: the operands first; E3 where the tree has no type, which is only where an operand is
+  -- not of its stored type
   abbrev pub RefusesComparison : CompareOperator → Lowered V O → Lowered V O → Refusal → Type 0
   RefusesComparison op x y (refusal.Binding e) =
-      UnlessMemory (λ e. (tree_type m (compared_tree op x y) ≡ None)
-      × ¬ (IsTyped m x × IsTyped m y)) e
+      UnlessMemory (λ e. AreCompared x.operand y.operand
+      × (tree_type m (compared_tree op x y) ≡ None) × ¬ (IsTyped m x × IsTyped m y)) e
   RefusesComparison op x y e = RefusesPair x.operand y.operand e

@@ -19,6 +19,10 @@ use Rattle.vortex_lowering.specs.Results.{result_held}
 use Rattle.vortex_lowering.specs.Rows.{Lowered, IsTyped, IsRow}
 use Rattle.vortex_lowering.specs.LoweredTrees.{computed_tree}
 
+-- the two have a result of some kind, and shipped functions compute it
+abbrev pub AreComputed : NumericOperator → Operand → Operand → Type 0
+AreComputed o a b = IsSome (result_operand o a b) × (are_computed o a b ≡ true)
+
 -- the error names both operands
 abbrev pub RefusesOperands : NumericOperator → Operand → Operand → Refusal → Type 0
 RefusesOperands o a b (refusal.NoCommonKind c d) =
@@ -49,10 +53,10 @@ module _ {V O : Type 0} (m : Meaning V O) where
     pub typed : IsTyped m x → IsTyped m y → IsTyped m z
     pub rows : IsTyped m x → IsTyped m y → Computes o x y z
 
-  -- why there is none; E3 where the tree has no type, which is only where an operand is not of its
+  -- why there is none: the operands first; E3 where the tree has no type, which is only where an operand is not of its
   -- stored type
   abbrev pub RefusesResult : NumericOperator → Lowered V O → Lowered V O → Refusal → Type 0
   RefusesResult o x y (refusal.Binding e) =
-      UnlessMemory (λ e. (tree_type m (computed_tree o x y) ≡ None)
-      × ¬ (IsTyped m x × IsTyped m y)) e
+      UnlessMemory (λ e. AreComputed o x.operand y.operand
+      × (tree_type m (computed_tree o x y) ≡ None) × ¬ (IsTyped m x × IsTyped m y)) e
   RefusesResult o x y e = RefusesOperands o x.operand y.operand e

@@ -1,3 +1,4 @@
+use Rattle.vortex_lowering.specs.Comparing.{AreCompared}
 use Rattle.std.proofs.Common.{◌≡◌, ◌∙◌, refl, ap, [], ◌∷◌}
 use Rattle.std.specs.Prelude.{None}
 use Rattle.std.proofs.lemmas.Result.{err_from_is_err_and}
@@ -27,10 +28,11 @@ returns-in_err-item g c =
     let made = bounded_made o x low high scale a b d c.bounds_scale-scale.ensures.value refl refl refl in
     let p = err_from_is_err_and c.from_residual-in_err-item.result c.from_residual-in_err-item.ensures.1 in
     rw (p.1, p.2) (UnlessMemory-weaker (λ e. tree_type m a ≡ None)
-    (λ e. (tree_type m (bounded_tree o x low high) ≡ None) × ¬ (IsTyped m x × IsTyped m low × IsTyped m high))
-    (λ e h. bounds_none m o x low high c.in_ok-check_pair.ensures.1 c.in_ok-check_pair-2.ensures.1 _ made
+    (λ e. AreCompared low.operand x.operand × AreCompared x.operand high.operand
+    × (tree_type m (bounded_tree o x low high) ≡ None) × ¬ (IsTyped m x × IsTyped m low × IsTyped m high))
+    (λ e h. let n = bounds_none m o x low high c.in_ok-check_pair.ensures.1 c.in_ok-check_pair-2.ensures.1 _ made
     (arguments_none m (ours (Between o)) (trees_of (a ∷ b ∷ d ∷ []))
-    (ap (λ k. with_type k (tree_types m (trees_of (b ∷ d ∷ [])))) h))) c.in_err-item.field-0.0 c.in_err-item.ensures)
+    (ap (λ k. with_type k (tree_types m (trees_of (b ∷ d ∷ [])))) h)) in (c.in_ok-check_pair.ensures, c.in_ok-check_pair-2.ensures, n.0, n.1)) c.in_err-item.field-0.0 c.in_err-item.ensures)
 
 pub returns-in_err-lower : goal.returns-in_err-lower
 returns-in_err-lower g c =
@@ -46,10 +48,11 @@ returns-in_err-lower g c =
     let made = bounded_made o x low high scale a b d c.bounds_scale-scale.ensures.value refl refl refl in
     let p = err_from_is_err_and c.from_residual-in_err-lower.result c.from_residual-in_err-lower.ensures.1 in
     rw (p.1, p.2) (UnlessMemory-weaker (λ e. tree_type m b ≡ None)
-    (λ e. (tree_type m (bounded_tree o x low high) ≡ None) × ¬ (IsTyped m x × IsTyped m low × IsTyped m high))
-    (λ e h. bounds_none m o x low high c.in_ok-check_pair.ensures.1 c.in_ok-check_pair-2.ensures.1 _ made
+    (λ e. AreCompared low.operand x.operand × AreCompared x.operand high.operand
+    × (tree_type m (bounded_tree o x low high) ≡ None) × ¬ (IsTyped m x × IsTyped m low × IsTyped m high))
+    (λ e h. let n = bounds_none m o x low high c.in_ok-check_pair.ensures.1 c.in_ok-check_pair-2.ensures.1 _ made
     (arguments_none m (ours (Between o)) (trees_of (a ∷ b ∷ d ∷ []))
-    (ap (λ k. with_type (tree_type m a) (with_type k (tree_types m (trees_of (d ∷ []))))) h ∙ others_none (tree_type m a))))
+    (ap (λ k. with_type (tree_type m a) (with_type k (tree_types m (trees_of (d ∷ []))))) h ∙ others_none (tree_type m a))) in (c.in_ok-check_pair.ensures, c.in_ok-check_pair-2.ensures, n.0, n.1))
     c.in_err-lower.field-0.0 c.in_err-lower.ensures)
 
 pub returns-in_err-upper : goal.returns-in_err-upper
@@ -66,11 +69,12 @@ returns-in_err-upper g c =
     let made = bounded_made o x low high scale a b d c.bounds_scale-scale.ensures.value refl refl refl in
     let p = err_from_is_err_and c.from_residual-in_err-upper.result c.from_residual-in_err-upper.ensures.1 in
     rw (p.1, p.2) (UnlessMemory-weaker (λ e. tree_type m d ≡ None)
-    (λ e. (tree_type m (bounded_tree o x low high) ≡ None) × ¬ (IsTyped m x × IsTyped m low × IsTyped m high))
-    (λ e h. bounds_none m o x low high c.in_ok-check_pair.ensures.1 c.in_ok-check_pair-2.ensures.1 _ made
+    (λ e. AreCompared low.operand x.operand × AreCompared x.operand high.operand
+    × (tree_type m (bounded_tree o x low high) ≡ None) × ¬ (IsTyped m x × IsTyped m low × IsTyped m high))
+    (λ e h. let n = bounds_none m o x low high c.in_ok-check_pair.ensures.1 c.in_ok-check_pair-2.ensures.1 _ made
     (arguments_none m (ours (Between o)) (trees_of (a ∷ b ∷ d ∷ []))
     (ap (λ k. with_type (tree_type m a) (with_type (tree_type m b) (with_type k (tree_types m (trees_of []))))) h
-    ∙ ap (with_type (tree_type m a)) (others_none (tree_type m b)) ∙ others_none (tree_type m a))))
+    ∙ ap (with_type (tree_type m a)) (others_none (tree_type m b)) ∙ others_none (tree_type m a))) in (c.in_ok-check_pair.ensures, c.in_ok-check_pair-2.ensures, n.0, n.1))
     c.in_err-upper.field-0.0 c.in_err-upper.ensures)
 
 pub returns-in_err-bounded : goal.returns-in_err-bounded
@@ -88,9 +92,10 @@ returns-in_err-bounded g c =
     c.bounds_scale-scale.ensures.value c.in_ok-item.ensures c.in_ok-lower.ensures c.in_ok-upper.ensures in
     let p = err_from_is_err_and c.from_residual-in_err-bounded.result c.from_residual-in_err-bounded.ensures.1 in
     rw (p.1, p.2) (UnlessMemory-weaker (RefusesCall m f (a ∷ b ∷ d ∷ []))
-    (λ e. (tree_type m (bounded_tree o x low high) ≡ None) × ¬ (IsTyped m x × IsTyped m low × IsTyped m high))
-    (λ e h. bounds_none m o x low high c.in_ok-check_pair.ensures.1 c.in_ok-check_pair-2.ensures.1 _ made
-    (refused_none m f (a ∷ b ∷ d ∷ []) e h)) c.in_err-bounded.field-0.0 c.in_err-bounded.ensures)
+    (λ e. AreCompared low.operand x.operand × AreCompared x.operand high.operand
+    × (tree_type m (bounded_tree o x low high) ≡ None) × ¬ (IsTyped m x × IsTyped m low × IsTyped m high))
+    (λ e h. let n = bounds_none m o x low high c.in_ok-check_pair.ensures.1 c.in_ok-check_pair-2.ensures.1 _ made
+    (refused_none m f (a ∷ b ∷ d ∷ []) e h) in (c.in_ok-check_pair.ensures, c.in_ok-check_pair-2.ensures, n.0, n.1)) c.in_err-bounded.field-0.0 c.in_err-bounded.ensures)
 
 pub returns : goal.returns
 returns g c =

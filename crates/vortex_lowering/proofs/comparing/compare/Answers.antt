@@ -1,3 +1,4 @@
+use Rattle.vortex_lowering.specs.Comparing.{AreCompared}
 use Rattle.std.proofs.Common.{◌≡◌, ◌∙◌, refl, ap, [], ◌∷◌}
 use Rattle.std.specs.Prelude.{None}
 use Rattle.std.proofs.lemmas.Result.{err_from_is_err_and}
@@ -26,10 +27,11 @@ returns-in_err-left g c =
     let made = compared_made op x y scale (operator_of op) l r c.common_scale-scale.ensures.value refl refl refl in
     let p = err_from_is_err_and c.from_residual-in_err-left.result c.from_residual-in_err-left.ensures.1 in
     rw (p.1, p.2) (UnlessMemory-weaker (λ e. tree_type m l ≡ None)
-    (λ e. (tree_type m (compared_tree op x y) ≡ None) × ¬ (IsTyped m x × IsTyped m y))
-    (λ e h. comparison_none m op x y c.in_ok-check_pair.ensures.1 _ made
+    (λ e. AreCompared x.operand y.operand × (tree_type m (compared_tree op x y) ≡ None)
+    × ¬ (IsTyped m x × IsTyped m y))
+    (λ e h. let n = comparison_none m op x y c.in_ok-check_pair.ensures.1 _ made
     (arguments_none m (ours (Binary (operator_of op))) (trees_of (l ∷ r ∷ []))
-    (ap (λ a. with_type a (tree_types m (trees_of (r ∷ [])))) h))) c.in_err-left.field-0.0 c.in_err-left.ensures)
+    (ap (λ a. with_type a (tree_types m (trees_of (r ∷ [])))) h)) in (c.in_ok-check_pair.ensures, n.0, n.1)) c.in_err-left.field-0.0 c.in_err-left.ensures)
 
 pub returns-in_err-right : goal.returns-in_err-right
 returns-in_err-right g c =
@@ -43,10 +45,11 @@ returns-in_err-right g c =
     let made = compared_made op x y scale (operator_of op) l r c.common_scale-scale.ensures.value refl refl refl in
     let p = err_from_is_err_and c.from_residual-in_err-right.result c.from_residual-in_err-right.ensures.1 in
     rw (p.1, p.2) (UnlessMemory-weaker (λ e. tree_type m r ≡ None)
-    (λ e. (tree_type m (compared_tree op x y) ≡ None) × ¬ (IsTyped m x × IsTyped m y))
-    (λ e h. comparison_none m op x y c.in_ok-check_pair.ensures.1 _ made
+    (λ e. AreCompared x.operand y.operand × (tree_type m (compared_tree op x y) ≡ None)
+    × ¬ (IsTyped m x × IsTyped m y))
+    (λ e h. let n = comparison_none m op x y c.in_ok-check_pair.ensures.1 _ made
     (arguments_none m (ours (Binary (operator_of op))) (trees_of (l ∷ r ∷ []))
-    (ap (λ a. with_type (tree_type m l) (with_type a (tree_types m (trees_of [])))) h ∙ others_none (tree_type m l))))
+    (ap (λ a. with_type (tree_type m l) (with_type a (tree_types m (trees_of [])))) h ∙ others_none (tree_type m l))) in (c.in_ok-check_pair.ensures, n.0, n.1))
     c.in_err-right.field-0.0 c.in_err-right.ensures)
 
 pub returns-in_err-operated : goal.returns-in_err-operated
@@ -62,8 +65,9 @@ returns-in_err-operated g c =
     c.common_scale-scale.ensures.value c.from.ensures.0 c.in_ok-left.ensures c.in_ok-right.ensures in
     let p = err_from_is_err_and c.from_residual-in_err-operated.result c.from_residual-in_err-operated.ensures.1 in
     rw (p.1, p.2) (UnlessMemory-weaker (RefusesCall m f (l ∷ r ∷ []))
-    (λ e. (tree_type m (compared_tree op x y) ≡ None) × ¬ (IsTyped m x × IsTyped m y))
-    (λ e h. comparison_none m op x y c.in_ok-check_pair.ensures.1 _ made (refused_none m f (l ∷ r ∷ []) e h))
+    (λ e. AreCompared x.operand y.operand × (tree_type m (compared_tree op x y) ≡ None)
+    × ¬ (IsTyped m x × IsTyped m y))
+    (λ e h. (let n = comparison_none m op x y c.in_ok-check_pair.ensures.1 _ made (refused_none m f (l ∷ r ∷ []) e h) in (c.in_ok-check_pair.ensures, n.0, n.1)))
     c.in_err-operated.field-0.0 c.in_err-operated.ensures)
 
 pub returns : goal.returns

@@ -1,3 +1,5 @@
+use Rattle.std.specs.Prelude.{is_some}
+use Rattle.vortex_lowering.specs.Computing.{AreComputed}
 use Rattle.std.proofs.Common.{◌≡◌, ◌∙◌, refl, ap, [], ◌∷◌}
 use Rattle.std.specs.Prelude.{None}
 use Rattle.std.proofs.lemmas.Result.{err_from_is_err_and}
@@ -26,10 +28,11 @@ returns-in_err-left g c =
     let made = computed_made o x y scale (arithmetic_operator o) l r c.met_scale-scale.ensures.value refl refl refl in
     let p = err_from_is_err_and c.from_residual-in_err-left.result c.from_residual-in_err-left.ensures.1 in
     rw (p.1, p.2) (UnlessMemory-weaker (λ e. tree_type m l ≡ None)
-    (λ e. (tree_type m (computed_tree o x y) ≡ None) × ¬ (IsTyped m x × IsTyped m y))
-    (λ e h. result_none m o x y c.in_ok-operand.operand kind.1 kind.0 _ made
+    (λ e. AreComputed o x.operand y.operand × (tree_type m (computed_tree o x y) ≡ None)
+    × ¬ (IsTyped m x × IsTyped m y))
+    (λ e h. let n = result_none m o x y c.in_ok-operand.operand kind.1 kind.0 _ made
     (arguments_none m (ours (Binary (arithmetic_operator o))) (trees_of (l ∷ r ∷ []))
-    (ap (λ a. with_type a (tree_types m (trees_of (r ∷ [])))) h))) c.in_err-left.field-0.0 c.in_err-left.ensures)
+    (ap (λ a. with_type a (tree_types m (trees_of (r ∷ [])))) h)) in ((ap is_some kind.0, kind.1), n.0, n.1)) c.in_err-left.field-0.0 c.in_err-left.ensures)
 
 pub returns-in_err-right : goal.returns-in_err-right
 returns-in_err-right g c =
@@ -44,10 +47,11 @@ returns-in_err-right g c =
     let made = computed_made o x y scale (arithmetic_operator o) l r c.met_scale-scale.ensures.value refl refl refl in
     let p = err_from_is_err_and c.from_residual-in_err-right.result c.from_residual-in_err-right.ensures.1 in
     rw (p.1, p.2) (UnlessMemory-weaker (λ e. tree_type m r ≡ None)
-    (λ e. (tree_type m (computed_tree o x y) ≡ None) × ¬ (IsTyped m x × IsTyped m y))
-    (λ e h. result_none m o x y c.in_ok-operand.operand kind.1 kind.0 _ made
+    (λ e. AreComputed o x.operand y.operand × (tree_type m (computed_tree o x y) ≡ None)
+    × ¬ (IsTyped m x × IsTyped m y))
+    (λ e h. let n = result_none m o x y c.in_ok-operand.operand kind.1 kind.0 _ made
     (arguments_none m (ours (Binary (arithmetic_operator o))) (trees_of (l ∷ r ∷ []))
-    (ap (λ a. with_type (tree_type m l) (with_type a (tree_types m (trees_of [])))) h ∙ others_none (tree_type m l))))
+    (ap (λ a. with_type (tree_type m l) (with_type a (tree_types m (trees_of [])))) h ∙ others_none (tree_type m l))) in ((ap is_some kind.0, kind.1), n.0, n.1))
     c.in_err-right.field-0.0 c.in_err-right.ensures)
 
 pub returns-in_err-tree : goal.returns-in_err-tree
@@ -64,8 +68,9 @@ returns-in_err-tree g c =
     c.met_scale-scale.ensures.value c.arithmetic_operator.ensures c.in_ok-left.ensures c.in_ok-right.ensures in
     let p = err_from_is_err_and c.from_residual-in_err-tree.result c.from_residual-in_err-tree.ensures.1 in
     rw (p.1, p.2) (UnlessMemory-weaker (RefusesCall m f (l ∷ r ∷ []))
-    (λ e. (tree_type m (computed_tree o x y) ≡ None) × ¬ (IsTyped m x × IsTyped m y))
-    (λ e h. result_none m o x y c.in_ok-operand.operand kind.1 kind.0 _ made (refused_none m f (l ∷ r ∷ []) e h))
+    (λ e. AreComputed o x.operand y.operand × (tree_type m (computed_tree o x y) ≡ None)
+    × ¬ (IsTyped m x × IsTyped m y))
+    (λ e h. (let n = result_none m o x y c.in_ok-operand.operand kind.1 kind.0 _ made (refused_none m f (l ∷ r ∷ []) e h) in ((ap is_some kind.0, kind.1), n.0, n.1)))
     c.in_err-tree.field-0.0 c.in_err-tree.ensures)
 
 pub returns : goal.returns
