@@ -66,8 +66,12 @@ after (Some f) a x = and_then (call_one f x.tree) (λ t. made (lowered t a))
 abbrev pub as_float : Lowered → Outcome Lowered
 as_float x = after (float_function x.operand) (Of F64) x
 
+-- none to the same type
+abbrev pub other_type_cast : PType → PType → Option Standard
+other_type_cast q p = if ptype_eq q p then None else Some (integer_cast q p)
+
 abbrev pub integer_function : Operand → PType → Option Standard
-integer_function (Whole q) p = if ptype_eq q p then None else Some (integer_cast q p)
+integer_function (Whole q) p = other_type_cast q p
 integer_function (Of k) p = None
 
 abbrev pub as_integer : PType → Lowered → Outcome Lowered

@@ -1,5 +1,6 @@
 //! What an operand becomes next to another: a float, or an integer of another type.
 ghost use Rattle.std.specs.Prelude.{◌≡◌};
+ghost use Rattle.vortex_types.specs.TypeEquality.{ptype_eq};
 ghost use Rattle.vortex_lowering.specs.Rows.{lowered};
 ghost use Rattle.vortex_logical_calls.specs.Outcomes.{Makes};
 ghost use Rattle.vortex_logical_calls.specs.Conversions as specs;
@@ -121,16 +122,29 @@ pub fn as_float(alloc: Global, item: Lowered<Standard>) -> Result<Lowered<Standa
     after(alloc, function, Operand::Of(Kind::F64), item)
 }
 
+fn is_same_type(from: PType, to: PType) -> bool
+    ensures { result ≡ ptype_eq from to }
+{
+    from == to
+}
+
+/// The cast to another integer type; none to the same.
+fn other_type_cast(from: PType, to: PType) -> Option<Standard>
+    ensures { result ≡ specs.other_type_cast from to }
+{
+    if is_same_type(from, to) {
+        None
+    } else {
+        Some(integer_cast(from, to))
+    }
+}
+
 /// The cast of a whole number to another type; none if it is of that type, or no whole number.
 fn integer_function(operand: &Operand, to: PType) -> Option<Standard>
     ensures { result ≡ specs.integer_function operand.now to }
 {
     match operand {
-        Operand::Whole(from) => if *from == to {
-            None
-        } else {
-            Some(integer_cast(*from, to))
-        },
+        Operand::Whole(from) => other_type_cast(*from, to),
         Operand::Of(_) => None,
     }
 }
