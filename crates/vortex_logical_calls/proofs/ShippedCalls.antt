@@ -20,7 +20,8 @@ use Rattle.vortex_lowering.specs.Results.{result_operand, are_computed}
 use Rattle.vortex_lowering.specs.Comparing.{AreCompared, RefusesPair, IsCompared}
 use Rattle.vortex_lowering.specs.Comparing.{RefusesComparison}
 use Rattle.vortex_lowering.specs.Bounding.{IsBounded, RefusesBounds}
-use Rattle.vortex_lowering.specs.Computing.{IsComputed, RefusesResult}
+use Rattle.vortex_lowering.specs.Computing.{AreComputed, IsComputed, RefusesResult}
+use Rattle.vortex_lowering.specs.Rows.{IsTyped}
 use Rattle.vortex_lowering.specs.LoweredTrees.{compared_tree, bounded_tree, computed_tree}
 use Rattle.vortex_logical_calls.specs.Outcomes.{Outcome, made, refused, untyped, FailsBy, Makes}
 use Rattle.vortex_logical_calls.specs.Calls.{Tree, Lowered, meaning, typed}
@@ -65,10 +66,15 @@ module _ {A : Type 0} (a b : Operand) (o : Outcome A) where
   pair_refused (refusal.Binding e) h = absurd h
 
 -- a comparison
+abbrev NoComparison : CompareOperator → Lowered → Lowered → Type 0
+NoComparison op x y =
+    AreCompared x.operand y.operand × (tree_type meaning (compared_tree op x y) ≡ None)
+    × ¬ (IsTyped meaning x × IsTyped meaning y)
+
 comparison_fails : (op : CompareOperator) (x y : Lowered) (e : Refusal)
     → RefusesComparison meaning op x y e → FailsBy (compare_met op x y) e
 comparison_fails op x y (refusal.Binding e) h =
-    UnlessMemory-weaker _ (λ e. compare_met op x y ≡ untyped)
+    UnlessMemory-weaker (λ e. NoComparison op x y) (λ e. compare_met op x y ≡ untyped)
     (λ e k. met_is x.operand y.operand _ k.0 ∙ typed_none (compared_tree op x y) k.1) e h
 comparison_fails op x y (refusal.NoCommonKind c d) h =
     pair_refused x.operand y.operand _ (refusal.NoCommonKind c d) h
@@ -95,10 +101,16 @@ upper_refused : (o : BetweenOptions) (x low high : Lowered) (e : Refusal)
 upper_refused o x low high e h k =
     met_is low.operand x.operand _ h ∙ pair_refused x.operand high.operand _ e k
 
+abbrev NoBounds : BetweenOptions → Lowered → Lowered → Lowered → Type 0
+NoBounds o x low high =
+    AreCompared low.operand x.operand × AreCompared x.operand high.operand
+    × (tree_type meaning (bounded_tree o x low high) ≡ None)
+    × ¬ (IsTyped meaning x × IsTyped meaning low × IsTyped meaning high)
+
 bounds_fail : (o : BetweenOptions) (x low high : Lowered) (e : Refusal)
     → RefusesBounds meaning o x low high e → FailsBy (between_met o x low high) e
 bounds_fail o x low high (refusal.Binding e) h =
-    UnlessMemory-weaker _ (λ e. between_met o x low high ≡ untyped)
+    UnlessMemory-weaker (λ e. NoBounds o x low high) (λ e. between_met o x low high ≡ untyped)
     (λ e k. met_is low.operand x.operand _ k.0 ∙ met_is x.operand high.operand _ k.1
     ∙ typed_none (bounded_tree o x low high) k.2) e h
 bounds_fail o x low high (refusal.NoCommonKind c d) h =
@@ -134,10 +146,15 @@ not_computed : (k : Option Operand) (b : Bool) (x y : Lowered) (o : Outcome Tree
 not_computed None b x y o h g = absurd (false≢true h)
 not_computed (Some a) b x y o h g = ap (λ b. of_result b x y (Some a) o) g
 
+abbrev NoResult : NumericOperator → Lowered → Lowered → Type 0
+NoResult o x y =
+    AreComputed o x.operand y.operand × (tree_type meaning (computed_tree o x y) ≡ None)
+    × ¬ (IsTyped meaning x × IsTyped meaning y)
+
 result_fails : (o : NumericOperator) (x y : Lowered) (e : Refusal)
     → RefusesResult meaning o x y e → FailsBy (compute_met o x y) e
 result_fails o x y (refusal.Binding e) h =
-    UnlessMemory-weaker _ (λ e. compute_met o x y ≡ untyped)
+    UnlessMemory-weaker (λ e. NoResult o x y) (λ e. compute_met o x y ≡ untyped)
     (λ e k. ap (of_result (are_computed o x.operand y.operand) x y
     (result_operand o x.operand y.operand)) (typed_none (computed_tree o x y) k.1)
     ∙ some_result (result_operand o x.operand y.operand) (are_computed o x.operand y.operand) x y

@@ -44,6 +44,42 @@ fn compute_floats(
     Ok(Lowered { tree, operand })
 }
 
+/// The sum of operands that have been brought together.
+fn add_met(
+    alloc: Global,
+    left: Lowered<Standard>,
+    right: Lowered<Standard>,
+) -> Result<Lowered<Standard>, Refusal>
+    ensures { Makes (λ x. lowered x.tree x.operand) result (specs.compute_met Add
+        (lowered left.tree left.operand) (lowered right.tree right.operand)) }
+{
+    vortex_lowering::add(alloc, left, right)
+}
+
+/// The difference of operands that have been brought together.
+fn subtract_met(
+    alloc: Global,
+    left: Lowered<Standard>,
+    right: Lowered<Standard>,
+) -> Result<Lowered<Standard>, Refusal>
+    ensures { Makes (λ x. lowered x.tree x.operand) result (specs.compute_met Sub
+        (lowered left.tree left.operand) (lowered right.tree right.operand)) }
+{
+    vortex_lowering::subtract(alloc, left, right)
+}
+
+/// The product of operands that have been brought together.
+fn multiply_met(
+    alloc: Global,
+    left: Lowered<Standard>,
+    right: Lowered<Standard>,
+) -> Result<Lowered<Standard>, Refusal>
+    ensures { Makes (λ x. lowered x.tree x.operand) result (specs.compute_met Mul
+        (lowered left.tree left.operand) (lowered right.tree right.operand)) }
+{
+    vortex_lowering::multiply(alloc, left, right)
+}
+
 /// The operator on operands that have been brought together.
 fn compute_met(
     alloc: Global,
@@ -55,9 +91,9 @@ fn compute_met(
         (lowered left.tree left.operand) (lowered right.tree right.operand)) }
 {
     match operator {
-        NumericOperator::Add => vortex_lowering::add(alloc, left, right),
-        NumericOperator::Sub => vortex_lowering::subtract(alloc, left, right),
-        NumericOperator::Mul => vortex_lowering::multiply(alloc, left, right),
+        NumericOperator::Add => add_met(alloc, left, right),
+        NumericOperator::Sub => subtract_met(alloc, left, right),
+        NumericOperator::Mul => multiply_met(alloc, left, right),
         NumericOperator::Div => Err(Refusal::NoCommonKind(left.operand, right.operand)),
     }
 }
