@@ -16,6 +16,7 @@ use Rattle.vortex_operators.specs.declared.operators.Operator.TheVariants.{Mul}
 use Rattle.vortex_interface.specs.Meaning.{Meaning}
 use Rattle.vortex_interface.specs.Outcomes.{Outcome, gives, faults, arithmetic}
 use Rattle.vortex_interface.specs.Arithmetic.{value_or_fault}
+use Rattle.vortex_interface.specs.ComparisonTrees.{operated}
 use Rattle.vortex_interface.specs.Shipped.{Binary}
 use Rattle.vortex_interface.specs.Shipped.BinaryFunction.{operator_means}
 use Rattle.vortex_interface.specs.Functions.{ours, call_type}
@@ -25,7 +26,7 @@ use Rattle.vortex_logical.specs.Decimals.{shifted}
 use Rattle.vortex_lowering.specs.Operands.{operand_ptype, lacking, is_held}
 use Rattle.vortex_lowering.specs.Rows.{Lowered, IsOfType, IsTyped}
 use Rattle.vortex_lowering.specs.LoweredTrees.{is_wide, longer_number, constant_number, constant_or}
-use Rattle.vortex_lowering.specs.LoweredTrees.{operated_tree, multiplied_tree, lengthened_tree, tree_at_scale}
+use Rattle.vortex_lowering.specs.LoweredTrees.{multiplied_tree, lengthened_tree, tree_at_scale}
 
 -- what options have
 pub some_same : {A : Type 0} (x y : A) → Some x ≡ Some y → x ≡ y
@@ -110,10 +111,10 @@ product_outcome k n (gives v) = refl
 -- the product is the tree of the definition where there is no longer constant
 pub product_made : {V O : Type 0} (k : ℕ) (t factor : Tree V O) → (k ≡ 0 → ⊥)
     → option_and_then (longer_number k) (constant_number t) ≡ None → factor ≡ constant (int_scalar I64 (pos (10 ^ k)))
-    → operated_tree Mul t factor ≡ lengthened_tree k t
+    → operated Mul t factor ≡ lengthened_tree k t
 product_made zero t factor h e f = absurd (h refl)
 product_made (suc k) t factor h e f =
-    ap (operated_tree Mul t) f ∙ sym (ap (λ o. constant_or o (multiplied_tree (suc k) t)) e)
+    ap (operated Mul t) f ∙ sym (ap (λ o. constant_or o (multiplied_tree (suc k) t)) e)
 
 module _ {V O : Type 0} (m : Meaning V O) where
   -- the type of a product by a number of 64 bits

@@ -13,7 +13,7 @@ use Rattle.vortex_operators.specs.Operators.{operator_of}
 use Rattle.vortex_operators.specs.OperatorValues.{comparison_value}
 use Rattle.vortex_interface.specs.Meaning.{Meaning}
 use Rattle.vortex_interface.specs.Outcomes.{Outcome, gives}
-use Rattle.vortex_interface.specs.ComparisonTrees.{compared_means}
+use Rattle.vortex_interface.specs.ComparisonTrees.{compared_means, operated}
 use Rattle.vortex_interface.specs.Shipped.{Binary}
 use Rattle.vortex_interface.specs.Shipped.BinaryFunction.{operator_means, operator_type, compared_type}
 use Rattle.vortex_interface.specs.Functions.{Function, ours, call_type}
@@ -26,7 +26,7 @@ use Rattle.vortex_logical.specs.Decimals.{RescalingOrders}
 use Rattle.vortex_logical.specs.StandsFor.{StoredValuesAreOrdered}
 use Rattle.vortex_lowering.specs.Operands.{are_shipped, operand_ptype, common_scale, scale_of, lacking, held_at}
 use Rattle.vortex_lowering.specs.Rows.{Lowered, IsOfType, IsTyped}
-use Rattle.vortex_lowering.specs.LoweredTrees.{operated_tree, tree_at_scale, compared_tree}
+use Rattle.vortex_lowering.specs.LoweredTrees.{tree_at_scale, compared_tree}
 use Rattle.vortex_lowering.specs.Comparing.{Compares}
 use Rattle.vortex_lowering.proofs.TreeTypes.{each_some, arguments_some}
 use Rattle.vortex_lowering.proofs.LengthenedTrees.{some_same, scaled, scaled_typed}
@@ -103,9 +103,9 @@ compared_integers op p n k = by op
 -- the tree of the definition, from its parts
 pub compared_made : {V O : Type 0} (op : CompareOperator) (x y : Lowered V O) (u : ℕ) (p : Operator) (l r : Tree V O)
     → u ≡ common_scale x.operand y.operand → p ≡ operator_of op → l ≡ tree_at_scale u x → r ≡ tree_at_scale u y
-    → operated_tree p l r ≡ compared_tree op x y
+    → operated p l r ≡ compared_tree op x y
 compared_made op x y u p l r e f g h =
-    (λ i. operated_tree (f i) (g i) (h i)) ∙ (λ i. operated_tree (operator_of op) (tree_at_scale (e i) x) (tree_at_scale (e i) y))
+    (λ i. operated (f i) (g i) (h i)) ∙ (λ i. operated (operator_of op) (tree_at_scale (e i) x) (tree_at_scale (e i) y))
 
 module _ {V O : Type 0} (m : Meaning V O) (op : CompareOperator) (x y : Lowered V O)
     (shipped : are_shipped x.operand y.operand ≡ true) where

@@ -18,6 +18,7 @@ use Rattle.vortex_operators.specs.Arithmetic.{held, integer_of_both}
 use Rattle.vortex_interface.specs.Meaning.{Meaning}
 use Rattle.vortex_interface.specs.Outcomes.{Outcome, gives, faults, arithmetic}
 use Rattle.vortex_interface.specs.Arithmetic.{arithmetic_of, arithmetic_type, integer_of, value_or_fault}
+use Rattle.vortex_interface.specs.ComparisonTrees.{operated}
 use Rattle.vortex_interface.specs.Shipped.{Binary}
 use Rattle.vortex_interface.specs.Shipped.BinaryFunction.{operator_means, operator_type}
 use Rattle.vortex_interface.specs.Functions.{ours, call_type}
@@ -32,7 +33,7 @@ use Rattle.vortex_logical.specs.StandsFor as logical
 use Rattle.vortex_lowering.specs.Operands.{operand_ptype, lacking, held_at}
 use Rattle.vortex_lowering.specs.Results.{result_operand, are_computed, met_scale, IsResult, stored_of, type_holds, result_held}
 use Rattle.vortex_lowering.specs.Rows.{Lowered, lowered, IsOfType, IsTyped, IsRow}
-use Rattle.vortex_lowering.specs.LoweredTrees.{arithmetic_operator, operated_tree, tree_at_scale, computed_tree}
+use Rattle.vortex_lowering.specs.LoweredTrees.{arithmetic_operator, tree_at_scale, computed_tree}
 use Rattle.vortex_lowering.specs.Computing.{Computes}
 use Rattle.vortex_lowering.proofs.StoredResults.{computed_value}
 use Rattle.vortex_lowering.proofs.LengthenedTrees.{IsLengthened, some_same, scaled_typed}
@@ -198,9 +199,9 @@ value_outcome o a b c p l e q None w r s t h g k =
 -- the tree of the definition, from its parts
 pub computed_made : {V O : Type 0} (o : NumericOperator) (x y : Lowered V O) (u : ℕ) (p : Operator) (l r : Tree V O)
     → u ≡ met_scale o x.operand y.operand → p ≡ arithmetic_operator o → l ≡ tree_at_scale u x → r ≡ tree_at_scale u y
-    → operated_tree p l r ≡ computed_tree o x y
+    → operated p l r ≡ computed_tree o x y
 computed_made o x y u p l r e f g h =
-    (λ i. operated_tree (f i) (g i) (h i)) ∙ (λ i. operated_tree (arithmetic_operator o) (tree_at_scale (e i) x) (tree_at_scale (e i) y))
+    (λ i. operated (f i) (g i) (h i)) ∙ (λ i. operated (arithmetic_operator o) (tree_at_scale (e i) x) (tree_at_scale (e i) y))
 
 module _ {V O : Type 0} (m : Meaning V O) where
   -- a row with that outcome

@@ -1,4 +1,4 @@
--- The exact result of stored integers stands for the sum, the difference or the product.
+-- The exact result of stored integers means the sum, the difference or the product.
 use Rattle.std.proofs.Common.{◌≡◌, ◌∙◌, ◌+◌, ◌-◌, ℕ, ℤ, true, refl, ap, sym, subst, arith}
 use Rattle.std.specs.Prelude.{Some, None, Bool, false, min, max, nat_le, ◌+ℤ◌, ◌-ℤ◌, ◌*ℤ◌, if◌then◌else◌}
 use Rattle.std.proofs.lemmas.Int.{ints}

@@ -36,7 +36,7 @@ pub record IsColumn {V O : Type 0} (k : Kind) (place : ℕ) (scope : Fields) (x 
   pub tree : x.tree ≡ field_leaf place scope
   pub operand : column_operand k (field_type place scope) ≡ Some x.operand
 
--- the constant of the integer that stands for the text
+-- the constant of the integer that stores the text's value
 pub record IsLiteral {V O : Type 0} (k : Kind) (text : List ℕ) (x : Lowered V O) : Type 0 where
   pub stored : ℤ
   pub ptype : PType

@@ -14,7 +14,8 @@ use Rattle.vortex_operators.specs.declared.operators.CompareOperator.{CompareOpe
 use Rattle.vortex_operators.specs.declared.operators.Operator.{Operator}
 use Rattle.vortex_operators.specs.declared.operators.Operator.TheVariants as operator
 use Rattle.vortex_operators.specs.Operators.{operator_of}
-use Rattle.vortex_interface.specs.Shipped.{Binary, Between}
+use Rattle.vortex_interface.specs.ComparisonTrees.{operated}
+use Rattle.vortex_interface.specs.Shipped.{Between}
 use Rattle.vortex_interface.specs.Functions.{ours}
 use Rattle.vortex_interface.specs.Trees.{Tree, constant, call, trees_of, literal}
 use Rattle.vortex_logical.specs.Decimals.{shifted}
@@ -50,12 +51,9 @@ module _ {V O : Type 0} where
   constant_or None t = t
   constant_or (Some z) t = constant (int_scalar I64 z)
 
-  abbrev pub operated_tree : Operator → Tree V O → Tree V O → Tree V O
-  operated_tree op l r = call (ours (Binary op)) (trees_of (l ∷ r ∷ []))
-
   -- times 10 ^ k
   abbrev pub multiplied_tree : ℕ → Tree V O → Tree V O
-  multiplied_tree k t = operated_tree operator.Mul t (constant (int_scalar I64 (pos (10 ^ k))))
+  multiplied_tree k t = operated operator.Mul t (constant (int_scalar I64 (pos (10 ^ k))))
 
   -- each number with k digits more after the point: a constant is made anew where 64 bits hold it,
   -- else there is a product in each row
@@ -72,7 +70,7 @@ module _ {V O : Type 0} where
   abbrev pub compared_tree : CompareOperator → Lowered V O → Lowered V O → Tree V O
   compared_tree op x y =
       let u = common_scale x.operand y.operand in
-      operated_tree (operator_of op) (tree_at_scale u x) (tree_at_scale u y)
+      operated (operator_of op) (tree_at_scale u x) (tree_at_scale u y)
 
   -- whether x is between its bounds, all at the largest scale
   abbrev pub bounded_tree : BetweenOptions → Lowered V O → Lowered V O → Lowered V O → Tree V O
@@ -85,4 +83,4 @@ module _ {V O : Type 0} where
   abbrev pub computed_tree : NumericOperator → Lowered V O → Lowered V O → Tree V O
   computed_tree o x y =
       let u = met_scale o x.operand y.operand in
-      operated_tree (arithmetic_operator o) (tree_at_scale u x) (tree_at_scale u y)
+      operated (arithmetic_operator o) (tree_at_scale u x) (tree_at_scale u y)

@@ -40,7 +40,7 @@ are_shipped (Of F64) (Of F64) = true
 are_shipped (Of F32) (Of F32) = true
 are_shipped a b = false
 
--- how many digits stand after the point
+-- the count of digits after the point
 abbrev pub scale_of : Operand → ℕ
 scale_of (Of (Decimal d)) = d.scale
 scale_of a = 0

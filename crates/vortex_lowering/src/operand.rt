@@ -75,7 +75,7 @@ fn narrow_float_scalar(number: i64) -> Scalar
     Scalar::from(narrow(number))
 }
 
-/// The constant of an integer that stands for a value of a kind.
+/// The constant of the stored integer of a value of a kind.
 fn stored_scalar(kind: &Kind, number: i64) -> Scalar
     requires { IsStored kind.now number }
     ensures { IsConstantOf kind.now number result }

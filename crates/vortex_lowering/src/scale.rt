@@ -6,7 +6,7 @@ use vortex_logical::kind::Kind;
 use vortex_logical::operand::Operand;
 use vortex_types::PType;
 
-/// How many digits stand after the point.
+/// The count of digits after the point.
 pub(crate) fn scale_of(operand: &Operand) -> u32
     ensures value { result ≡ scale_of operand.now }
     ensures few { result ≤ 18 }
