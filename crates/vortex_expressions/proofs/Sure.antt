@@ -471,7 +471,7 @@ sure_logical scope kinds t f =
     sure_then IsItem _ (item_by (column_in scope kinds) t) ended
     (sure (column_in scope kinds) (sure_column scope kinds) t f) sure_ended
 
-module _ (scope : Fields) where
+module _ (scope : Fields) (kinds : List Kind) where
   -- names
   sure_name : (t : Token) → is_name t ≡ true → Sure (λ w. Unit {0}) (name_of t)
   sure_name (name w) h = sure_text w
@@ -483,14 +483,14 @@ module _ (scope : Fields) where
   sure_said (Some t) h = sure_then _ _ (name_of t) _ (sure_name t h) (λ w k. tt)
 
   sure_answer : {ts : List Token} (a : syntax.Answer) → SpellsAnswer ts a
-      → Sure (λ x. Unit {0}) (answer_of scope a)
+      → Sure (λ x. Unit {0}) (answer_of scope kinds a)
   sure_answer a s =
-      sure_then IsTyped _ (tree_of scope a.tree) _ (sure_tree scope a.tree s.levels)
+      sure_then _ _ (logical_of scope kinds a.tree) _ (sure_logical scope kinds a.tree s.levels)
       (λ t h. sure_then _ _ (written_name a.name) _ (sure_said a.name s.named) (λ w k. tt))
 
   pub sure_answers : {ts : List Token} {bs : List syntax.Answer} → SpellsAnswers ts bs
-      → Sure (λ x. Unit {0}) (answers_of scope bs)
-  sure_answers (one {a = a} s) = sure_then _ _ (answer_of scope a) _ (sure_answer a s) (λ x h. tt)
+      → Sure (λ x. Unit {0}) (answers_of scope kinds bs)
+  sure_answers (one {a = a} s) = sure_then _ _ (answer_of scope kinds a) _ (sure_answer a s) (λ x h. tt)
   sure_answers (more {a = a} {bs = bs} us e s r) =
-      sure_then _ _ (answer_of scope a) _ (sure_answer a s)
-      (λ x h. sure_then _ _ (answers_of scope bs) _ (sure_answers r) (λ xs k. tt))
+      sure_then _ _ (answer_of scope kinds a) _ (sure_answer a s)
+      (λ x h. sure_then _ _ (answers_of scope kinds bs) _ (sure_answers r) (λ xs k. tt))

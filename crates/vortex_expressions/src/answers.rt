@@ -14,20 +14,23 @@ ghost use Rattle.vortex_expressions.specs.Reading.{ReadUnlessMemory, RefusesAs, 
 ghost use Rattle.vortex_expressions.specs.Reading.{TellsWhy};
 
 use crate::error::TextError;
+use crate::item::LogicalTree;
 use crate::messages::{out_of_memory, unnamed, unread};
 use crate::quotes::{between_quotes, text_of};
-use crate::read::bind_steps;
+use crate::read::bind_logical_steps;
 use crate::refusal::BindStop;
 use std::alloc::Global;
 use vortex_columns::StructFields;
 use vortex_functions::BoundExpression;
+use vortex_logical::kind::Kind;
 use vortex_standard::Standard;
 use vortex_syntax::{SyntaxAnswer, Token, read_answer_list};
 
-/// A tree, and the name after its `as`, if it has one.
+/// A tree, the kind of its values, and the name after its `as`, if it has one.
 #[derive(Drop)]
 pub struct Answer {
     pub tree: BoundExpression<Standard>,
+    pub kind: Kind,
     pub name: Option<String>,
 }
 
@@ -52,38 +55,40 @@ fn written_name(alloc: Global, token: Option<Token<'_>>) -> Result<Option<String
     }
 }
 
-/// An answer over the columns of a scope.
+/// An answer over the columns of a scope with kinds.
 fn bind_answer(
     alloc: Global,
     scope: &StructFields,
+    kinds: &[Kind],
     text: &str,
     answer: &SyntaxAnswer<'_>,
 ) -> Result<Answer, TextError>
     ensures { Finds answer_in result
-        (answer_left (struct_fields scope.now) (syntax.answer_in answer.now)) }
+        (answer_left (struct_fields scope.now) kinds.now (syntax.answer_in answer.now)) }
 {
-    let tree = bind_steps(alloc, scope, text, &answer.tree)?;
+    let LogicalTree { tree, kind } = bind_logical_steps(alloc, scope, kinds, text, &answer.tree)?;
     match written_name(alloc, answer.name) {
-        Ok(name) => Ok(Answer { tree, name }),
+        Ok(name) => Ok(Answer { tree, kind, name }),
         Err(stop) => Err(unnamed(alloc, text, stop)),
     }
 }
 
-/// The answers of a list that was parsed from the text, over the columns of a scope: the results of
-/// the steps of its trees, from left to right, with their names. Fails with the first error, at its
+/// The answers of a list that was parsed from the text, over the columns of a scope whose values are
+/// of these kinds, by place; further columns are plain. They are the results of the steps of its trees, from left to right, with their names. Fails with the first error, at its
 /// position in the text.
 pub fn bind_answers(
     alloc: Global,
     scope: &StructFields,
+    kinds: &[Kind],
     text: &str,
     list: &[SyntaxAnswer<'_>],
 ) -> Result<Vec<Answer>, TextError>
     ensures { Finds (λ v. map answer_in v.items) result
-        (answers_left (struct_fields scope.now) (map syntax.answer_in list.now)) }
+        (answers_left (struct_fields scope.now) kinds.now (map syntax.answer_in list.now)) }
 {
     let mut answers = Vec::new(alloc);
     for answer in list {
-        let bound = bind_answer(alloc, scope, text, answer)?;
+        let bound = bind_answer(alloc, scope, kinds, text, answer)?;
         if answers.push(bound).is_err() {
             return Err(out_of_memory(alloc));
         }
@@ -91,29 +96,31 @@ pub fn bind_answers(
     Ok(answers)
 }
 
-/// Reads a list of answers over the columns of a scope, each with a name after `as` or without one:
-/// `price * stock as worth, price > 100`. Ok exactly if the text is such a list: its trees, with
-/// their names.
+/// Reads a list of answers over the columns of a scope whose values are of these kinds, by place;
+/// further columns are plain. Each has a name after `as` or none:
+/// `price * stock as worth, price > 100`. Ok exactly if the text is such a list: its trees, with the
+/// kinds of their values and their names.
 pub fn read_answers(
     alloc: Global,
     scope: &StructFields,
+    kinds: &[Kind],
     text: &str,
 ) -> Result<Vec<Answer>, TextError>
     // The result is the meaning of the text.
     ensures found { IfOk result
-        (λ v. ExpressesAll (struct_fields scope.now) text.now (map answer_in v.items)) }
+        (λ v. ExpressesAll (struct_fields scope.now) kinds.now text.now (map answer_in v.items)) }
     // The meaning of the text is returned.
-    ensures only { (list : List specs.Answer) → ExpressesAll (struct_fields scope.now) text.now list
+    ensures only { (list : List specs.Answer) → ExpressesAll (struct_fields scope.now) kinds.now text.now list
         → ReadUnlessMemory result (λ v. map answer_in v.items ≡ list) }
     // An error of the text is returned.
-    ensures refused { (r : Refusal) → IsRefusedAll (struct_fields scope.now) text.now r
+    ensures refused { (r : Refusal) → IsRefusedAll (struct_fields scope.now) kinds.now text.now r
         → RefusesAs r result }
     // Why there is no result, and at which byte of a text that is no list.
     ensures told { IfErr result
-        (TellsWhy ListStopsAt (IsRefusedAll (struct_fields scope.now) text.now) text.now) }
+        (TellsWhy ListStopsAt (IsRefusedAll (struct_fields scope.now) kinds.now text.now) text.now) }
 {
     match read_answer_list(alloc, text.as_bytes()) {
-        Ok(list) => bind_answers(alloc, scope, text, &list),
+        Ok(list) => bind_answers(alloc, scope, kinds, text, &list),
         Err(error) => Err(unread(alloc, text, error)),
     }
 }

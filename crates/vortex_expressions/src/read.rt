@@ -37,7 +37,7 @@ pub(crate) fn bind_steps(
 }
 
 /// The tree that the steps of a text leave over columns with kinds, or why they leave none.
-fn bind_logical_steps(
+pub(crate) fn bind_logical_steps(
     alloc: Global,
     scope: &StructFields,
     kinds: &[Kind],

@@ -6,4 +6,4 @@ use Rattle.vortex_expressions.proofs.answers.bind_answers.Given as goal
 
 abbrev pub invariant-loop-answer : goal.invariant-loop-answer
 invariant-loop-answer l =
-    SoFar (struct_fields l.scope) l.list l.answer-index (map answer_in l.answers.items)
+    SoFar (struct_fields l.scope) l.kinds l.list l.answer-index (map answer_in l.answers.items)

@@ -16,7 +16,7 @@ returns-in-Ok-clause-found c =
     let read = subst (λ w. ReadsAnswers w b.0) c.as_bytes.ensures.value b.1 in
     let list : map syntax.answer_in c.deref.result.now ≡ map told b.0 =
     ap (map syntax.answer_in) c.deref.ensures.value ∙ b.2 in
-    found (struct_fields c.args.scope.now) {A = Vec held.Answer Global} (λ v. map answer_in v.items)
+    found (struct_fields c.args.scope.now) c.args.kinds.now {A = Vec held.Answer Global} (λ v. map answer_in v.items)
     c.args.text.now b.0 (map syntax.answer_in c.deref.result.now) read list c.bind_answers.result
     c.bind_answers.ensures
 
@@ -26,7 +26,7 @@ returns-in-Ok-clause-only c =
     let read = subst (λ w. ReadsAnswers w b.0) c.as_bytes.ensures.value b.1 in
     let list : map syntax.answer_in c.deref.result.now ≡ map told b.0 =
     ap (map syntax.answer_in) c.deref.ensures.value ∙ b.2 in
-    only (struct_fields c.args.scope.now) {A = Vec held.Answer Global} (λ v. map answer_in v.items)
+    only (struct_fields c.args.scope.now) c.args.kinds.now {A = Vec held.Answer Global} (λ v. map answer_in v.items)
     c.args.text.now b.0 (map syntax.answer_in c.deref.result.now) read list c.bind_answers.result
     c.bind_answers.ensures
 
@@ -36,7 +36,7 @@ returns-in-Ok-clause-refused c =
     let read = subst (λ w. ReadsAnswers w b.0) c.as_bytes.ensures.value b.1 in
     let list : map syntax.answer_in c.deref.result.now ≡ map told b.0 =
     ap (map syntax.answer_in) c.deref.ensures.value ∙ b.2 in
-    refused (struct_fields c.args.scope.now) {A = Vec held.Answer Global}
+    refused (struct_fields c.args.scope.now) c.args.kinds.now {A = Vec held.Answer Global}
     (λ v. map answer_in v.items)
     c.args.text.now b.0 (map syntax.answer_in c.deref.result.now) read list c.bind_answers.result
     c.bind_answers.ensures
@@ -59,14 +59,14 @@ returns-in-Ok-clause-told c =
     let read = subst (λ w. ReadsAnswers w b.0) c.as_bytes.ensures.value b.1 in
     let list : map syntax.answer_in c.deref.result.now ≡ map told b.0 =
     ap (map syntax.answer_in) c.deref.ensures.value ∙ b.2 in
-    told_why (struct_fields c.args.scope.now) {A = Vec held.Answer Global}
+    told_why (struct_fields c.args.scope.now) c.args.kinds.now {A = Vec held.Answer Global}
     (λ v. map answer_in v.items)
     c.args.text.now b.0 (map syntax.answer_in c.deref.result.now) read list c.bind_answers.result
     c.bind_answers.ensures
 
 pub returns-in-Err-clause-told : goal.returns-in-Err-clause-told
 returns-in-Err-clause-told c =
-    unread_why ListStopsAt (IsRefusedAll (struct_fields c.args.scope.now) c.args.text.now)
+    unread_why ListStopsAt (IsRefusedAll (struct_fields c.args.scope.now) c.args.kinds.now c.args.text.now)
     c.args.text.now c.in-Err.error c.unread.result
     (subst (λ w. RefusesBy ListStopsAt w c.in-Err.error) c.as_bytes.ensures.value
     c.in-Err.ensures.refused) c.unread.ensures
