@@ -115,29 +115,29 @@ module _ (scope : Fields) (kinds : List Kind) (text : List ℕ) (ts : List Told)
         (subst (λ o. ToldBy o e) (left_is parsed.tree parsed.read) h))
 
 module _ (scope : Fields) (kinds : List Kind) (text : List ℕ) (ts : List Told) {A : Type 0}
-  (view : A → List Answer) where
-    pub found : (f : Form) → IsParsed f text ts → (r : Result A TextError)
-        → Finds view r (answers_left scope kinds ts) → IfOk r (λ v. Means f scope kinds text (view v))
-    found form.Answers p r h = listed.found scope kinds view text p.list ts p.read p.is r h
-    found form.Condition p r h = found_one scope kinds text ts p view r h
+    (view : A → List Answer) where
+  pub found : (f : Form) → IsParsed f text ts → (r : Result A TextError)
+      → Finds view r (answers_left scope kinds ts) → IfOk r (λ v. Means f scope kinds text (view v))
+  found form.Answers p r h = listed.found scope kinds view text p.list ts p.read p.is r h
+  found form.Condition p r h = found_one scope kinds text ts p view r h
 
-    pub only : (f : Form) → IsParsed f text ts → (r : Result A TextError)
-        → Finds view r (answers_left scope kinds ts) → (list : List Answer) → Means f scope kinds text list
-        → ReadUnlessMemory r (λ v. view v ≡ list)
-    only form.Answers p r h = listed.only scope kinds view text p.list ts p.read p.is r h
-    only form.Condition p r h = only_one scope kinds text ts p view r h
+  pub only : (f : Form) → IsParsed f text ts → (r : Result A TextError)
+      → Finds view r (answers_left scope kinds ts) → (list : List Answer) → Means f scope kinds text list
+      → ReadUnlessMemory r (λ v. view v ≡ list)
+  only form.Answers p r h = listed.only scope kinds view text p.list ts p.read p.is r h
+  only form.Condition p r h = only_one scope kinds text ts p view r h
 
-    pub refused : (f : Form) → IsParsed f text ts → (r : Result A TextError)
-        → Finds view r (answers_left scope kinds ts) → (w : Refusal) → IsRefusedOver f scope kinds text w
-        → RefusesAs w r
-    refused form.Answers p r h = listed.refused scope kinds view text p.list ts p.read p.is r h
-    refused form.Condition p r h = refused_one scope kinds text ts p view r h
+  pub refused : (f : Form) → IsParsed f text ts → (r : Result A TextError)
+      → Finds view r (answers_left scope kinds ts) → (w : Refusal) → IsRefusedOver f scope kinds text w
+      → RefusesAs w r
+  refused form.Answers p r h = listed.refused scope kinds view text p.list ts p.read p.is r h
+  refused form.Condition p r h = refused_one scope kinds text ts p view r h
 
-    pub told_why : (f : Form) → IsParsed f text ts → (r : Result A TextError)
-        → Finds view r (answers_left scope kinds ts)
-        → IfErr r (TellsWhy (StopsAt f) (IsRefusedOver f scope kinds text) text)
-    told_why form.Answers p r h = listed.told_why scope kinds view text p.list ts p.read p.is r h
-    told_why form.Condition p r h = why_one scope kinds text ts p view r h
+  pub told_why : (f : Form) → IsParsed f text ts → (r : Result A TextError)
+      → Finds view r (answers_left scope kinds ts)
+      → IfErr r (TellsWhy (StopsAt f) (IsRefusedOver f scope kinds text) text)
+  told_why form.Answers p r h = listed.told_why scope kinds view text p.list ts p.read p.is r h
+  told_why form.Condition p r h = why_one scope kinds text ts p view r h
 
 -- the answers that are left, under their names; or memory ran out
 module _ (scope : Fields) (kinds : List Kind) (text : List ℕ) (ts : List Told) (f : Form)
