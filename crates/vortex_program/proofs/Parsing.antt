@@ -57,13 +57,15 @@ told_of missing e h = h
 
 module _ (scope : Fields) (kinds : List Kind) (text : List ℕ) (ts : List Told)
     (parsed : ReadsOne text ts) where
-  left_is : (u : Syntax) → Reads text u → answers_left scope kinds ts ≡ alone (logical_of scope kinds u)
+  left_is : (u : Syntax) → Reads text u
+      → answers_left scope kinds ts ≡ alone (logical_of scope kinds u)
   left_is u s =
       ap (answers_left scope kinds) parsed.is
       ∙ ap (λ (ss : List Step).
       with_first (and_then (logical_left scope kinds ss) (with_name None)) (answers []))
       (one_tree text parsed.tree u parsed.read s)
-      ∙ ap (λ o. with_first (and_then o (with_name None)) (answers [])) (left-is (column_in scope kinds) ended u)
+      ∙ ap (λ o. with_first (and_then o (with_name None)) (answers []))
+      (left-is (column_in scope kinds) ended u)
       ∙ one_left (logical_of scope kinds u)
 
   meant : (o : Outcome LogicalTree) (list : List Answer) → logical_of scope kinds parsed.tree ≡ o
@@ -82,7 +84,8 @@ module _ (scope : Fields) (kinds : List Kind) (text : List ℕ) (ts : List Told)
     found_one : (r : Result A TextError) → Finds view r (answers_left scope kinds ts)
         → IfOk r (λ v. MeansOne scope kinds text (view v))
     found_one (Ok v) h =
-        meant (logical_of scope kinds parsed.tree) (view v) refl (sym (left_is parsed.tree parsed.read) ∙ h)
+        meant (logical_of scope kinds parsed.tree) (view v) refl
+        (sym (left_is parsed.tree parsed.read) ∙ h)
     found_one (Err e) h = tt
 
     only_one : (r : Result A TextError) → Finds view r (answers_left scope kinds ts)
@@ -108,7 +111,8 @@ module _ (scope : Fields) (kinds : List Kind) (text : List ℕ) (ts : List Told)
         → IfErr r (TellsWhy TreeStopsAt (IsRefusedLogical scope kinds text) text)
     why_one (Ok v) h = tt
     why_one (Err e) h =
-        why TreeStopsAt (IsRefusedLogical scope kinds text) text _ (logical_of scope kinds parsed.tree) e
+        why TreeStopsAt (IsRefusedLogical scope kinds text) text _
+        (logical_of scope kinds parsed.tree) e
         (sure_logical scope kinds parsed.tree parsed.read.spelled.levels)
         (λ r k. record { syntax = parsed.tree; read = parsed.read; refused = k })
         (told_of (logical_of scope kinds parsed.tree) e
@@ -122,14 +126,15 @@ module _ (scope : Fields) (kinds : List Kind) (text : List ℕ) (ts : List Told)
   found form.Condition p r h = found_one scope kinds text ts p view r h
 
   pub only : (f : Form) → IsParsed f text ts → (r : Result A TextError)
-      → Finds view r (answers_left scope kinds ts) → (list : List Answer) → Means f scope kinds text list
+      → Finds view r (answers_left scope kinds ts) → (list : List Answer)
+      → Means f scope kinds text list
       → ReadUnlessMemory r (λ v. view v ≡ list)
   only form.Answers p r h = listed.only scope kinds view text p.list ts p.read p.is r h
   only form.Condition p r h = only_one scope kinds text ts p view r h
 
   pub refused : (f : Form) → IsParsed f text ts → (r : Result A TextError)
-      → Finds view r (answers_left scope kinds ts) → (w : Refusal) → IsRefusedOver f scope kinds text w
-      → RefusesAs w r
+      → Finds view r (answers_left scope kinds ts) → (w : Refusal)
+      → IsRefusedOver f scope kinds text w → RefusesAs w r
   refused form.Answers p r h = listed.refused scope kinds view text p.list ts p.read p.is r h
   refused form.Condition p r h = refused_one scope kinds text ts p view r h
 
@@ -163,7 +168,8 @@ module _ (scope : Fields) (kinds : List Kind) (text : List ℕ) (ts : List Told)
       → ReadUnlessMemory r (λ v. trees_of v.items ≡ map (λ a. a.tree) other)
   named_only (Ok v) h other s =
       named_trees scope list v.items h
-      ∙ ap (map (λ (a : Answer). a.tree)) (only scope kinds text ts same f parsed (Ok list) left other s)
+      ∙ ap (map (λ (a : Answer). a.tree))
+      (only scope kinds text ts same f parsed (Ok list) left other s)
   named_only (Err e) h other s = h
 
   pub named_refused : (r : Result (Vec bound.Answer Global) TextError) (w : Refusal)

@@ -42,8 +42,8 @@ fn name_of(
     }
 }
 
-/// An answer with its kind and its name: the one after its `as`, else that of the field which it is,
-/// else its text. E9 where memory is refused.
+/// An answer with its kind and its name: the one after its `as`, else that of the field which it
+/// is, else its text. E9 where memory is refused.
 fn named(
     alloc: Global,
     scope: &StructFields,

@@ -110,10 +110,10 @@ fn name_all(
 
 impl Parsed<'_> {
     /// The answers over the columns of a scope whose values are of these kinds, by place; further
-    /// columns are plain. Each has the kind of its values, and its name: the one after its `as`, else
-    /// that of the column which it is, else its text. Together with parsing it finds the answers
-    /// that the text means over the scope, and fails as the text is refused over it: that is said of
-    /// what was parsed, which each clause asks first.
+    /// columns are plain. Each has the kind of its values, and its name: the one after its `as`,
+    /// else that of the column which it is, else its text. Together with parsing it finds the
+    /// answers that the text means over the scope, and fails as the text is refused over it: that is
+    /// said of what was parsed, which each clause asks first.
     pub fn bind(
         &self,
         alloc: Global,

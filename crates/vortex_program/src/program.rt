@@ -75,9 +75,9 @@ fn text_at(alloc: Global, answers: &[Answer], answer: usize) -> VortexResult<Opt
 }
 
 impl Program {
-    /// Reads a list of answers over the fields of a scope whose values are of these kinds, by place;
-    /// further fields are plain: `price * stock as worth, price > 100`. Ok exactly where the text is
-    /// such a list, where no allocation fails.
+    /// Reads a list of answers over the fields of a scope whose values are of these kinds, by
+    /// place; further fields are plain: `price * stock as worth, price > 100`. Ok exactly where the
+    /// text is such a list, where no allocation fails.
     pub fn read(
         alloc: Global,
         scope: StructFields,

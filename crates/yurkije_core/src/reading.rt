@@ -24,9 +24,10 @@ pub enum ProgramError {
     Text(TextError),
 }
 
-/// Reads the answers of a text over the fields of a scope, whose values have no kinds: `price * stock as worth, price > 100`.
-/// Ok exactly where the text is UTF-8 and a list of answers over the scope, where no allocation
-/// fails. Bytes that are not UTF-8 are refused as such, whatever memory there is.
+/// Reads the answers of a text over the fields of a scope, whose values have no kinds:
+/// `price * stock as worth, price > 100`. Ok exactly where the text is UTF-8 and a list of answers
+/// over the scope, where no allocation fails. Bytes that are not UTF-8 are refused as such, whatever
+/// memory there is.
 pub fn read_program(
     alloc: Global,
     scope: StructFields,

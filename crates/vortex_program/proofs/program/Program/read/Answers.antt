@@ -38,7 +38,8 @@ returns-in-Err-bind-clause-why c =
     let kinds = c.args.kinds.items in
     let parsed = c.in-Ok.parsed in
     let e = c.in-Err-bind.error in
-    subst (λ (w : List ℕ). TellsWhy ListStopsAt (IsRefusedAll scope kinds w) w e) c.in-Ok.ensures.text
+    subst (λ (w : List ℕ). TellsWhy ListStopsAt (IsRefusedAll scope kinds w) w e)
+    c.in-Ok.ensures.text
     (subst
     (λ (f : Form).
     TellsWhy (StopsAt f) (IsRefusedOver f scope kinds parsed.text.now) parsed.text.now e)
