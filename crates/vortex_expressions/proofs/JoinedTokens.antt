@@ -17,7 +17,7 @@ use Rattle.vortex_syntax.specs.Levels.{level}
 use Rattle.vortex_expressions.specs.Writing.{at_level}
 use Rattle.vortex_expressions.specs.Writing.{both, all_three, nth, syntax_of}
 use Rattle.vortex_expressions.specs.Writing.{syntaxes_of}
-use Rattle.vortex_expressions.specs.WritingSteps.{tokens_behind, Part, token, tree}
+use Rattle.vortex_expressions.specs.WritingSteps.{tokens_behind, Part, token}
 use Rattle.vortex_expressions.specs.WritingSteps.{joined_tokens, part_tokens, all_tokens}
 
 abbrev Trees : Type 0

@@ -7,6 +7,7 @@ pub mod Settling
 pub mod Quoting
 pub mod Walking
 pub mod Options
+mod KindPlaces
 pub mod MetTypes
 pub mod FunctionNames
 pub mod NamedSyntax

@@ -15,7 +15,7 @@ use Rattle.vortex_syntax.specs.Syntax.{Syntax}
 use Rattle.vortex_syntax.specs.Spelling.{spelling}
 use Rattle.vortex_expressions.specs.Writing.{syntax_of}
 use Rattle.vortex_expressions.specs.Writing.{syntaxes_of, all_present, named_syntax}
-use Rattle.vortex_expressions.specs.WritingSteps.{nests_behind, tokens_behind, Part, token, tree}
+use Rattle.vortex_expressions.specs.WritingSteps.{nests_behind, tokens_behind, Part, token}
 use Rattle.vortex_expressions.specs.WritingSteps.{joined_tokens, all_tokens}
 use Rattle.vortex_expressions.specs.WritingSteps.{more_parts}
 use Rattle.vortex_expressions.specs.WritingSteps.{argument_parts}

@@ -1,5 +1,5 @@
 -- Items without kinds are joined as trees are.
-use Rattle.std.proofs.Common.{◌≡◌, Bool, false, refl, [], ◌∷◌}
+use Rattle.std.proofs.Common.{◌≡◌, false, refl, [], ◌∷◌}
 use Rattle.vortex_syntax.specs.declared.step.WrittenOperator as written
 use Rattle.vortex_expressions.specs.Items.{Item}
 use Rattle.vortex_expressions.specs.Calls.{is_kinded, joined_item, plain_joined, between_three}

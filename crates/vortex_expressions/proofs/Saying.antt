@@ -15,14 +15,14 @@ use Rattle.vortex_expressions.specs.declared.refusal.Refusal.{Refusal}
 use Rattle.vortex_expressions.specs.Outcomes.{Outcome, answers, refuses, and_then}
 use Rattle.vortex_expressions.specs.Items.{Item, Tree, settled}
 use Rattle.vortex_expressions.specs.Calls.{column_of, column_in}
-use Rattle.vortex_expressions.specs.Binding.{item_by, tree_of, Expresses, IsRefused, LogicalTree}
-use Rattle.vortex_expressions.specs.Binding.{logical_in, logical_of, ended, ExpressesLogical}
+use Rattle.vortex_expressions.specs.Binding.{item_by, Expresses, IsRefused, LogicalTree}
+use Rattle.vortex_expressions.specs.Binding.{logical_in, ended, ExpressesLogical}
 use Rattle.vortex_expressions.specs.Binding.{IsRefusedLogical}
 use Rattle.vortex_expressions.specs.Stacks.{run, left_as}
 use Rattle.vortex_expressions.specs.Reading.{Bound, BoundLogical, Finds, ToldBy, ReadUnlessMemory}
 use Rattle.vortex_expressions.specs.Reading.{RefusesAs, TellsWhy}
 use Rattle.vortex_expressions.proofs.Whole.{left-is}
-use Rattle.vortex_expressions.proofs.SureCalls.{Sure, IsTyped, sure_column}
+use Rattle.vortex_expressions.proofs.SureCalls.{Sure, IsTyped}
 use Rattle.vortex_expressions.proofs.Sure.{sure_tree, sure_logical}
 use Rattle.vortex_expressions.proofs.Why.{why}
 

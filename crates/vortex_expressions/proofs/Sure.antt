@@ -9,7 +9,6 @@ use Rattle.vortex_types.specs.LogicalTypes.{is_nullable, text_type}
 use Rattle.vortex_interface.specs.Meaning.{fits}
 use Rattle.vortex_interface.specs.Shipped.{Binary, Not, Cast, Between, Like}
 use Rattle.vortex_interface.specs.Functions.{ours, function_arity}
-use Rattle.vortex_interface.specs.Trees.{call, trees_of}
 use Rattle.vortex_interface.specs.Eval.{tree_type}
 use Rattle.vortex_cells.specs.Escapes.{escape_of}
 use Rattle.vortex_syntax.specs.declared.step.WrittenOperator as written
@@ -54,14 +53,15 @@ use Rattle.vortex_expressions.specs.Casts.{tried_if}
 use Rattle.vortex_syntax.specs.declared.step.BetweenKind.{BetweenKind}
 use Rattle.vortex_types.specs.TypeEquality.{alike_types}
 use Rattle.vortex_expressions.specs.Binding.{with_item, item_by, item_of, items_by, branches_by}
-use Rattle.vortex_expressions.specs.Binding.{tree_of, logical_of, ended}
+use Rattle.vortex_expressions.specs.Binding.{tree_of, logical_of, ended, LogicalTree}
+use Rattle.vortex_logical.specs.declared.kind.Kind.TheVariants.{Plain}
 use Rattle.vortex_syntax.specs.Postfix.{has_operand, test_of}
 use Rattle.vortex_expressions.specs.Literals as literals
 use Rattle.vortex_expressions.specs.Answers.{name_of, written_name, answer_of, answers_of}
 use Rattle.vortex_expressions.proofs.SureCalls.{Sure, sure_then, sure_or, sure_if, IsTyped, IsItem}
 use Rattle.vortex_expressions.proofs.SureCalls.{AllItems, AllTyped, sure_constant, sure_settled}
 use Rattle.vortex_expressions.proofs.SureCalls.{sure_all, sure_less, sure_named_call}
-use Rattle.vortex_expressions.proofs.SureCalls.{sure_type, sure_null, sure_called, sure_item}
+use Rattle.vortex_expressions.proofs.SureCalls.{sure_null, sure_called, sure_item}
 use Rattle.vortex_expressions.proofs.SureCalls.{sure_text, sure_quoted, sure_column, sure_named}
 use Rattle.vortex_expressions.proofs.SureKinds.{sure_kinded_joined, sure_kinded_between, sure_stored}
 
@@ -461,9 +461,12 @@ sure_tree scope t f =
 sure_ended : (i : Item) → IsItem i → Sure (λ x. Unit {0}) (ended i)
 sure_ended (kinded k t) h = tt
 sure_ended (bound t) h =
-    sure_then IsTyped _ (settled None (bound t)) _ (sure_settled None (bound t) h) (λ u j. tt)
+    sure_then {B = LogicalTree} IsTyped (λ x. Unit {0}) (settled None (bound t))
+    (λ u. answers (record { tree = u; kind = Plain })) (sure_settled None (bound t) h) (λ u j. tt)
 sure_ended (literal l) h =
-    sure_then IsTyped _ (settled None (literal l)) _ (sure_settled None (literal l) h) (λ u j. tt)
+    sure_then {B = LogicalTree} IsTyped (λ x. Unit {0}) (settled None (literal l))
+    (λ u. answers (record { tree = u; kind = Plain })) (sure_settled None (literal l) h)
+    (λ u j. tt)
 
 pub sure_logical : (scope : Fields) (kinds : List Kind) (t : Syntax) → Fits t
     → Sure (λ x. Unit {0}) (logical_of scope kinds t)

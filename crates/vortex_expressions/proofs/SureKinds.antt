@@ -7,7 +7,10 @@ use Rattle.vortex_errors.specs.declared.error.NumericOperator.{NumericOperator}
 use Rattle.vortex_operators.specs.declared.operators.CompareOperator.{CompareOperator}
 use Rattle.vortex_interface.specs.Meaning.{fits}
 use Rattle.vortex_interface.specs.Functions.{custom, function_arity}
+use Rattle.vortex_interface.specs.Trees.{call, trees_of}
 use Rattle.vortex_interface.specs.Eval.{tree_type}
+use Rattle.vortex_lowering.specs.Rows.{lowered}
+use Rattle.vortex_expressions.specs.Outcomes.{answers}
 use Rattle.vortex_logical.specs.declared.kind.Kind.{Kind}
 use Rattle.vortex_logical.specs.Kinds.{stored_ptype}
 use Rattle.vortex_logical.specs.declared.operand.Operand.{Operand}
@@ -20,10 +23,13 @@ use Rattle.vortex_standard.specs.declared.standard.Standard.{Standard}
 use Rattle.vortex_logical_calls.specs.Outcomes as calls
 use Rattle.vortex_logical_calls.specs.Calls.{Lowered, typed, call_two}
 use Rattle.vortex_logical_calls.specs.Conversions.{conversion_beside, conversion_by_two, converted, as_float, meet_in_float}
-use Rattle.vortex_logical_calls.specs.Comparison.{if_met, compare_met, compared}
+use Rattle.vortex_logical_calls.specs.Comparison.{if_met, compared}
 use Rattle.vortex_logical_calls.specs.Bounds as bounds
-use Rattle.vortex_logical_calls.specs.Computation.{of_operand, of_result, compute_floats}
-use Rattle.vortex_logical_calls.specs.Computation.{compute_met, compute_exact, computed}
+use Rattle.vortex_logical_calls.specs.Computation.{of_operand, of_result}
+use Rattle.vortex_logical_calls.specs.Computation.{float_operator}
+use Rattle.vortex_logical.specs.declared.kind.Kind.TheVariants.{F64}
+use Rattle.vortex_standard.specs.declared.standard.Standard.TheVariants as standard
+use Rattle.vortex_logical_calls.specs.Computation.{computed}
 use Rattle.vortex_logical_calls.specs.Literals.{kind_beside, literal_of}
 use Rattle.vortex_syntax.specs.declared.step.WrittenOperator as written
 use Rattle.vortex_expressions.specs.Literals.{Literal, number, text, truth, null}
@@ -83,7 +89,7 @@ typed_made t = by (is_some (tree_type meaning t)) refl
 two_made : (f : Standard) (t u : Tree) → IfMade IsTyped (call_two f t u)
 two_made f t u =
     if_chosen IsTyped (fits (function_arity meaning (custom f (record {}))) 2) _ _
-    (typed_made _) tt
+    (typed_made (call (custom f (record {})) (trees_of (t ∷ u ∷ [])))) tt
 
 met_made : (a b : Operand) (o : calls.Outcome Tree) → IfMade IsTyped o
     → IfMade IsTyped (if_met a b o)
@@ -121,7 +127,9 @@ computed_made : (o : NumericOperator) (x y : Lowered) → IfMade IsValue (comput
 computed_made o x y =
     if_chosen IsValue (meet_in_float x.operand y.operand) _ _
     (if_then IsValue (as_float x) _
-    (λ a. if_then IsValue (as_float y) _ (λ b. operand_made _ _ (two_made _ a.tree b.tree))))
+    (λ a. if_then IsValue (as_float y) _
+    (λ b. operand_made (Of F64) (call_two (standard.FloatOperator (float_operator o)) a.tree b.tree)
+    (two_made (standard.FloatOperator (float_operator o)) a.tree b.tree))))
     (if_then IsValue (converted (conversion_beside x.operand y.operand) x) _
     (λ a. if_then IsValue (converted (conversion_beside y.operand x.operand) y) _
     (λ b. result_made (are_computed o a.operand b.operand) a b
@@ -133,7 +141,8 @@ Any a = Unit {0}
 
 sure_whole : (p : PType) (l : Literal) → Sure Any (whole_literal p l)
 sure_whole p l =
-    sure_then IsTyped Any (constant_at l (integer_type p false)) _ (sure_constant l _) (λ t h. tt)
+    sure_then IsTyped Any (constant_at l (integer_type p false)) _
+    (sure_constant l (integer_type p false)) (λ t h. tt)
 
 sure_text_literal : (k : Kind) (bs : List ℕ) → Sure Any (text_literal k bs)
 sure_text_literal k bs = sure_told Any (literal_of k bs) (any_made (literal_of k bs))
@@ -145,8 +154,8 @@ sure_number k (Some j) w = sure_text_literal j w
 sure_null_of : (k : Kind) (o : Option PType) → Sure Any (null_of k o)
 sure_null_of k None = tt
 sure_null_of k (Some p) =
-    sure_then IsTyped Any (constant_at null (integer_type p true)) _ (sure_constant null _)
-    (λ t h. tt)
+    sure_then {B = Lowered} IsTyped Any (constant_at null (integer_type p true))
+    (λ t. answers (lowered t (Of k))) (sure_constant null (integer_type p true)) (λ t h. tt)
 
 sure_literal_operand : (k : Kind) (l : Literal) → Sure Any (literal_operand k l)
 sure_literal_operand k (number w) = sure_number k (kind_beside (Of k) w) w

@@ -17,7 +17,7 @@ use Rattle.vortex_syntax.specs.Syntax.{of_operand, branch, plus, bit_not, null_t
 use Rattle.vortex_syntax.specs.Syntax.{Null, True, False, Unknown}
 use Rattle.vortex_syntax.specs.Levels.{is_operand, Fits, AllFit, BranchesFit}
 use Rattle.vortex_syntax.specs.Spelling.{spelling, all_spelled, branches_spelled, operator_sign}
-use Rattle.vortex_syntax.specs.Spelling.{type_token, with_not, in_tokens, null_test_sign}
+use Rattle.vortex_syntax.specs.Spelling.{type_token, in_tokens, null_test_sign}
 use Rattle.vortex_syntax.specs.Spelling.{function_tokens, between_tokens, cast_sign}
 use Rattle.vortex_syntax.specs.Spelling.{test_tokens, distinct_tokens, like_sign, escape_tokens}
 use Rattle.vortex_syntax.specs.Nesting.{nests, nests_from}

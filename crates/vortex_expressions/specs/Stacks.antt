@@ -1,5 +1,5 @@
 -- Steps in postfix order, each over what the steps before it left: the last item first.
-use Rattle.std.specs.Prelude.{◌≡◌, Result, MatchResult, ℕ, List, [], ◌∷◌, true, false, None, Some, map, reverse}
+use Rattle.std.specs.Prelude.{◌≡◌, Result, MatchResult, ℕ, List, [], ◌∷◌, None, Some, map, reverse}
 use Rattle.std.specs.Prelude.{length, take, drop, nat_le, suc, ◌+◌, ◌*◌, Bool}
 use Rattle.std.specs.Prelude.{if◌then◌else◌}
 use Rattle.vortex_types.specs.LogicalTypes.{Fields}

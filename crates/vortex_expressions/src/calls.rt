@@ -1,5 +1,5 @@
 //! The result of each form of syntax for its parts.
-ghost use Rattle.std.specs.Prelude.{◌≡◌, map, option_map};
+ghost use Rattle.std.specs.Prelude.{◌≡◌, map, option_map, slice_get, MatchOption, Some, None};
 ghost use Rattle.vortex_errors.specs.Answers.{AnswersUnlessMemory};
 ghost use Rattle.vortex_types.specs.TypeOf.{type_of, struct_fields};
 ghost use Rattle.vortex_functions.specs.FunctionOf.{function_of};
@@ -26,11 +26,19 @@ use vortex_operators::Operator;
 use vortex_standard::{BitOperator, Shift, Standard, TruthTest};
 use vortex_syntax::{LikeKind, Sign, Test, Token, WrittenOperator as Written};
 
+/// The kind at a place in a list.
+fn listed_kind(kinds: &[Kind], place: usize) -> Option<&Kind>
+    ensures { MatchOption result (slice_get kinds.now place ≡ None)
+        (λ k. slice_get kinds.now place ≡ Some k.now) }
+{
+    kinds.get(place)
+}
+
 /// The kind of the column at a place: those behind the list are plain.
 fn kind_at(kinds: &[Kind], place: usize) -> Kind
     ensures { result ≡ specs.kind_at kinds.now place }
 {
-    match kinds.get(place) {
+    match listed_kind(kinds, place) {
         Some(kind) => *kind,
         None => Kind::Plain,
     }

@@ -94,8 +94,8 @@ fn plain_operand(dtype: &DType) -> Operand
 }
 
 /// The type of a number without a point next to a value of a kind: days next to a date.
-fn whole_ptype(kind: Kind) -> PType
-    ensures { result ≡ specs.whole_ptype kind }
+fn whole_ptype(kind: &Kind) -> PType
+    ensures { result ≡ specs.whole_ptype kind.now }
 {
     match kind {
         Kind::Date => PType::I32,
@@ -135,11 +135,12 @@ fn number_literal(
     ensures { Gives (λ x. lowered x.tree x.operand) result
         (specs.literal_operand kind (literals.number number.now)) }
 {
+    let ptype = whole_ptype(&kind);
     let operand = Operand::Of(kind);
     let beside = kind_beside(&operand, number);
     match beside {
         Some(found) => text_literal(alloc, found, number),
-        None => whole_literal(alloc, whole_ptype(kind), literal),
+        None => whole_literal(alloc, ptype, literal),
     }
 }
 
@@ -176,12 +177,12 @@ fn literal_operand(
 }
 
 /// An item next to a value of a kind.
-fn item_operand(alloc: Global, kind: Kind, item: Item) -> Result<Lowered<Standard>, BindStop>
+fn item_operand(alloc: Global, kind: &Kind, item: Item) -> Result<Lowered<Standard>, BindStop>
     ensures { Gives (λ x. lowered x.tree x.operand) result
-        (specs.item_operand kind (item_in item)) }
+        (specs.item_operand kind.now (item_in item)) }
 {
     match item {
-        Item::Literal(literal) => literal_operand(alloc, kind, &literal),
+        Item::Literal(literal) => literal_operand(alloc, *kind, &literal),
         Item::Bound(tree) => {
             let operand = plain_operand(tree.dtype());
             Ok(Lowered { tree, operand })
@@ -254,6 +255,22 @@ fn operated(
     }
 }
 
+/// An operator on items next to a value of a kind.
+fn joined_beside(
+    alloc: Global,
+    kind: Kind,
+    written: Written,
+    left: Item,
+    right: Item,
+) -> Result<Item, BindStop>
+    ensures { Gives item_in result (specs.joined_beside kind (specs.kinded_operator written)
+        (item_in left) (item_in right)) }
+{
+    let first = item_operand(alloc, &kind, left)?;
+    let second = item_operand(alloc, &kind, right)?;
+    operated(alloc, kind, written, first, second)
+}
+
 /// An operator, one of whose operands has a kind.
 pub(crate) fn kinded_joined(
     alloc: Global,
@@ -264,10 +281,9 @@ pub(crate) fn kinded_joined(
     ensures { Gives item_in result
         (specs.kinded_joined written (item_in left) (item_in right)) }
 {
-    let kind = kind_or(&left, kind_or(&right, Kind::Plain));
-    let left = item_operand(alloc, kind, left)?;
-    let right = item_operand(alloc, kind, right)?;
-    operated(alloc, kind, written, left, right)
+    let other = kind_or(&right, Kind::Plain);
+    let kind = kind_or(&left, other);
+    joined_beside(alloc, kind, written, left, right)
 }
 
 /// Both bounds are inclusive.
@@ -290,9 +306,11 @@ pub(crate) fn kinded_between(
     ensures { Gives (λ t. t) result
         (specs.kinded_between (item_in item) (item_in lower) (item_in upper)) }
 {
-    let kind = kind_or(&item, kind_or(&lower, kind_or(&upper, Kind::Plain)));
-    let item = item_operand(alloc, kind, item)?;
-    let lower = item_operand(alloc, kind, lower)?;
-    let upper = item_operand(alloc, kind, upper)?;
+    let last = kind_or(&upper, Kind::Plain);
+    let other = kind_or(&lower, last);
+    let kind = kind_or(&item, other);
+    let item = item_operand(alloc, &kind, item)?;
+    let lower = item_operand(alloc, &kind, lower)?;
+    let upper = item_operand(alloc, &kind, upper)?;
     Ok(calls::between(alloc, within_bounds(), item, lower, upper)?)
 }

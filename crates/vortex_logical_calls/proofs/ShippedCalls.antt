@@ -1,13 +1,10 @@
 -- The outcomes of the calls of shipped functions, from their contracts.
-use Rattle.std.proofs.Common.{◌≡◌, Bool, true, false, cond, Option, Some, None, Result, Ok, Err, refl}
+use Rattle.std.proofs.Common.{◌≡◌, Bool, true, false, cond, Option, Some, None, Result, Ok, Err}
 use Rattle.std.proofs.Common.{ap, sym, ◌∙◌, inl, inr}
 use Rattle.std.specs.Prelude.{is_some, IsSome, MatchResult}
 use Rattle.std.proofs.lemmas.Bool.{false≢true}
 use Rattle.vortex_errors.specs.declared.error.NumericOperator.{NumericOperator}
-use Rattle.vortex_errors.specs.declared.error.VortexError.{VortexError}
-use Rattle.vortex_errors.specs.Answers.{UnlessMemory}
 use Rattle.vortex_errors.proofs.Answering.{UnlessMemory-weaker}
-use Rattle.vortex_types.specs.LogicalTypes.{LogicalType}
 use Rattle.vortex_operators.specs.declared.operators.CompareOperator.{CompareOperator}
 use Rattle.vortex_operators.specs.declared.between.BetweenOptions.{BetweenOptions}
 use Rattle.vortex_interface.specs.Eval.{tree_type}

@@ -1,4 +1,4 @@
-use Rattle.std.proofs.Common.{◌≡◌, ◌∙◌, sym, ap, subst, map, option_map, List, Option}
+use Rattle.std.proofs.Common.{◌∙◌, sym, ap, subst, map, option_map, List, Option}
 use Rattle.vortex_types.specs.TypeOf.{type_of}
 use Rattle.vortex_types.specs.LogicalTypes.{LogicalType}
 use Rattle.vortex_expressions.specs.Answering.{Gives}

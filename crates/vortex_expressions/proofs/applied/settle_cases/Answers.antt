@@ -1,4 +1,4 @@
-use Rattle.std.proofs.Common.{◌≡◌, ◌∙◌, ◌++◌, ◌∷◌, [], List, ap, option_map}
+use Rattle.std.proofs.Common.{◌∙◌, ◌++◌, ◌∷◌, [], List, ap, option_map}
 use Rattle.vortex_types.specs.TypeOf.{type_of}
 use Rattle.vortex_expressions.specs.Items.{Tree}
 use Rattle.vortex_expressions.proofs.Settling.{cases_step}

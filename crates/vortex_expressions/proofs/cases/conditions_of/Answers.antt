@@ -1,4 +1,4 @@
-use Rattle.std.proofs.Common.{◌≡◌, sym, subst, map, List}
+use Rattle.std.proofs.Common.{sym, subst, map, List}
 use Rattle.vortex_expressions.specs.Answering.{Gives}
 use Rattle.vortex_expressions.specs.Items.{Item, item_in}
 use Rattle.vortex_expressions.specs.Outcomes.{Outcome}

@@ -1,4 +1,4 @@
-use Rattle.std.proofs.Common.{◌≡◌, ◌∙◌, ◌++◌, ◌∷◌, [], List, ap}
+use Rattle.std.proofs.Common.{◌∙◌, ◌++◌, ◌∷◌, [], List, ap}
 use Rattle.vortex_expressions.specs.declared.item.Item as held
 use Rattle.vortex_expressions.proofs.Settling.{equal_step}
 use Rattle.vortex_expressions.proofs.cases.equal_cases.Goals as goal

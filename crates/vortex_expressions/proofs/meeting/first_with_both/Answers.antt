@@ -1,4 +1,4 @@
-use Rattle.std.proofs.Common.{◌≡◌, sym, ◌∙◌, arith}
+use Rattle.std.proofs.Common.{sym, ◌∙◌}
 use Rattle.vortex_types.specs.declared.dtype.PType.TheVariants.{I8}
 use Rattle.vortex_standard.proofs.Finds.{find_here, find_past, find_end}
 use Rattle.vortex_expressions.specs.Meeting.{has_both}
