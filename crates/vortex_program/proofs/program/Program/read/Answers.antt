@@ -1,6 +1,7 @@
 use Rattle.std.proofs.Common.{◌∙◌, ℕ, List, sym, subst, inr}
 use Rattle.vortex_types.specs.TypeOf.{struct_fields}
 use Rattle.vortex_syntax.specs.Refusals.{ListStopsAt}
+use Rattle.vortex_logical.specs.declared.kind.Kind.{Kind}
 use Rattle.vortex_expressions.specs.Answers.{ExpressesAll, IsRefusedAll}
 use Rattle.vortex_expressions.specs.Reading.{TellsWhy}
 use Rattle.vortex_program.specs.declared.form.Form.{Form}
@@ -20,8 +21,10 @@ returns-in-Err-bind-clause-only c = λ list s.
     let kinds = c.args.kinds.items in
     let parsed = c.in-Ok.parsed in
     c.in-Err-bind.ensures.only list c.in-Ok.ensures.read
+    (subst (λ (ks : List Kind). Means parsed.form scope ks parsed.text.now list)
+    (sym c.deref.ensures.value)
     (subst (λ (f : Form). Means f scope kinds parsed.text.now list) (sym c.in-Ok.ensures.form)
-    (subst (λ (w : List ℕ). ExpressesAll scope kinds w list) (sym c.in-Ok.ensures.text) s))
+    (subst (λ (w : List ℕ). ExpressesAll scope kinds w list) (sym c.in-Ok.ensures.text) s)))
 
 pub returns-in-Err-bind-clause-refused : goal.returns-in-Err-bind-clause-refused
 returns-in-Err-bind-clause-refused c = λ r s.
@@ -29,8 +32,10 @@ returns-in-Err-bind-clause-refused c = λ r s.
     let kinds = c.args.kinds.items in
     let parsed = c.in-Ok.parsed in
     c.in-Err-bind.ensures.refused r c.in-Ok.ensures.read
+    (subst (λ (ks : List Kind). IsRefusedOver parsed.form scope ks parsed.text.now r)
+    (sym c.deref.ensures.value)
     (subst (λ (f : Form). IsRefusedOver f scope kinds parsed.text.now r) (sym c.in-Ok.ensures.form)
-    (subst (λ (w : List ℕ). IsRefusedAll scope kinds w r) (sym c.in-Ok.ensures.text) s))
+    (subst (λ (w : List ℕ). IsRefusedAll scope kinds w r) (sym c.in-Ok.ensures.text) s)))
 
 pub returns-in-Err-bind-clause-why : goal.returns-in-Err-bind-clause-why
 returns-in-Err-bind-clause-why c =
@@ -43,17 +48,24 @@ returns-in-Err-bind-clause-why c =
     (subst
     (λ (f : Form).
     TellsWhy (StopsAt f) (IsRefusedOver f scope kinds parsed.text.now) parsed.text.now e)
-    c.in-Ok.ensures.form (c.in-Err-bind.ensures.why c.in-Ok.ensures.read))
+    c.in-Ok.ensures.form
+    (subst
+    (λ (ks : List Kind).
+    TellsWhy (StopsAt parsed.form) (IsRefusedOver parsed.form scope ks parsed.text.now)
+    parsed.text.now e)
+    c.deref.ensures.value (c.in-Err-bind.ensures.why c.in-Ok.ensures.read)))
 
 pub returns-in-Ok-of-clause-only : goal.returns-in-Ok-of-clause-only
 returns-in-Ok-of-clause-only c = λ list s.
     let scope = struct_fields c.args.scope in
     let kinds = c.args.kinds.items in
     let parsed = c.in-Ok.parsed in
-    (λ i. trees_of (c.in-Ok-of.ensures.2.0 i).items)
+    (λ i. trees_of (c.in-Ok-of.ensures.2 i).items)
     ∙ c.in-Ok-bind.ensures.only list c.in-Ok.ensures.read
+    (subst (λ (ks : List Kind). Means parsed.form scope ks parsed.text.now list)
+    (sym c.deref.ensures.value)
     (subst (λ (f : Form). Means f scope kinds parsed.text.now list) (sym c.in-Ok.ensures.form)
-    (subst (λ (w : List ℕ). ExpressesAll scope kinds w list) (sym c.in-Ok.ensures.text) s))
+    (subst (λ (w : List ℕ). ExpressesAll scope kinds w list) (sym c.in-Ok.ensures.text) s)))
 
 pub returns-in-Ok-of-clause-refused : goal.returns-in-Ok-of-clause-refused
 returns-in-Ok-of-clause-refused c = λ r s.
@@ -61,5 +73,7 @@ returns-in-Ok-of-clause-refused c = λ r s.
     let kinds = c.args.kinds.items in
     let parsed = c.in-Ok.parsed in
     c.in-Ok-bind.ensures.refused r c.in-Ok.ensures.read
+    (subst (λ (ks : List Kind). IsRefusedOver parsed.form scope ks parsed.text.now r)
+    (sym c.deref.ensures.value)
     (subst (λ (f : Form). IsRefusedOver f scope kinds parsed.text.now r) (sym c.in-Ok.ensures.form)
-    (subst (λ (w : List ℕ). IsRefusedAll scope kinds w r) (sym c.in-Ok.ensures.text) s))
+    (subst (λ (w : List ℕ). IsRefusedAll scope kinds w r) (sym c.in-Ok.ensures.text) s)))
