@@ -166,7 +166,7 @@ fn push_answer(
 /// The columns of a list of answers, each in a line, or why the text is no list.
 fn answers_text(alloc: Global, batch: &Batch, text: &str) -> VortexResult<String> {
     let mut out = String::new(alloc);
-    match read_answers(alloc, &batch.scope, text) {
+    match read_answers(alloc, &batch.scope, &[], text) {
         Ok(answers) => {
             for answer in answers.iter() {
                 push_answer(alloc, &mut out, answer, batch)?;

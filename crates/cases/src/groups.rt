@@ -147,7 +147,7 @@ pub(crate) fn groups_text(
     let fields = fields_of(alloc, batch)?;
     let counts = counts_of(batch)?;
     let mut out = String::new(alloc);
-    match read_answers(alloc, &batch.scope, text) {
+    match read_answers(alloc, &batch.scope, &[], text) {
         Ok(answers) => {
             for answer in answers.iter() {
                 if left {

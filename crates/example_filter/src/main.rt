@@ -62,7 +62,7 @@ fn run(rt: &(impl Print + AllocGlobal)) -> io::Result<u8> {
         println!(rt; "out of memory")?;
         return Ok(1);
     };
-    let filter = match Program::read(alloc, scope, FILTER) {
+    let filter = match Program::read(alloc, scope, Vec::new(alloc), FILTER) {
         Ok(filter) => filter,
         Err(error) => {
             println!(rt; "{error}")?;

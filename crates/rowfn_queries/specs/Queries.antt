@@ -1,5 +1,5 @@
 -- What is asked of rows: answers and a condition, over columns.
-use Rattle.std.specs.Prelude.{◌≡◌, ⊤, ℕ, List, Option, Some, None, IfSome, true, All}
+use Rattle.std.specs.Prelude.{◌≡◌, ⊤, ℕ, List, [], Option, Some, None, IfSome, true, All}
 use Rattle.std.specs.Borrow.{Bor}
 use Rattle.vortex_types.specs.LogicalTypes.{Fields, is_bool_type}
 use Rattle.vortex_types.specs.TypeOf.{struct_fields}
@@ -33,13 +33,13 @@ IsTruthFor form.Answers ts = ⊤
 IsTruthFor form.Condition ts = All IsTruth ts
 
 -- the question is what a text asks over the columns that it reads, by the names in it, each at its
--- place; what runs is what the rules make of what is written
+-- place, whose values have no kinds; what runs is what the rules make of what is written
 pub record IsAsked (f : Form) (read : List (List ℕ) → Fields) (placed : Fields → List (Option ℕ))
     (text : List ℕ) (q : Question) : Type 0 where
   pub names : List (List ℕ)
   pub named : AreNamesOf f text names
   pub columns : scope_of q ≡ read names
-  pub asked : AreAnswersOf f (scope_of q) text q.program.written.items
+  pub asked : AreAnswersOf f (scope_of q) [] text q.program.written.items
   pub truth : IsTruthFor f (written_trees q)
   pub places : q.places.items ≡ placed (scope_of q)
   pub optimized : AreOptimized q.program.written.items q.program.optimized.items

@@ -1,5 +1,5 @@
 -- Why words ask nothing of rows.
-use Rattle.std.specs.Prelude.{◌≡◌, ◌⊎◌, ℕ, List, true, false, ⊤, Option, Some, None, Contains}
+use Rattle.std.specs.Prelude.{◌≡◌, ◌⊎◌, ℕ, List, [], true, false, ⊤, Option, Some, None, Contains}
 use Rattle.std.specs.Borrow.{Bor}
 use Rattle.vortex_types.specs.LogicalTypes.{LogicalType, Fields, is_bool_type}
 use Rattle.vortex_types.specs.TypeOf.{type_of}
@@ -45,9 +45,9 @@ pub record RefusesTruth (f : Form) (ts : List Tree) (e : QueryError) : Type 0 wh
 -- why a text is refused over columns; or memory ran out
 abbrev pub RefusesOver : Form → Fields → List ℕ → QueryError → Type 0
 RefusesOver f columns text (error.Unread p e) =
-    (p ≡ place_of f) × TellsWhy (StopsAt f) (IsRefusedOver f columns text) text e
+    (p ≡ place_of f) × TellsWhy (StopsAt f) (IsRefusedOver f columns [] text) text e
 RefusesOver f columns text (error.NoTruth t) =
-    (answers : List Answer) × AreAnswersOf f columns text answers
+    (answers : List Answer) × AreAnswersOf f columns [] text answers
     × RefusesTruth f (trees_of answers) (error.NoTruth t)
 RefusesOver f columns text error.OutOfMemory = ⊤
 RefusesOver f columns text e = ⊥

@@ -107,7 +107,7 @@ impl Binding<'_> {
         let form = parsed.form;
         let names = parsed.names(self.alloc)?;
         let columns = self.columns_read(form, &names)?;
-        let answers = match parsed.bind(self.alloc, &columns) {
+        let answers = match parsed.bind(self.alloc, &columns, &[]) {
             Ok(answers) => answers,
             Err(error) => return Err(QueryError::Unread(place_of(form), error)),
         };
@@ -116,7 +116,7 @@ impl Binding<'_> {
             Err(error) => return Err(error),
         }
         let places = places_of(self.alloc, self.declared, self.words.header, &columns)?;
-        let program = Program::of(self.alloc, columns, answers)?;
+        let program = Program::of(self.alloc, columns, Vec::new(self.alloc), answers)?;
         Ok(Question { program, places })
     }
 

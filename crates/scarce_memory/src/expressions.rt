@@ -39,7 +39,7 @@ fn reads_and_writes(alloc: Global) -> VortexResult<bool> {
 /// Whether two answers are read, the first with a name.
 fn reads_answers(alloc: Global) -> VortexResult<bool> {
     let scope = scope(alloc)?;
-    match read_answers(alloc, &scope, "price as \"a\"\"b\", null::utf8") {
+    match read_answers(alloc, &scope, &[], "price as \"a\"\"b\", null::utf8") {
         Ok(answers) => match answers.as_slice() {
             [first, second] => Ok(first.name.is_some() && second.name.is_none()),
             _ => Ok(false),

@@ -18,7 +18,7 @@ pub(crate) fn asked(question: &Question) -> Request<'_> {
 pub(crate) fn read_asked(alloc: Global, text: &str) -> Option<Question> {
     let (columns, expression) = text.split_once(": ")?;
     let Declared { columns, places } = read_scope(alloc, columns).ok()?;
-    let program = Program::read(alloc, columns, expression).ok()?;
+    let program = Program::read(alloc, columns, Vec::new(alloc), expression).ok()?;
     Some(Question { program, places })
 }
 

@@ -16,15 +16,15 @@ use Rattle.vortex_functions.specs.Executing.{Fits}
 use Rattle.vortex_functions.specs.Walks.{AllMean}
 use Rattle.vortex_expressions.specs.Items as items
 use Rattle.vortex_expressions.specs.Items.{meaning}
-use Rattle.vortex_program.specs.Programs.{IsOptimized}
+use Rattle.vortex_program.specs.declared.answer.Answer as bound
+use Rattle.vortex_program.specs.Programs.{AreOptimized, AreRewrites}
 use Rattle.vortex_program.specs.Executing.{AllFit}
 
-pub all_rewrites : (ts us : List items.Tree) → AllMean IsOptimized ts us
-    → AllMean (Rewrites meaning) ts us
+pub all_rewrites : (xs os : List bound.Answer) → AreOptimized xs os → AreRewrites xs os
 all_rewrites [] [] h = tt
-all_rewrites [] (u ∷ us) h = h
-all_rewrites (t ∷ ts) [] h = h
-all_rewrites (t ∷ ts) (u ∷ us) h = (h.0.kept, all_rewrites ts us h.1)
+all_rewrites [] (o ∷ os) h = h
+all_rewrites (x ∷ xs) [] h = h
+all_rewrites (x ∷ xs) (o ∷ os) h = (h.0.tree.kept, all_rewrites xs os h.1)
 
 -- a column of that type, if it is a bare fact that there is one
 place_known : (a : Option ColumnView) (k : LogicalType)

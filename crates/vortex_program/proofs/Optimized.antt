@@ -9,7 +9,7 @@ use Rattle.vortex_interface.specs.ValidityRules.{default_rules}
 use Rattle.vortex_rewriting.specs.Runs.{expression_step}
 use Rattle.vortex_expressions.specs.Items.{Tree, meaning}
 use Rattle.vortex_program.specs.declared.answer.Answer as bound
-use Rattle.vortex_program.specs.Programs.{IsOptimized, AreOptimized}
+use Rattle.vortex_program.specs.Programs.{IsOptimized, IsRunOf, AreOptimized}
 
 -- what a run that is over, or has taken all its steps, leads to
 pub optimized_by : (t u : Tree) (steps limit : ℕ) (done : Bool) → limit ≡ weight_told meaning t
@@ -27,7 +27,7 @@ optimized_by t u steps limit false most run within over stopped kept = record {
 
 pub optimized_more : (xs os : List bound.Answer) (k j : ℕ) (x o : bound.Answer) → j ≡ suc k
     → k < length xs → x ≡ get_or xs k x → AreOptimized (take k xs) os
-    → IsOptimized x.tree o.tree → AreOptimized (take j xs) (os ++ o ∷ [])
+    → IsRunOf x o → AreOptimized (take j xs) (os ++ o ∷ [])
 optimized_more xs os k j x o next lt at h r =
     subst (λ (n : ℕ). AreOptimized (take n xs) (os ++ o ∷ [])) (sym next) (go xs os k lt at h)
   where
@@ -35,7 +35,7 @@ optimized_more xs os k j x o next lt at h r =
         → AreOptimized (take l ys) ps → AreOptimized (take (suc l) ys) (ps ++ o ∷ [])
     go [] ps l below at h = absurd (omega (arith, below))
     go (y ∷ ys) [] zero below at h =
-        (subst (λ (z : bound.Answer). IsOptimized z.tree o.tree) at r, tt)
+        (subst (λ (z : bound.Answer). IsRunOf z o) at r, tt)
     go (y ∷ ys) (p ∷ ps) zero below at h = absurd h
     go (y ∷ ys) [] (suc l) below at h = absurd h
     go (y ∷ ys) (p ∷ ps) (suc l) below at h = (h.0, go ys ps l (omega (arith, below)) at h.1)

@@ -27,7 +27,8 @@ abbrev pub IsNamed : Fields → Tree → Option (List ℕ) → List ℕ → Type
 IsNamed scope t None name = IsNameOf scope t name
 IsNamed scope t (Some given) name = name ≡ given
 
--- the tree of an answer, under its name
+-- the tree of an answer, of its kind, under its name
 pub record IsNamedAnswer (scope : Fields) (a : Answer) (b : bound.Answer) : Type 0 where
   pub tree : b.tree ≡ a.tree
+  pub kind : b.kind ≡ a.kind
   pub name : IsNamed scope a.tree a.name (string_bytes b.name)

@@ -21,9 +21,14 @@ pub record IsOptimized (t u : Tree) : Type 0 where
   pub run : RunsTo (expression_step meaning (default_rules meaning)) (weight_told meaning t) t u
   pub kept : Rewrites meaning t u
 
+-- what runs of an answer: what the rules make of its tree, of the same kind
+pub record IsRunOf (written optimized : bound.Answer) : Type 0 where
+  pub tree : IsOptimized written.tree optimized.tree
+  pub kind : optimized.kind ≡ written.kind
+
 -- what runs is what the rules make of what was written
 abbrev pub AreOptimized : List bound.Answer → List bound.Answer → Type 0
-AreOptimized written optimized = AllMean IsOptimized (trees_of written) (trees_of optimized)
+AreOptimized written optimized = AllMean IsRunOf written optimized
 
 -- what runs are rewrites of what was written
 abbrev pub AreRewrites : List bound.Answer → List bound.Answer → Type 0

@@ -1,4 +1,4 @@
--- What a parsed text means over the columns of a scope.
+-- What a parsed text means over the columns of a scope, whose values have kinds.
 use Rattle.std.specs.Prelude.{◌≡◌, ℕ, List, [], ◌∷◌, map, None}
 use Rattle.vortex_types.specs.LogicalTypes.{Fields}
 use Rattle.vortex_functions.specs.Walks.{AllMean}
@@ -11,8 +11,8 @@ use Rattle.vortex_syntax.specs.Refusals.{ListStopsAt, TreeStopsAt}
 use Rattle.vortex_syntax.specs.AnswerLists as syntax
 use Rattle.vortex_syntax.specs.AnswerLists.{Told, told, ReadsAnswers, answer_in}
 use Rattle.vortex_expressions.specs.declared.refusal.Refusal.{Refusal}
-use Rattle.vortex_expressions.specs.Items.{Tree}
-use Rattle.vortex_expressions.specs.Binding.{Expresses, IsRefused}
+use Rattle.vortex_logical.specs.declared.kind.Kind.{Kind}
+use Rattle.vortex_expressions.specs.Binding.{LogicalTree, ExpressesLogical, IsRefusedLogical}
 use Rattle.vortex_expressions.specs.Answers.{Answer, ExpressesAll, IsRefusedAll}
 use Rattle.vortex_program.specs.declared.answer.Answer as bound
 use Rattle.vortex_program.specs.declared.parsed.Parsed.{Parsed}
@@ -43,29 +43,30 @@ IsParsed form.Condition = ReadsOne
 abbrev pub IsRead : Parsed → Type 0
 IsRead p = IsParsed p.form p.text.now (map answer_in p.answers.items)
 
-pub record MeansOne (scope : Fields) (text : List ℕ) (list : List Answer) : Type 0 where
-  pub tree : Tree
-  pub said : Expresses scope text tree
-  pub is : list ≡ record { tree = tree; name = None } ∷ []
+pub record MeansOne (scope : Fields) (kinds : List Kind) (text : List ℕ) (list : List Answer)
+    : Type 0 where
+  pub one : LogicalTree
+  pub said : ExpressesLogical scope kinds text one
+  pub is : list ≡ record { tree = one.tree; kind = one.kind; name = None } ∷ []
 
--- the text means the list over the columns of a scope
-abbrev pub Means : Form → Fields → List ℕ → List Answer → Type 0
+-- the text means the list over the columns of a scope, of these kinds by place
+abbrev pub Means : Form → Fields → List Kind → List ℕ → List Answer → Type 0
 Means form.Answers = ExpressesAll
 Means form.Condition = MeansOne
 
 -- the text is refused so over the columns of a scope
-abbrev pub IsRefusedOver : Form → Fields → List ℕ → Refusal → Type 0
+abbrev pub IsRefusedOver : Form → Fields → List Kind → List ℕ → Refusal → Type 0
 IsRefusedOver form.Answers = IsRefusedAll
-IsRefusedOver form.Condition = IsRefused
+IsRefusedOver form.Condition = IsRefusedLogical
 
 -- where tokens stop that are none of the form
 abbrev pub StopsAt : Form → List Token → ℕ → Type 0
 StopsAt form.Answers = ListStopsAt
 StopsAt form.Condition = TreeStopsAt
 
--- the answers that the text means, each under its name
-pub record AreAnswersOf (f : Form) (scope : Fields) (text : List ℕ) (answers : List bound.Answer)
-    : Type 0 where
+-- the answers that the text means, each of its kind and under its name
+pub record AreAnswersOf (f : Form) (scope : Fields) (kinds : List Kind) (text : List ℕ)
+    (answers : List bound.Answer) : Type 0 where
   pub list : List Answer
-  pub meant : Means f scope text list
+  pub meant : Means f scope kinds text list
   pub each : AllMean (IsNamedAnswer scope) list answers

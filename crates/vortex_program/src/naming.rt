@@ -42,8 +42,8 @@ fn name_of(
     }
 }
 
-/// An answer with its name: the one after its `as`, else that of the field which it is, else its
-/// text. E9 where memory is refused.
+/// An answer with its kind and its name: the one after its `as`, else that of the field which it
+/// is, else its text. E9 where memory is refused.
 fn named(
     alloc: Global,
     scope: &StructFields,
@@ -57,7 +57,11 @@ fn named(
         None => name_of(alloc, scope, &answer.tree)?,
     };
     let tree = answer.tree.try_clone(alloc)?;
-    Ok(Answer { name, tree })
+    Ok(Answer {
+        name,
+        tree,
+        kind: answer.kind,
+    })
 }
 
 /// Each answer with its name. E9 where memory is refused.

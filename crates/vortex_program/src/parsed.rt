@@ -22,6 +22,7 @@ use crate::naming::all_named;
 use std::alloc::Global;
 use vortex_columns::StructFields;
 use vortex_expressions::{TextError, bind_answers};
+use vortex_logical::kind::Kind;
 use vortex_syntax::{SyntaxAnswer, SyntaxTree, read_answer_list, read_syntax};
 
 /// A text that was parsed, with what it says: answers or a condition, whose columns are not yet
@@ -108,24 +109,31 @@ fn name_all(
 }
 
 impl Parsed<'_> {
-    /// The answers over the columns of a scope, each with its name: the one after its `as`, else
-    /// that of the column which it is, else its text. Together with parsing it finds the answers
-    /// that the text means over the scope, and fails as the text is refused over it: that is said of
-    /// what was parsed, which each clause asks first.
-    pub fn bind(&self, alloc: Global, scope: &StructFields) -> Result<Vec<Answer>, TextError>
+    /// The answers over the columns of a scope whose values are of these kinds, by place; further
+    /// columns are plain. Each has the kind of its values, and its name: the one after its `as`,
+    /// else that of the column which it is, else its text. Together with parsing it finds the
+    /// answers that the text means over the scope, and fails as the text is refused over it: that is
+    /// said of what was parsed, which each clause asks first.
+    pub fn bind(
+        &self,
+        alloc: Global,
+        scope: &StructFields,
+        kinds: &[Kind],
+    ) -> Result<Vec<Answer>, TextError>
         ensures found { IsRead self.now → IfOk result (λ v.
-            AreAnswersOf self.now.form (struct_fields scope.now) self.now.text.now v.items) }
+            AreAnswersOf self.now.form (struct_fields scope.now) kinds.now self.now.text.now
+            v.items) }
         ensures only { (list : List specs.Answer) → IsRead self.now
-            → Means self.now.form (struct_fields scope.now) self.now.text.now list
+            → Means self.now.form (struct_fields scope.now) kinds.now self.now.text.now list
             → ReadUnlessMemory result (λ v. trees_of v.items ≡ map (λ a. a.tree) list) }
         ensures refused { (r : Refusal) → IsRead self.now
-            → IsRefusedOver self.now.form (struct_fields scope.now) self.now.text.now r
+            → IsRefusedOver self.now.form (struct_fields scope.now) kinds.now self.now.text.now r
             → RefusesAs r result }
         ensures why { IsRead self.now → IfErr result (TellsWhy (StopsAt self.now.form)
-            (IsRefusedOver self.now.form (struct_fields scope.now) self.now.text.now)
+            (IsRefusedOver self.now.form (struct_fields scope.now) kinds.now self.now.text.now)
             self.now.text.now) }
     {
-        match bind_answers(alloc, scope, self.text, &self.answers) {
+        match bind_answers(alloc, scope, kinds, self.text, &self.answers) {
             Ok(list) => name_all(alloc, scope, &list),
             Err(error) => Err(error),
         }

@@ -19,6 +19,7 @@ use std::alloc::Global;
 use vortex_columns::{StructFields, VortexResult};
 use vortex_expressions::TextError;
 use vortex_functions::BoundExpression;
+use vortex_logical::kind::Kind;
 use vortex_rewriting::Rewrite;
 use vortex_standard::Standard;
 
@@ -26,9 +27,11 @@ use vortex_standard::Standard;
 #[derive(Drop)]
 pub struct Program {
     pub scope: StructFields,
-    /// The answers as they were written, with their names.
+    /// The kinds of the fields' values, by place; further fields are plain.
+    pub kinds: Vec<Kind>,
+    /// The answers as they were written, with their kinds and names.
     pub written: Vec<Answer>,
-    /// The same as they are run: what rules make of each. They have no names.
+    /// The same as they are run: what rules make of each, of the same kind. They have no names.
     pub optimized: Vec<Answer>,
     pub ghost rewrites: { ∥ AreRewrites written.items optimized.items ∥₁ },
 }
@@ -44,7 +47,7 @@ fn optimized_tree(
     Ok(optimized.tree)
 }
 
-/// What rules make of each answer.
+/// What rules make of each answer, of the same kind.
 fn optimized_answers(alloc: Global, written: &[Answer]) -> VortexResult<Vec<Answer>>
     ensures { AnswersUnlessMemory result (λ made. AreOptimized written.now made.items) }
 {
@@ -52,7 +55,11 @@ fn optimized_answers(alloc: Global, written: &[Answer]) -> VortexResult<Vec<Answ
     for answer in written {
         let tree = optimized_tree(alloc, &answer.tree)?;
         let name = String::new(alloc);
-        answers.push(Answer { name, tree })?;
+        answers.push(Answer {
+            name,
+            tree,
+            kind: answer.kind,
+        })?;
     }
     Ok(answers)
 }
@@ -68,45 +75,58 @@ fn text_at(alloc: Global, answers: &[Answer], answer: usize) -> VortexResult<Opt
 }
 
 impl Program {
-    /// Reads a list of answers over the fields of a scope:
-    /// `price * stock as worth, price > 100`. Ok exactly where the text is such a list, where no
-    /// allocation fails.
-    pub fn read(alloc: Global, scope: StructFields, text: &str) -> Result<Program, TextError>
+    /// Reads a list of answers over the fields of a scope whose values are of these kinds, by
+    /// place; further fields are plain: `price * stock as worth, price > 100`. Ok exactly where the
+    /// text is such a list, where no allocation fails.
+    pub fn read(
+        alloc: Global,
+        scope: StructFields,
+        kinds: Vec<Kind>,
+        text: &str,
+    ) -> Result<Program, TextError>
         ensures scope { IfOk result (λ p. p.scope ≡ scope) }
-        ensures found { IfOk result
-            (λ p. AreAnswersOf Answers (struct_fields scope) text.now p.written.items) }
+        ensures kinds { IfOk result (λ p. p.kinds ≡ kinds) }
+        ensures found { IfOk result (λ p.
+            AreAnswersOf Answers (struct_fields scope) kinds.items text.now p.written.items) }
         ensures kept { IfOk result (λ p. AreOptimized p.written.items p.optimized.items) }
         ensures only { (list : List specs.Answer)
-            → ExpressesAll (struct_fields scope) text.now list
+            → ExpressesAll (struct_fields scope) kinds.items text.now list
             → ReadUnlessMemory result
             (λ p. trees_of p.written.items ≡ map (λ a. a.tree) list) }
-        ensures refused { (r : Refusal) → IsRefusedAll (struct_fields scope) text.now r
-            → RefusesAs r result }
+        ensures refused { (r : Refusal)
+            → IsRefusedAll (struct_fields scope) kinds.items text.now r → RefusesAs r result }
         ensures why { IfErr result (TellsWhy ListStopsAt
-            (IsRefusedAll (struct_fields scope) text.now) text.now) }
+            (IsRefusedAll (struct_fields scope) kinds.items text.now) text.now) }
     {
         let parsed = match parse_answers(alloc, text) {
             Ok(parsed) => parsed,
             Err(error) => return Err(error),
         };
-        let written = match parsed.bind(alloc, &scope) {
+        let written = match parsed.bind(alloc, &scope, &kinds) {
             Ok(written) => written,
             Err(error) => return Err(error),
         };
-        match Program::of(alloc, scope, written) {
+        match Program::of(alloc, scope, kinds, written) {
             Ok(program) => Ok(program),
             Err(_) => Err(TextError::out_of_memory(alloc)),
         }
     }
 
-    /// The program of answers over a scope. E9 where an allocation fails.
-    pub fn of(alloc: Global, scope: StructFields, written: Vec<Answer>) -> VortexResult<Program>
-        ensures { AnswersUnlessMemory result (λ p. (p.scope ≡ scope) × (p.written ≡ written)
-            × AreOptimized p.written.items p.optimized.items) }
+    /// The program of answers over a scope whose fields have values of these kinds. E9 where an
+    /// allocation fails.
+    pub fn of(
+        alloc: Global,
+        scope: StructFields,
+        kinds: Vec<Kind>,
+        written: Vec<Answer>,
+    ) -> VortexResult<Program>
+        ensures { AnswersUnlessMemory result (λ p. (p.scope ≡ scope) × (p.kinds ≡ kinds)
+            × (p.written ≡ written) × AreOptimized p.written.items p.optimized.items) }
     {
         let optimized = optimized_answers(alloc, &written)?;
         Ok(Program {
             scope,
+            kinds,
             written,
             optimized,
         })

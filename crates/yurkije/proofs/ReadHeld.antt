@@ -1,5 +1,5 @@
 -- What a handle holds of a text that was read, or why it holds nothing.
-use Rattle.std.proofs.Common.{◌≡◌, ◌∙◌, ℕ, List, Option, sym, ap, subst, map, inl, inr}
+use Rattle.std.proofs.Common.{◌≡◌, ◌∙◌, ℕ, List, [], Option, sym, ap, subst, map, inl, inr}
 use Rattle.std.specs.Prelude.{Result, Ok, Err, IfOk, IfErr, MatchResult, IsUtf8}
 use Rattle.vortex_types.specs.declared.dtype.StructFields.{StructFields}
 use Rattle.vortex_types.specs.TypeOf.{struct_fields}
@@ -22,17 +22,17 @@ module _ (held : Option HeldView) (result : ℕ) (old report : Report) where
   pub read_holds : (fields : List BorrowedField) (said : List ℕ) (scope : StructFields)
       (r : Result Program ProgramError) → scope_borrowed fields ≡ answers (struct_fields scope)
       → IfOk r (λ p. p.scope ≡ scope)
-      → IfOk r (λ p. AreAnswersOf form.Answers (struct_fields scope) said p.written.items)
+      → IfOk r (λ p. AreAnswersOf form.Answers (struct_fields scope) [] said p.written.items)
       → IfOk r (λ p. AreOptimized p.written.items p.optimized.items)
-      → ((list : List Answer) → IsUtf8 said → ExpressesAll (struct_fields scope) said list
+      → ((list : List Answer) → IsUtf8 said → ExpressesAll (struct_fields scope) [] said list
       → MatchResult r (λ p. trees_of p.written.items ≡ map (λ a. a.tree) list) IsOutOfMemory)
-      → ((w : Refusal) → IsUtf8 said → IsRefusedAll (struct_fields scope) said w
+      → ((w : Refusal) → IsUtf8 said → IsRefusedAll (struct_fields scope) [] said w
       → RefusesFor w r)
       → IfErr r (IsNoText said) → Reads r held result old report
       → HoldsRead fields said held result old report
   read_holds fields said scope (Ok p) borrowed same asked kept only refused utf8 (inl h) =
       read p (borrowed ∙ ap (λ s. answers (struct_fields s)) (sym same))
-      (subst (λ s. AreAnswersOf form.Answers (struct_fields s) said p.written.items) (sym same) asked) kept h.0 h.1
+      (subst (λ s. AreAnswersOf form.Answers (struct_fields s) [] said p.written.items) (sym same) asked) kept h.0 h.1
   read_holds fields said scope (Ok p) borrowed same asked kept only refused utf8 (inr w) =
       without_memory w
   read_holds fields said scope (Err e) borrowed same asked kept only refused utf8 h =

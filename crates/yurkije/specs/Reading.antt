@@ -64,15 +64,15 @@ Reads (Err e) held result old report =
 -- why a text is no program over the fields of a scope
 pub record IsRefusedText (scope : Fields) (text : List ℕ) (e : ProgramError) : Type 0 where
   pub utf8 : IsNoText text e
-  pub only : (list : List Answer) → IsUtf8 text → ExpressesAll scope text list → IsOutOfMemory e
-  pub refused : (r : Refusal) → IsUtf8 text → IsRefusedAll scope text r → IsFor r e
+  pub only : (list : List Answer) → IsUtf8 text → ExpressesAll scope [] text list → IsOutOfMemory e
+  pub refused : (r : Refusal) → IsUtf8 text → IsRefusedAll scope [] text r → IsFor r e
 
 -- the handle holds what the text means over the fields, and 0 is returned; or it holds nothing, and
 -- why is told: a field is wrong, or the text, or memory ran out
 pub data HoldsRead (fields : List BorrowedField) (text : List ℕ) (held : Option HeldView) (result : ℕ)
     (old report : Report) : Type 0 where
   read : (p : Program) → scope_borrowed fields ≡ answers (struct_fields p.scope)
-      → AreAnswersOf form.Answers (struct_fields p.scope) text p.written.items
+      → AreAnswersOf form.Answers (struct_fields p.scope) [] text p.written.items
       → AreOptimized p.written.items p.optimized.items → Holds held p → Done result old report
       → HoldsRead fields text held result old report
   no_scope : (e : FieldError) → (e.fault ≢ OutOfMemory → scope_borrowed fields ≡ refuses e)

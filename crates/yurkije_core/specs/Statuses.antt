@@ -5,6 +5,8 @@ use Rattle.vortex_expressions.specs.declared.error.Reason.{Reason}
 use Rattle.vortex_expressions.specs.declared.error.Reason.TheVariants as reason
 use Rattle.vortex_expressions.specs.declared.refusal.Refusal.{Refusal}
 use Rattle.vortex_expressions.specs.declared.refusal.Refusal.TheVariants as refusal
+use Rattle.vortex_lowering.specs.declared.refusal.Refusal as lowering
+use Rattle.vortex_lowering.specs.declared.refusal.Refusal.TheVariants as unlowered
 use Rattle.vortex_program.specs.declared.running.RunError as fault
 use Rattle.vortex_program.specs.declared.running.RunError.TheVariants as fault_of
 use Rattle.yurkije_columns.specs.Statuses.{column_status}
@@ -12,6 +14,12 @@ use Rattle.yurkije_core.specs.declared.reading.ProgramError.{ProgramError}
 use Rattle.yurkije_core.specs.declared.reading.ProgramError.TheVariants as program
 use Rattle.yurkije_core.specs.declared.running.BatchRunError.{BatchRunError}
 use Rattle.yurkije_core.specs.declared.running.BatchRunError.TheVariants as run
+
+-- a text that is none of a kind is a literal that is no value; else kinds are types that do not fit
+abbrev pub kinds_status : lowering.Refusal → ℕ
+kinds_status (unlowered.NotOfKind k) = 114
+kinds_status (unlowered.Binding e) = number_of e
+kinds_status r = 3
 
 abbrev pub refusal_status : Refusal → ℕ
 refusal_status refusal.NotUtf8 = 110
@@ -21,6 +29,8 @@ refusal_status refusal.UntypedNull = 115
 refusal_status refusal.NoEscape = 116
 refusal_status refusal.NoCast = 117
 refusal_status refusal.NoFunction = 118
+refusal_status (refusal.OfKind k) = 3
+refusal_status (refusal.Kinds r) = kinds_status r
 refusal_status (refusal.Binding e) = number_of e
 
 abbrev pub reason_status : Reason → ℕ

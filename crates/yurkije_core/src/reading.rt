@@ -1,5 +1,5 @@
 //! Programs read from the bytes of texts.
-ghost use Rattle.std.specs.Prelude.{◌≡◌, List, map, IfOk, IfErr, MatchResult, IsUtf8};
+ghost use Rattle.std.specs.Prelude.{◌≡◌, List, [], map, IfOk, IfErr, MatchResult, IsUtf8};
 ghost use Rattle.vortex_types.specs.TypeOf.{struct_fields};
 ghost use Rattle.vortex_expressions.specs.declared.refusal.Refusal.{Refusal};
 ghost use Rattle.vortex_expressions.specs.Answers as specs;
@@ -24,9 +24,10 @@ pub enum ProgramError {
     Text(TextError),
 }
 
-/// Reads the answers of a text over the fields of a scope: `price * stock as worth, price > 100`.
-/// Ok exactly where the text is UTF-8 and a list of answers over the scope, where no allocation
-/// fails. Bytes that are not UTF-8 are refused as such, whatever memory there is.
+/// Reads the answers of a text over the fields of a scope, whose values have no kinds:
+/// `price * stock as worth, price > 100`. Ok exactly where the text is UTF-8 and a list of answers
+/// over the scope, where no allocation fails. Bytes that are not UTF-8 are refused as such, whatever
+/// memory there is.
 pub fn read_program(
     alloc: Global,
     scope: StructFields,
@@ -35,23 +36,23 @@ pub fn read_program(
     ensures scope { IfOk result (λ p. p.scope ≡ scope) }
     // What was read is what the text means, and what runs the rules make of it.
     ensures found { IfOk result
-        (λ p. AreAnswersOf Answers (struct_fields scope) text.now p.written.items) }
+        (λ p. AreAnswersOf Answers (struct_fields scope) [] text.now p.written.items) }
     ensures kept { IfOk result (λ p. AreOptimized p.written.items p.optimized.items) }
     // What the text means is read.
     ensures only { (list : List specs.Answer) → IsUtf8 text.now
-        → ExpressesAll (struct_fields scope) text.now list
+        → ExpressesAll (struct_fields scope) [] text.now list
         → MatchResult result (λ p. trees_of p.written.items ≡ map (λ a. a.tree) list)
         IsOutOfMemory }
     // A text that is refused is refused so.
     ensures refused { (r : Refusal) → IsUtf8 text.now
-        → IsRefusedAll (struct_fields scope) text.now r → RefusesFor r result }
+        → IsRefusedAll (struct_fields scope) [] text.now r → RefusesFor r result }
     ensures text { IfErr result (IsNoText text.now) }
 {
     let text = match str::from_utf8(text) {
         Ok(text) => text,
         Err(_) => return Err(ProgramError::NotUtf8),
     };
-    match Program::read(alloc, scope, text) {
+    match Program::read(alloc, scope, Vec::new(alloc), text) {
         Ok(program) => Ok(program),
         Err(error) => Err(ProgramError::Text(error)),
     }

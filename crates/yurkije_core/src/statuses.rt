@@ -1,7 +1,7 @@
 //! The numbers that the C interface has for what is refused.
 ghost use Rattle.std.specs.Prelude.{◌≡◌};
 ghost use Rattle.vortex_errors.specs.Errors.{number_of};
-ghost use Rattle.yurkije_core.specs.Statuses.{refusal_status, reason_status};
+ghost use Rattle.yurkije_core.specs.Statuses.{kinds_status, refusal_status, reason_status};
 ghost use Rattle.yurkije_core.specs.Statuses.{program_status, fault_status, run_status};
 
 use crate::reading::ProgramError;
@@ -17,6 +17,19 @@ fn error_status(error: &VortexError) -> u32
     error.number() as u32
 }
 
+/// The number of values of kinds that do not go together.
+fn kinds_status(refusal: &vortex_lowering::Refusal) -> u32
+    ensures { result ≡ kinds_status refusal.now }
+{
+    match refusal {
+        vortex_lowering::Refusal::NoCommonKind(_, _) => 3,
+        vortex_lowering::Refusal::NotShipped(_, _) => 3,
+        vortex_lowering::Refusal::NotOfKind(_) => 114,
+        vortex_lowering::Refusal::NotStored(_) => 3,
+        vortex_lowering::Refusal::Binding(error) => error_status(error),
+    }
+}
+
 /// The number of a text that is well written and refused.
 fn refusal_status(refusal: &Refusal) -> u32
     ensures { result ≡ refusal_status refusal.now }
@@ -29,6 +42,8 @@ fn refusal_status(refusal: &Refusal) -> u32
         Refusal::NoEscape => 116,
         Refusal::NoCast => 117,
         Refusal::NoFunction => 118,
+        Refusal::OfKind(_) => 3,
+        Refusal::Kinds(refusal) => kinds_status(refusal),
         Refusal::Binding(error) => error_status(error),
     }
 }

@@ -1,4 +1,4 @@
-use Rattle.std.proofs.Common.{add-one}
+use Rattle.std.proofs.Common.{add-one, refl}
 use Rattle.vortex_program.proofs.Optimized.{optimized_more}
 use Rattle.vortex_program.proofs.program.optimized_answers.Goals as goal
 
@@ -7,4 +7,5 @@ loop-answer-preserved c =
     rw c.in_ok-push.ensures.items
     (optimized_more c.args.written.now c.loop-answer.answers.items c.loop-answer.answer-index _
     c.answer-item.result _ (add-one c.loop-answer.answer-index) c.loop-answer-test.true
-    c.answer-item.is c.loop-answer.invariant c.in_ok-tree.ensures)
+    c.answer-item.is c.loop-answer.invariant
+    (record { tree = c.in_ok-tree.ensures; kind = refl }))

@@ -16,10 +16,11 @@ pub returns-in-Ok-clause-found : goal.returns-in-Ok-clause-found
 returns-in-Ok-clause-found c = λ read.
     let self = c.args.self.now in
     let scope = struct_fields c.args.scope.now in
+    let kinds = c.args.kinds.now in
     let left =
     subst
     (λ (xs : List SyntaxAnswer).
-    answers_left scope (map syntax.answer_in xs) ≡ answers (map answer_in c.in-Ok.list.items))
+    answers_left scope kinds (map syntax.answer_in xs) ≡ answers (map answer_in c.in-Ok.list.items))
     c.deref.ensures.value c.in-Ok.ensures in
     let named =
     subst
@@ -27,17 +28,18 @@ returns-in-Ok-clause-found c = λ read.
     ReadUnlessMemory c.name_all.result
     (λ v. AllMean (IsNamedAnswer scope) (map answer_in xs) v.items))
     c.deref-in-Ok.ensures.value c.name_all.ensures in
-    named_found scope self.text.now (map syntax.answer_in self.answers.items) self.form read
+    named_found scope kinds self.text.now (map syntax.answer_in self.answers.items) self.form read
     (map answer_in c.in-Ok.list.items) left c.name_all.result named
 
 pub returns-in-Ok-clause-only : goal.returns-in-Ok-clause-only
 returns-in-Ok-clause-only c = λ other read meant.
     let self = c.args.self.now in
     let scope = struct_fields c.args.scope.now in
+    let kinds = c.args.kinds.now in
     let left =
     subst
     (λ (xs : List SyntaxAnswer).
-    answers_left scope (map syntax.answer_in xs) ≡ answers (map answer_in c.in-Ok.list.items))
+    answers_left scope kinds (map syntax.answer_in xs) ≡ answers (map answer_in c.in-Ok.list.items))
     c.deref.ensures.value c.in-Ok.ensures in
     let named =
     subst
@@ -45,31 +47,33 @@ returns-in-Ok-clause-only c = λ other read meant.
     ReadUnlessMemory c.name_all.result
     (λ v. AllMean (IsNamedAnswer scope) (map answer_in xs) v.items))
     c.deref-in-Ok.ensures.value c.name_all.ensures in
-    named_only scope self.text.now (map syntax.answer_in self.answers.items) self.form read
+    named_only scope kinds self.text.now (map syntax.answer_in self.answers.items) self.form read
     (map answer_in c.in-Ok.list.items) left c.name_all.result named other meant
 
 pub returns-in-Ok-clause-refused : goal.returns-in-Ok-clause-refused
 returns-in-Ok-clause-refused c = λ r read why.
     let self = c.args.self.now in
     let scope = struct_fields c.args.scope.now in
+    let kinds = c.args.kinds.now in
     let left =
     subst
     (λ (xs : List SyntaxAnswer).
-    answers_left scope (map syntax.answer_in xs) ≡ answers (map answer_in c.in-Ok.list.items))
+    answers_left scope kinds (map syntax.answer_in xs) ≡ answers (map answer_in c.in-Ok.list.items))
     c.deref.ensures.value c.in-Ok.ensures in
-    named_refused scope self.text.now (map syntax.answer_in self.answers.items) self.form read
+    named_refused scope kinds self.text.now (map syntax.answer_in self.answers.items) self.form read
     (map answer_in c.in-Ok.list.items) left c.name_all.result r why
 
 pub returns-in-Err-clause-only : goal.returns-in-Err-clause-only
 returns-in-Err-clause-only c = λ list read meant.
     let self = c.args.self.now in
     let scope = struct_fields c.args.scope.now in
+    let kinds = c.args.kinds.now in
     let told =
     subst
     (λ (xs : List SyntaxAnswer).
-    ToldBy (answers_left scope (map syntax.answer_in xs)) c.in-Err.error)
+    ToldBy (answers_left scope kinds (map syntax.answer_in xs)) c.in-Err.error)
     c.deref.ensures.value c.in-Err.ensures in
-    only scope self.text.now (map syntax.answer_in self.answers.items)
+    only scope kinds self.text.now (map syntax.answer_in self.answers.items)
     {A = Vec held.Answer Global} (λ v. map answer_in v.items) self.form read (Err c.in-Err.error)
     told list meant
 
@@ -77,12 +81,13 @@ pub returns-in-Err-clause-refused : goal.returns-in-Err-clause-refused
 returns-in-Err-clause-refused c = λ r read why.
     let self = c.args.self.now in
     let scope = struct_fields c.args.scope.now in
+    let kinds = c.args.kinds.now in
     let told =
     subst
     (λ (xs : List SyntaxAnswer).
-    ToldBy (answers_left scope (map syntax.answer_in xs)) c.in-Err.error)
+    ToldBy (answers_left scope kinds (map syntax.answer_in xs)) c.in-Err.error)
     c.deref.ensures.value c.in-Err.ensures in
-    refused scope self.text.now (map syntax.answer_in self.answers.items)
+    refused scope kinds self.text.now (map syntax.answer_in self.answers.items)
     {A = Vec held.Answer Global} (λ v. map answer_in v.items) self.form read (Err c.in-Err.error)
     told r why
 
@@ -90,11 +95,12 @@ pub returns-in-Err-clause-why : goal.returns-in-Err-clause-why
 returns-in-Err-clause-why c = λ read.
     let self = c.args.self.now in
     let scope = struct_fields c.args.scope.now in
+    let kinds = c.args.kinds.now in
     let told =
     subst
     (λ (xs : List SyntaxAnswer).
-    ToldBy (answers_left scope (map syntax.answer_in xs)) c.in-Err.error)
+    ToldBy (answers_left scope kinds (map syntax.answer_in xs)) c.in-Err.error)
     c.deref.ensures.value c.in-Err.ensures in
-    told_why scope self.text.now (map syntax.answer_in self.answers.items)
+    told_why scope kinds self.text.now (map syntax.answer_in self.answers.items)
     {A = Vec held.Answer Global} (λ v. map answer_in v.items) self.form read (Err c.in-Err.error)
     told
