@@ -3,7 +3,10 @@
 use crate::seen::Tally;
 use std::alloc::Global;
 use vortex_columns::{DType, Nullability, PType, StructFields, VortexError, VortexResult};
-use vortex_expressions::{TextError, read_answers, read_expression, write_expression};
+use vortex_expressions::{
+    TextError, read_answers, read_expression, read_logical, write_expression,
+};
+use vortex_logical::kind::{Kind, kind_named};
 
 const TEXT: &str = "price * 2 > 100 and \"the \"\"name\"\"\" like 'a''%'";
 
@@ -60,7 +63,55 @@ fn tells_a_column(alloc: Global) -> VortexResult<bool> {
     }
 }
 
+/// A decimal, a date and a float, as they are stored.
+fn kinds(alloc: Global) -> VortexResult<(StructFields, Vec<Kind>)> {
+    let fields = [
+        ("price", DType::Primitive(PType::I64, Nullability::Nullable)),
+        ("day", DType::Primitive(PType::I32, Nullability::Nullable)),
+        ("x", DType::Primitive(PType::I64, Nullability::Nullable)),
+    ];
+    let scope = StructFields::of(alloc, &fields)?;
+    let price = match kind_named("decimal(12,2)") {
+        Some(kind) => kind,
+        None => Kind::Plain,
+    };
+    Ok((scope, vec![in alloc; price, Kind::Date, Kind::F64]?))
+}
+
+/// The kind of an expression over them.
+fn kind_of(alloc: Global, text: &str) -> VortexResult<Option<Kind>> {
+    let (scope, kinds) = kinds(alloc)?;
+    match read_logical(alloc, &scope, &kinds, text) {
+        Ok(answer) => Ok(Some(answer.kind)),
+        Err(error) => {
+            refused(&error)?;
+            Ok(None)
+        }
+    }
+}
+
+/// Whether values of kinds are compared and computed, each by its own calls.
+fn reads_kinds(alloc: Global) -> VortexResult<bool> {
+    let truth = kind_of(
+        alloc,
+        "price * 3 > 12.5 and day between '2024-01-01' and day + 30",
+    )?;
+    let float = kind_of(alloc, "x / price - 0.5")?;
+    Ok(truth == Some(Kind::Plain) && float == Some(Kind::F64))
+}
+
+/// Whether kinds that do not meet are an error.
+fn refuses_kinds(alloc: Global) -> VortexResult<bool> {
+    let found = kind_of(alloc, "day > price")?;
+    Ok(found == None)
+}
+
 pub fn ask(alloc: Global, tally: &mut Tally) {
+    tally.note("read_logical", reads_kinds(alloc));
+    tally.note(
+        "read_logical of kinds that do not meet",
+        refuses_kinds(alloc),
+    );
     tally.note("read_expression, write_expression", reads_and_writes(alloc));
     tally.note("read_answers", reads_answers(alloc));
     tally.note("read_expression of no column", tells_a_column(alloc));
