@@ -12,3 +12,4 @@ pub mod Anything
 pub mod Computed
 pub mod PrefixOrder
 pub mod LikeAdmits
+pub mod LikeCertain
