@@ -7,7 +7,9 @@ pub mod CallsAdmit
 pub mod Defaults
 pub mod DescribedRows
 pub mod Products
+pub mod Quotients
 pub mod Anything
 pub mod Computed
 pub mod PrefixOrder
 pub mod LikeAdmits
+pub mod LikeCertain

@@ -21,7 +21,8 @@ use Rattle.vortex_ranges.specs.Truths.{truths}
 use Rattle.vortex_ranges.specs.Calls.{AdmitsCalls}
 use Rattle.vortex_ranges.specs.Prefixes.{excludes_prefix, matches, NoneMatch, NoneBegins}
 use Rattle.vortex_ranges.specs.Prefixes.{NoneEquals, NoneIs, NoneIsLike, IsOnlyText, likeness}
-use Rattle.vortex_ranges.specs.Prefixes.{AdmitsLike}
+use Rattle.vortex_ranges.specs.Prefixes.{AdmitsLike, AreMatches}
+use Rattle.vortex_ranges.specs.declared.like.Matches.{Matches}
 use Rattle.vortex_ranges.specs.declared.range.Range.{Range}
 use Rattle.vortex_ranges.specs.BoundViews.{range_of}
 use Rattle.vortex_ranges.proofs.Tests.{on_left, on_right}
@@ -89,37 +90,44 @@ none_match options r s known plain only none bytes pattern u w a d =
     (subst (λ (bs : List ℕ). is_match options.case_insensitive
     (tokens_of options.escape (chars bs)) (chars bytes) ≡ true) (only pattern d) e))))
 
-module _ (options : LikeOptions) (possible : Bool) (r s : RangeView)
-    (none : possible ≡ false → NoneMatch options r s) where
-  abbrev result : Bool → Bool → Bool
-  result negated found = if negated then not found else found
+module _ (options : LikeOptions) (m : Matches) (r s : RangeView)
+    (h : AreMatches options r s m) where
+  abbrev turned : Bool → Bool → Bool
+  turned negated found = if negated then not found else found
 
-  told : (p negated found : Bool) → (p ≡ false → found ≡ false)
-      → Admits (truths (r.may_be_null || s.may_be_null) (p || not negated) (p || negated))
-      (truth (result negated found))
-  told true negated found h = by (result negated found)
-    where
-      by : (b : Bool) → Admits (truths (r.may_be_null || s.may_be_null) true true) (truth b)
-      by true = truths-admit (r.may_be_null || s.may_be_null) true true (Some true) refl
-      by false = truths-admit (r.may_be_null || s.may_be_null) true true (Some false) refl
-  told false true false h =
-      truths-admit (r.may_be_null || s.may_be_null) false true (Some true) refl
-  told false false false h =
-      truths-admit (r.may_be_null || s.may_be_null) true false (Some false) refl
-  told false negated true h = let never : true ≡ false = h refl in cc
+  abbrev known : Bool → Bool → Bool → RangeView
+  known possible certain negated =
+      truths (r.may_be_null || s.may_be_null) (if negated then possible else not certain)
+      (if negated then not certain else possible)
 
-  pair : (n m : Bool) (v w : Value) → HasType (text_type n) v → HasType (text_type m) w
-      → Admits r v → Admits s w → Admits (likeness options possible r s) (like_value options v w)
-  pair n m (text bs) (text p) h k a d =
-      told possible options.negated (matches options bs p) (λ e. none e bs p h k a d)
-  pair n m null w h k a d = on_left r.may_be_null s.may_be_null a
-  pair n m (text bs) null h k a d = on_right r.may_be_null s.may_be_null d
-  pair n m (text bs) w h k a d = absurd k
-  pair n m v w h k a d = absurd h
+  told : (possible certain negated found : Bool) → (possible ≡ false → found ≡ false)
+      → (certain ≡ true → found ≡ true)
+      → Admits (known possible certain negated) (truth (turned negated found))
+  told true certain false true f g =
+      truths-admit (r.may_be_null || s.may_be_null) (not certain) true (Some true) refl
+  told true certain true true f g =
+      truths-admit (r.may_be_null || s.may_be_null) true (not certain) (Some false) refl
+  told possible false false false f g =
+      truths-admit (r.may_be_null || s.may_be_null) true possible (Some false) refl
+  told possible false true false f g =
+      truths-admit (r.may_be_null || s.may_be_null) possible true (Some true) refl
+  told false certain negated true f g = let never : true ≡ false = f refl in cc
+  told possible true negated false f g = let never : false ≡ true = g refl in cc
+
+  pair : (n k : Bool) (v w : Value) → HasType (text_type n) v → HasType (text_type k) w
+      → Admits r v → Admits s w
+      → Admits (likeness options m.possible m.certain r s) (like_value options v w)
+  pair n k (text bs) (text p) i j a d =
+      told m.possible m.certain options.negated (matches options bs p)
+      (λ e. h.0 e bs p i j a d) (λ e. h.1 e bs p i j a d)
+  pair n k null w i j a d = on_left r.may_be_null s.may_be_null a
+  pair n k (text bs) null i j a d = on_right r.may_be_null s.may_be_null d
+  pair n k (text bs) w i j a d = absurd j
+  pair n k v w i j a d = absurd i
 
   pub like-admits : (t : LogicalType)
       → AdmitsCalls (shipped_type (Like options)) (shipped_means (Like options)) t (r ∷ s ∷ [])
-      (likeness options possible r s)
+      (likeness options m.possible m.certain r s)
   like-admits t (text_type n ∷ text_type m ∷ []) (v ∷ w ∷ []) e h a =
       pair n m v w h.0 h.1.0 a.0 a.1.0
   like-admits t ts [] e h a = absurd a

@@ -1,19 +1,21 @@
 -- Texts that begin with a prefix, in the order of texts.
 use Rattle.std.specs.Prelude.{◌≡◌, ◌++◌, ◌&&◌, ◌||◌, ℕ, List, [], ◌∷◌, Bool, true, false, not, Option}
 use Rattle.std.specs.Prelude.{Some, None, nat_eq, refl}
-use Rattle.std.proofs.Common.{ap, subst, ◌∙◌}
+use Rattle.std.proofs.Common.{ap, sym, subst, ◌∙◌, drop, length}
+use Rattle.std.proofs.lemmas.Cmp.{nat_cmp_total}
 use Rattle.std.proofs.lemmas.Bool.Decides.{Decides-eqb}
 use Rattle.std.proofs.lemmas.Slice.Eq.{starts_is}
 use Rattle.std.specs.declared.cmp.Ordering.{Ordering}
 use Rattle.std.specs.declared.cmp.Ordering.TheVariants.{Less, Equal, Greater}
 use Rattle.std.specs.Cmp.{nat_cmp_is}
 use Rattle.std.specs.FinMap.{nat_cmp-IsAntisymmetric, slice_cmp-IsAntisymmetric}
-use Rattle.std.specs.Ordering.{is_gt, nat_cmp, ordering_then}
+use Rattle.std.specs.Ordering.{is_gt, nat_cmp, ordering_then, ordering_reverse}
 use Rattle.std.specs.Cmp.Lexicographic.{slice_cmp}
 use Rattle.std.specs.List.{starts_with}
 use Rattle.vortex_types.specs.Values.{Value, text}
 use Rattle.vortex_ranges.specs.Ranges.{RangeView, Admits, is_above, is_under, is_over, is_inside}
-use Rattle.vortex_ranges.specs.Prefixes.{is_past, excludes_prefix}
+use Rattle.vortex_ranges.specs.Prefixes.{is_past, excludes_prefix, begins_with, shares_prefix}
+use Rattle.vortex_ranges.proofs.Tests.{first, second}
 use Rattle.vortex_ranges.proofs.Above.{chained, not_under, not_over, lies_inside, less_is_below}
 
 -- a prefix is not above what begins with it
@@ -78,6 +80,57 @@ module _ (r : RangeView) (prefix rest : List ℕ) (a : Admits r (text (prefix ++
   prefix_is_admitted =
       (λ i. not_over_end r.high (not_over r.low r.high (text (prefix ++ rest)) inside) i
       || not_past_end r.low (not_under r.low r.high (text (prefix ++ rest)) inside) i)
+
+-- between two texts that begin with a prefix each text does
+squeezed : (prefix low high bytes : List ℕ)
+    → is_gt (slice_cmp nat_cmp (prefix ++ low) bytes) ≡ false
+    → is_gt (slice_cmp nat_cmp bytes (prefix ++ high)) ≡ false
+    → (rest : List ℕ) × (bytes ≡ prefix ++ rest)
+squeezed [] low high bytes g h = (bytes, refl)
+squeezed (c ∷ prefix) low high [] g h = cc
+squeezed (c ∷ prefix) low high (b ∷ bytes) g h =
+    by (nat_cmp c b) refl g
+    (subst
+    (λ o. is_gt (ordering_then o (slice_cmp nat_cmp bytes (prefix ++ high))) ≡ false)
+    (nat_cmp_total.antisymm b c) h)
+    (λ g h. squeezed prefix low high bytes g h)
+  where
+    by : (o : Ordering) → nat_cmp c b ≡ o
+        → is_gt (ordering_then o (slice_cmp nat_cmp (prefix ++ low) bytes)) ≡ false
+        → is_gt (ordering_then (ordering_reverse o) (slice_cmp nat_cmp bytes (prefix ++ high)))
+        ≡ false
+        → (is_gt (slice_cmp nat_cmp (prefix ++ low) bytes) ≡ false
+        → is_gt (slice_cmp nat_cmp bytes (prefix ++ high)) ≡ false
+        → (rest : List ℕ) × (bytes ≡ prefix ++ rest))
+        → (rest : List ℕ) × (b ∷ bytes ≡ c ∷ prefix ++ rest)
+    by Less e g h later = cc
+    by Greater e g h later = cc
+    by Equal e g h later =
+        let r = later g h in
+        let same : c ≡ b = nat_cmp-IsAntisymmetric c b e in
+        (r.0, ap (λ (x : ℕ). x ∷ bytes) (sym same) ∙ ap (λ (bs : List ℕ). c ∷ bs) r.1)
+
+begun_end : (prefix : List ℕ) (end : Option Value) → begins_with prefix end ≡ true
+    → (after : List ℕ) × (end ≡ Some (text (prefix ++ after)))
+begun_end prefix (Some (text bytes)) e =
+    let told = starts_is Decides-eqb bytes prefix (starts_with nat_eq bytes prefix) refl in
+    (drop (length prefix) bytes, ap (λ (bs : List ℕ). Some (text bs)) (told.0 e))
+begun_end prefix end e = cc
+
+-- so between two such ends
+pub shared : (r : RangeView) (prefix bytes : List ℕ) → shares_prefix r prefix ≡ true
+    → Admits r (text bytes) → (rest : List ℕ) × (bytes ≡ prefix ++ rest)
+shared r prefix bytes e a =
+    let low = begun_end prefix r.low
+    (first (begins_with prefix r.low) (begins_with prefix r.high) e) in
+    let high = begun_end prefix r.high
+    (second (begins_with prefix r.low) (begins_with prefix r.high) e) in
+    let inside = lies_inside r (text bytes) a in
+    squeezed prefix low.0 high.0 bytes
+    (subst (λ o. is_under o (text bytes) ≡ false) low.1
+    (not_under r.low r.high (text bytes) inside))
+    (subst (λ o. is_over o (text bytes) ≡ false) high.1
+    (not_over r.low r.high (text bytes) inside))
 
 -- between ends that are one text lies that text alone
 pub only_between : (known bytes : List ℕ) → is_above (text known) (text bytes) ≡ false

@@ -1,15 +1,16 @@
 -- Exact results lie between those of the ends.
-use Rattle.std.specs.Prelude.{◌≡◌, ℕ, zero, suc, ◌+◌, ◌≤◌, ◌≤ℤ◌, ◌*ℤ◌, ◌+ℤ◌, ◌-ℤ◌, ℤ, pos}
+use Rattle.std.specs.Prelude.{◌≡◌, ℕ, suc, ◌+◌, ◌≤◌, ◌≤ℤ◌, ◌*ℤ◌, ◌+ℤ◌, ◌-ℤ◌, ℤ, pos}
 use Rattle.std.specs.Prelude.{negsuc, int_div, Some, true, refl}
 use Rattle.std.specs.Int.{int_min, int_max}
 use Rattle.std.proofs.Common.{arith}
 use Rattle.std.proofs.lemmas.Int.{ints, clamps}
-use Rattle.std.proofs.Math.Nat.{mul-le-mul_left, div-le_self}
+use Rattle.std.proofs.Math.Nat.{mul-le-mul_left}
 use borrow.Author.Differences.{up, down}
 use Rattle.vortex_errors.specs.declared.error.NumericOperator.{NumericOperator}
 use Rattle.vortex_errors.specs.declared.error.NumericOperator.TheVariants.{Add, Sub, Mul, Div}
 use Rattle.vortex_operators.specs.Arithmetic.{exact_result}
-use Rattle.vortex_ranges.specs.Arithmetic.{has_results, low_result, high_result}
+use Rattle.vortex_ranges.specs.Arithmetic.{excludes_zero, has_results, low_result, high_result}
+use Rattle.vortex_ranges.proofs.Quotients.{by_dividend, by_divisor, no_zero, exact_quotient}
 
 apart : (x y : ℤ) → x ≤ℤ y → up x + down y ≤ up y + down x
 apart x y h = omega (arith, ints, h)
@@ -72,21 +73,17 @@ product p q a b d e =
           (a *ℤ b) one.1 low.1 high.1,
     )
 
--- a quotient by a number above zero lies between zero and the dividend
-toward_zero : (a : ℤ) (k : ℕ)
-    → (int_min a (pos 0) ≤ℤ int_div a (pos (suc k))) × (int_div a (pos (suc k)) ≤ℤ int_max a (pos 0))
-toward_zero (pos n) k = (
-  omega (arith, ints, clamps, div-le_self n (suc k)),
-  omega (arith, ints, clamps, div-le_self n (suc k)),
-)
-toward_zero (negsuc n) k = (
-  omega (arith, ints, clamps, div-le_self (suc n) (suc k)),
-  omega (arith, ints, clamps, div-le_self (suc n) (suc k)),
-)
-
-wider : (l h a z : ℤ) → l ≤ℤ a → a ≤ℤ h → (int_min a (pos 0) ≤ℤ z) × (z ≤ℤ int_max a (pos 0))
-    → (int_min l (pos 0) ≤ℤ z) × (z ≤ℤ int_max h (pos 0))
-wider l h a z d e p = (omega (arith, ints, clamps, d, p.0), omega (arith, ints, clamps, e, p.1))
+quotients : (p q : ℤ × ℤ) (a b : ℤ) → Lies p a → Lies q b → excludes_zero q ≡ true
+    → Lies (low_result Div p q, high_result Div p q) (int_div a b)
+quotients p q a b d e some =
+    let one = by_dividend p.0 p.1 a b d.0 d.1 (no_zero q.0 q.1 b e.0 e.1 some) in
+    let low = by_divisor q.0 q.1 b p.0 e.0 e.1 some in
+    let high = by_divisor q.0 q.1 b p.1 e.0 e.1 some in (
+      below_four (int_div p.0 b) (int_div p.1 b) (int_div p.0 q.0) (int_div p.0 q.1)
+          (int_div p.1 q.0) (int_div p.1 q.1) (int_div a b) one.0 low.0 high.0,
+      above_four (int_div p.0 b) (int_div p.1 b) (int_div p.0 q.0) (int_div p.0 q.1)
+          (int_div p.1 q.0) (int_div p.1 q.1) (int_div a b) one.1 low.1 high.1,
+    )
 
 -- a result, between the ends of the results
 pub record IsResult (o : NumericOperator) (p q : ℤ × ℤ) (a b : ℤ) : Type 0 where
@@ -108,11 +105,8 @@ has_result Sub p q a b d e h = record {
 }
 has_result Mul p q a b d e h =
     record { result = a *ℤ b; exact = refl; lies = product p q a b d e }
-has_result Div p q a (pos zero) d e h =
-    absurd (omega (arith, ints, h, e.0))
-has_result Div p q a (pos (suc k)) d e h = record {
-  result = int_div a (pos (suc k));
-  exact = refl;
-  lies = wider p.0 p.1 a (int_div a (pos (suc k))) d.0 d.1 (toward_zero a k);
+has_result Div p q a b d e h = record {
+  result = int_div a b;
+  exact = exact_quotient a b (no_zero q.0 q.1 b e.0 e.1 h);
+  lies = quotients p q a b d e h;
 }
-has_result Div p q a (negsuc k) d e h = absurd (omega (arith, ints, h, e.0))

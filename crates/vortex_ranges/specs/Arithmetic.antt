@@ -1,6 +1,6 @@
 -- Ranges of arithmetic, by the ends of the operands.
 use Rattle.std.specs.Prelude.{◌&&◌, ◌||◌, ◌+ℤ◌, ◌-ℤ◌, ◌*ℤ◌, ℤ, pos, negsuc, int_lt, Bool, true}
-use Rattle.std.specs.Prelude.{Option, Some, None, if◌then◌else◌}
+use Rattle.std.specs.Prelude.{Option, Some, None, if◌then◌else◌, int_div}
 use Rattle.std.specs.Int.{int_min, int_max}
 use Rattle.vortex_checked.specs.Exact.{is_outside}
 use Rattle.vortex_errors.specs.declared.error.NumericOperator.{NumericOperator}
@@ -25,9 +25,14 @@ abbrev pub number_ends : Option Value → Option Value → Option (ℤ × ℤ)
 number_ends (Some (number low)) (Some (number high)) = both_of (narrow low) (narrow high)
 number_ends low high = None
 
--- by operands between these ends there is a result: a divisor is known to be above zero
+-- both ends of a divisor lie on one side of zero
+abbrev pub excludes_zero : ℤ × ℤ → Bool
+excludes_zero q =
+    (int_lt (pos 0) q.0 && int_lt (pos 0) q.1) || (int_lt q.0 (pos 0) && int_lt q.1 (pos 0))
+
+-- by operands between these ends there is a result: no divisor is zero
 abbrev pub has_results : NumericOperator → ℤ × ℤ → Bool
-has_results Div q = int_lt (pos 0) q.0
+has_results Div q = excludes_zero q
 has_results o q = true
 
 -- the ends of the exact results
@@ -36,14 +41,18 @@ low_result Add p q = p.0 +ℤ q.0
 low_result Sub p q = p.0 -ℤ q.1
 low_result Mul p q =
     int_min (int_min (p.0 *ℤ q.0) (p.0 *ℤ q.1)) (int_min (p.1 *ℤ q.0) (p.1 *ℤ q.1))
-low_result Div p q = int_min p.0 (pos 0)
+low_result Div p q =
+    int_min (int_min (int_div p.0 q.0) (int_div p.0 q.1))
+    (int_min (int_div p.1 q.0) (int_div p.1 q.1))
 
 abbrev pub high_result : NumericOperator → ℤ × ℤ → ℤ × ℤ → ℤ
 high_result Add p q = p.1 +ℤ q.1
 high_result Sub p q = p.1 -ℤ q.0
 high_result Mul p q =
     int_max (int_max (p.0 *ℤ q.0) (p.0 *ℤ q.1)) (int_max (p.1 *ℤ q.0) (p.1 *ℤ q.1))
-high_result Div p q = int_max p.1 (pos 0)
+high_result Div p q =
+    int_max (int_max (int_div p.0 q.0) (int_div p.0 q.1))
+    (int_max (int_div p.1 q.0) (int_div p.1 q.1))
 
 -- numbers of a type between two ends; a result past the ends of the type is a fault
 abbrev pub numbers : PType → Bool → Bool → ℤ → ℤ → RangeView

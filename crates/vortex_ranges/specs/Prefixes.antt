@@ -1,6 +1,6 @@
 -- Whether texts between two ends can begin with a prefix, or match a pattern.
-use Rattle.std.specs.Prelude.{◌≡◌, ◌&&◌, ◌||◌, ◌++◌, ℕ, List, [], ◌∷◌, Bool, false, not, Option, Some}
-use Rattle.std.specs.Prelude.{IsUtf8, nat_eq}
+use Rattle.std.specs.Prelude.{◌≡◌, ◌&&◌, ◌||◌, ◌++◌, ℕ, List, [], ◌∷◌, Bool, true, false, not}
+use Rattle.std.specs.Prelude.{Option, Some, IsUtf8, nat_eq, if◌then◌else◌}
 use Rattle.std.specs.List.{starts_with}
 use Rattle.std.specs.Cow.{cow_str_bytes}
 use Rattle.std.specs.Str.{chars}
@@ -10,6 +10,7 @@ use Rattle.vortex_like.specs.declared.options.LikeOptions.{LikeOptions}
 use Rattle.vortex_like.specs.Tokens.{tokens_of, is_match, Match}
 use Rattle.vortex_like.specs.declared.variant.LikeVariant.{LikeVariant}
 use Rattle.vortex_like.specs.declared.variant.LikeVariant.TheVariants.{Exact, Prefix}
+use Rattle.vortex_ranges.specs.declared.like.Matches.{Matches}
 use Rattle.vortex_ranges.specs.Ranges.{RangeView, Admits, is_above, is_over}
 use Rattle.vortex_interface.specs.Shipped.{Like, shipped_type, shipped_means}
 use Rattle.vortex_ranges.specs.Calls.{AdmitsCalls}
@@ -25,6 +26,15 @@ is_past prefix low = false
 abbrev pub excludes_prefix : RangeView → List ℕ → Bool
 excludes_prefix r prefix = is_over r.high (text prefix) || is_past prefix r.low
 
+-- an end begins with the prefix
+abbrev pub begins_with : List ℕ → Option Value → Bool
+begins_with prefix (Some (text end)) = starts_with nat_eq end prefix
+begins_with prefix end = false
+
+-- each text between the ends begins with the prefix, as both ends do
+abbrev pub shares_prefix : RangeView → List ℕ → Bool
+shares_prefix r prefix = begins_with prefix r.low && begins_with prefix r.high
+
 -- the text matches the pattern, negated or not
 abbrev pub matches : LikeOptions → List ℕ → List ℕ → Bool
 matches options bytes pattern =
@@ -36,11 +46,23 @@ NoneMatch options r s =
     (bytes pattern : List ℕ) → IsUtf8 bytes → IsUtf8 pattern → Admits r (text bytes)
     → Admits s (text pattern) → matches options bytes pattern ≡ false
 
--- the range of Like where a text may match, or none does
-abbrev pub likeness : LikeOptions → Bool → RangeView → RangeView → RangeView
-likeness options possible r s =
-    truths (r.may_be_null || s.may_be_null) (possible || not options.negated)
-    (possible || options.negated)
+-- each admitted text matches each admitted pattern
+abbrev pub AllMatch : LikeOptions → RangeView → RangeView → Type 0
+AllMatch options r s =
+    (bytes pattern : List ℕ) → IsUtf8 bytes → IsUtf8 pattern → Admits r (text bytes)
+    → Admits s (text pattern) → matches options bytes pattern ≡ true
+
+-- no admitted text matches unless that is possible, and each does if that is certain
+abbrev pub AreMatches : LikeOptions → RangeView → RangeView → Matches → Type 0
+AreMatches options r s m =
+    (m.possible ≡ false → NoneMatch options r s) × (m.certain ≡ true → AllMatch options r s)
+
+-- the range of Like, by whether a text may match, and whether each does
+abbrev pub likeness : LikeOptions → Bool → Bool → RangeView → RangeView → RangeView
+likeness options possible certain r s =
+    truths (r.may_be_null || s.may_be_null)
+    (if options.negated then possible else not certain)
+    (if options.negated then not certain else possible)
 
 -- the only text that is admitted
 abbrev pub IsOnlyText : RangeView → List ℕ → Type 0
@@ -66,6 +88,18 @@ abbrev pub NoneIsLike : Option ℕ → RangeView → List ℕ → Type 0
 NoneIsLike escape r pattern =
     (bytes : List ℕ) → IsUtf8 bytes → Admits r (text bytes)
     → ¬ Match false (tokens_of escape (chars pattern)) (chars bytes)
+
+-- each admitted text matches it
+abbrev pub AllAreLike : Option ℕ → RangeView → List ℕ → Type 0
+AllAreLike escape r pattern =
+    (bytes : List ℕ) → IsUtf8 bytes → Admits r (text bytes)
+    → Match false (tokens_of escape (chars pattern)) (chars bytes)
+
+-- the same two of a pattern that is known
+abbrev pub AreLike : Option ℕ → RangeView → List ℕ → Matches → Type 0
+AreLike escape r pattern m =
+    (m.possible ≡ false → NoneIsLike escape r pattern)
+    × (m.certain ≡ true → AllAreLike escape r pattern)
 
 -- the range admits the outcome of each call of Like on what the two admit
 abbrev pub AdmitsLike : LikeOptions → RangeView → RangeView → RangeView → Type 0

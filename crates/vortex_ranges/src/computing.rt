@@ -1,12 +1,12 @@
 //! Ranges of arithmetic, by the ends of the operands.
-ghost use Rattle.std.specs.Prelude.{◌≡◌, ◌||◌, ◌&&◌, ◌*ℤ◌, int_lt};
+ghost use Rattle.std.specs.Prelude.{◌≡◌, ◌≢◌, ◌||◌, ◌&&◌, ◌*ℤ◌, int_lt, int_div, pos, true};
 ghost use Rattle.std.specs.Int.{int_min, int_max};
 ghost use Rattle.vortex_types.specs.TypeOf.{type_of};
 ghost use Rattle.vortex_types.specs.Typing.{least_of, greatest_of};
 ghost use Rattle.vortex_ranges.specs.BoundViews.{end_of, range_of};
-ghost use Rattle.vortex_ranges.specs.Arithmetic.{narrow, number_ends, has_results, low_result};
-ghost use Rattle.vortex_ranges.specs.Arithmetic.{high_result, numbers, any_number, results};
-ghost use Rattle.vortex_ranges.specs.Arithmetic.{integer_range, arithmetic_range};
+ghost use Rattle.vortex_ranges.specs.Arithmetic.{narrow, number_ends, excludes_zero, has_results};
+ghost use Rattle.vortex_ranges.specs.Arithmetic.{low_result, high_result, numbers, any_number};
+ghost use Rattle.vortex_ranges.specs.Arithmetic.{results, integer_range, arithmetic_range};
 
 use crate::bound::Bound;
 use crate::range::Range;
@@ -55,6 +55,14 @@ fn greater(left: i128, right: i128) -> i128
     left.max(right)
 }
 
+/// The quotient, truncated toward zero.
+fn quotient(left: i64, right: i64) -> i128
+    requires { right ≢ pos 0 }
+    ensures { result ≡ int_div left right }
+{
+    i128::from(left) / i128::from(right)
+}
+
 fn least_product(left: i64, right: (i64, i64)) -> i128
     ensures { result ≡ int_min (left *ℤ right.0) (left *ℤ right.1) }
 {
@@ -67,12 +75,33 @@ fn greatest_product(left: i64, right: (i64, i64)) -> i128
     greater(product(left, right.0), product(left, right.1))
 }
 
-/// Whether each operand between the ends has a result: no divisor may be zero or below.
+fn least_quotient(left: i64, right: (i64, i64)) -> i128
+    requires { excludes_zero right ≡ true }
+    ensures { result ≡ int_min (int_div left right.0) (int_div left right.1) }
+{
+    lesser(quotient(left, right.0), quotient(left, right.1))
+}
+
+fn greatest_quotient(left: i64, right: (i64, i64)) -> i128
+    requires { excludes_zero right ≡ true }
+    ensures { result ≡ int_max (int_div left right.0) (int_div left right.1) }
+{
+    greater(quotient(left, right.0), quotient(left, right.1))
+}
+
+/// Whether both ends of a divisor lie on one side of zero.
+fn excludes_zero(ends: (i64, i64)) -> bool
+    ensures { result ≡ excludes_zero ends }
+{
+    (0 < ends.0 && 0 < ends.1) || (ends.0 < 0 && ends.1 < 0)
+}
+
+/// Whether each operand between the ends has a result: no divisor may be zero.
 fn has_results(operator: NumericOperator, right: (i64, i64)) -> bool
     ensures { result ≡ has_results operator right }
 {
     match operator {
-        NumericOperator::Div => 0 < right.0,
+        NumericOperator::Div => excludes_zero(right),
         NumericOperator::Add => true,
         NumericOperator::Sub => true,
         NumericOperator::Mul => true,
@@ -81,18 +110,22 @@ fn has_results(operator: NumericOperator, right: (i64, i64)) -> bool
 
 /// The low end of the exact results.
 fn low_result(operator: NumericOperator, left: (i64, i64), right: (i64, i64)) -> i128
+    requires { has_results operator right ≡ true }
     ensures { result ≡ low_result operator left right }
 {
     match operator {
         NumericOperator::Add => i128::from(left.0) + i128::from(right.0),
         NumericOperator::Sub => i128::from(left.0) - i128::from(right.1),
         NumericOperator::Mul => lesser(least_product(left.0, right), least_product(left.1, right)),
-        NumericOperator::Div => lesser(i128::from(left.0), 0),
+        NumericOperator::Div => {
+            lesser(least_quotient(left.0, right), least_quotient(left.1, right))
+        }
     }
 }
 
 /// And the high end.
 fn high_result(operator: NumericOperator, left: (i64, i64), right: (i64, i64)) -> i128
+    requires { has_results operator right ≡ true }
     ensures { result ≡ high_result operator left right }
 {
     match operator {
@@ -104,7 +137,12 @@ fn high_result(operator: NumericOperator, left: (i64, i64), right: (i64, i64)) -
                 greatest_product(left.1, right),
             )
         }
-        NumericOperator::Div => greater(i128::from(left.1), 0),
+        NumericOperator::Div => {
+            greater(
+                greatest_quotient(left.0, right),
+                greatest_quotient(left.1, right),
+            )
+        }
     }
 }
 

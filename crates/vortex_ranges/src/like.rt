@@ -1,22 +1,33 @@
 //! The range of a call of Like.
-ghost use Rattle.std.specs.Prelude.{◌≡◌, map, false, IfSome, Some};
+ghost use Rattle.std.specs.Prelude.{◌≡◌, map, true, false, IfSome, Some};
+ghost use Rattle.std.specs.Str.{chars};
 ghost use Rattle.vortex_types.specs.Values.{text};
 ghost use Rattle.vortex_errors.specs.Answers.{AnswersUnlessMemory};
 ghost use Rattle.vortex_types.specs.TypeOf.{type_of};
+ghost use Rattle.vortex_like.specs.Tokens.{tokens_of, Match};
+ghost use Rattle.vortex_like.specs.Variants.{AreLiteralThenWildcard, IsVariantOf};
 ghost use Rattle.vortex_interface.specs.Shipped.{Like, shipped_type, shipped_means};
 ghost use Rattle.vortex_ranges.specs.BoundViews.{end_of, range_of};
 ghost use Rattle.vortex_ranges.specs.Calls.{AdmitsCalls};
-ghost use Rattle.vortex_ranges.specs.Prefixes.{is_past, excludes_prefix, NoneMatch, likeness};
-ghost use Rattle.vortex_ranges.specs.Prefixes.{IsOnlyText, NoneBegins, NoneEquals, NoneIs};
-ghost use Rattle.vortex_ranges.specs.Prefixes.{NoneIsLike, AdmitsLike};
+ghost use Rattle.vortex_ranges.specs.Prefixes.{is_past, excludes_prefix, begins_with};
+ghost use Rattle.vortex_ranges.specs.Prefixes.{shares_prefix, IsOnlyText, NoneBegins, NoneEquals};
+ghost use Rattle.vortex_ranges.specs.Prefixes.{NoneIs, AllAreLike, AreLike, AreMatches, likeness};
+ghost use Rattle.vortex_ranges.specs.Prefixes.{AdmitsLike};
 
 use crate::bound::Bound;
 use crate::range::Range;
 use std::alloc::Global;
 use std::borrow::CowStr;
 use std::str;
-use vortex_like::{LikeOptions, LikeVariant};
+use vortex_like::{LikeOptions, LikePattern, LikeVariant};
 use vortex_types::{DType, VortexResult};
+
+/// Whether some text may match a pattern, and whether each does.
+#[derive(Clone, Copy)]
+struct Matches {
+    possible: bool,
+    certain: bool,
+}
 
 /// Whether a low end is above each text that begins with the prefix.
 fn is_past(prefix: &[u8], low: &Option<Bound<'_>>) -> bool
@@ -35,6 +46,23 @@ fn excludes_prefix(text: &Range<'_>, prefix: &[u8]) -> bool
     ensures { result ≡ excludes_prefix (range_of text.now) prefix.now }
 {
     Bound::Text(prefix).is_over(&text.high) || is_past(prefix, &text.low)
+}
+
+/// Whether an end begins with the prefix.
+fn begins_with(prefix: &[u8], end: &Option<Bound<'_>>) -> bool
+    ensures { result ≡ begins_with prefix.now (end_of end.now) }
+{
+    match end {
+        Some(Bound::Text(end)) => end.starts_with(prefix),
+        _ => false,
+    }
+}
+
+/// Whether both ends begin with the prefix, and so each text between them.
+fn shares_prefix(text: &Range<'_>, prefix: &[u8]) -> bool
+    ensures { result ≡ shares_prefix (range_of text.now) prefix.now }
+{
+    begins_with(prefix, &text.low) && begins_with(prefix, &text.high)
 }
 
 /// The text of an end, if it is one.
@@ -88,58 +116,137 @@ fn may_be_variant(text: &Range<'_>, variant: &LikeVariant<'_>) -> bool
     }
 }
 
-/// Whether some text may match a pattern of that case, as far as that is seen: where the pattern is
-/// one text or has a prefix.
-fn may_be_like(
+/// Whether the pattern matches a text, in that case.
+fn is_matched(alloc: Global, escape: Option<char>, pattern: &str, text: &str) -> VortexResult<bool>
+    ensures { AnswersUnlessMemory result (λ b. b ≡ true
+        → Match false (tokens_of escape (chars pattern.now)) (chars text.now)) }
+{
+    let options = LikeOptions {
+        negated: false,
+        case_insensitive: false,
+        escape,
+    };
+    let compiled = LikePattern::compile_with(alloc, pattern, options, false)?;
+    Ok(compiled.matches(text.as_bytes()))
+}
+
+/// Whether each text matches a pattern that has a wildcard after that prefix, as far as that is
+/// seen: each text begins with the prefix, and the pattern, as it matches the prefix alone, has
+/// only `%` after it.
+fn must_begin(
     alloc: Global,
     escape: Option<char>,
     text: &Range<'_>,
     pattern: &str,
+    prefix: &str,
 ) -> VortexResult<bool>
+    requires { AreLiteralThenWildcard (tokens_of escape (chars pattern.now)) (chars prefix.now) }
     ensures { AnswersUnlessMemory result
-        (λ b. b ≡ false → NoneIsLike escape (range_of text.now) pattern.now) }
+        (λ b. b ≡ true → AllAreLike escape (range_of text.now) pattern.now) }
 {
-    match LikeVariant::from_str_with(alloc, pattern, escape)? {
-        Some(variant) => Ok(may_be_variant(text, &variant)),
-        None => Ok(true),
+    if shares_prefix(text, prefix.as_bytes()) {
+        Ok(is_matched(alloc, escape, pattern, prefix)?)
+    } else {
+        Ok(false)
     }
 }
 
-/// Whether some text may match the pattern, as far as that is seen: of a pattern that is known, and
-/// is not matched regardless of case.
-fn may_match(
+/// Whether each text is that one.
+fn must_equal(text: &Range<'_>, exact: &str) -> bool
+    ensures { result ≡ true → IsOnlyText (range_of text.now) exact.now }
+{
+    match only_text(text) {
+        Some(known) => known == exact,
+        None => false,
+    }
+}
+
+/// Whether each text matches the pattern of that variant, as far as that is seen.
+fn must_be_variant(
+    alloc: Global,
+    escape: Option<char>,
+    text: &Range<'_>,
+    pattern: &str,
+    variant: &LikeVariant<'_>,
+) -> VortexResult<bool>
+    requires { IsVariantOf escape (chars pattern.now) (Some variant.now) }
+    ensures { AnswersUnlessMemory result
+        (λ b. b ≡ true → AllAreLike escape (range_of text.now) pattern.now) }
+{
+    match variant {
+        LikeVariant::Exact(CowStr::Borrowed(exact)) => Ok(must_equal(text, exact)),
+        LikeVariant::Exact(CowStr::Owned(exact)) => Ok(must_equal(text, exact.as_str())),
+        LikeVariant::Prefix(CowStr::Borrowed(prefix)) => {
+            Ok(must_begin(alloc, escape, text, pattern, prefix)?)
+        }
+        LikeVariant::Prefix(CowStr::Owned(prefix)) => {
+            Ok(must_begin(alloc, escape, text, pattern, prefix.as_str())?)
+        }
+    }
+}
+
+/// Whether texts match a pattern of that case, as far as that is seen: where the pattern is one
+/// text, or a prefix and `%`, or `%` alone.
+fn matches_of(
+    alloc: Global,
+    escape: Option<char>,
+    text: &Range<'_>,
+    pattern: &str,
+) -> VortexResult<Matches>
+    ensures { AnswersUnlessMemory result (AreLike escape (range_of text.now) pattern.now) }
+{
+    match LikeVariant::from_str_with(alloc, pattern, escape)? {
+        Some(variant) => Ok(Matches {
+            possible: may_be_variant(text, &variant),
+            certain: must_be_variant(alloc, escape, text, pattern, &variant)?,
+        }),
+        None => Ok(Matches {
+            possible: true,
+            certain: is_matched(alloc, escape, pattern, "")?,
+        }),
+    }
+}
+
+/// Whether texts match the pattern, as far as that is seen: of a pattern that is known, and is not
+/// matched regardless of case.
+fn matches_of_two(
     alloc: Global,
     options: LikeOptions,
     text: &Range<'_>,
     pattern: &Range<'_>,
-) -> VortexResult<bool>
+) -> VortexResult<Matches>
     ensures { AnswersUnlessMemory result
-        (λ b. b ≡ false → NoneMatch options (range_of text.now) (range_of pattern.now)) }
+        (AreMatches options (range_of text.now) (range_of pattern.now)) }
 {
+    let unknown = Matches {
+        possible: true,
+        certain: false,
+    };
     if options.case_insensitive {
-        return Ok(true);
+        return Ok(unknown);
     }
     match only_text(pattern) {
-        Some(pattern) => Ok(may_be_like(alloc, options.escape, text, pattern)?),
-        None => Ok(true),
+        Some(pattern) => Ok(matches_of(alloc, options.escape, text, pattern)?),
+        None => Ok(unknown),
     }
 }
 
-/// The results of Like where a text may match, or none does.
+/// The results of Like where texts may match, or must.
 fn likeness<'a>(
     options: LikeOptions,
-    possible: bool,
+    matches: Matches,
     text: &Range<'_>,
     pattern: &Range<'_>,
 ) -> Range<'a>
-    ensures { range_of result
-        ≡ likeness options possible (range_of text.now) (range_of pattern.now) }
+    ensures { range_of result ≡ likeness options matches.possible matches.certain
+        (range_of text.now) (range_of pattern.now) }
 {
-    Range::truths(
-        text.may_be_null || pattern.may_be_null,
-        possible || !options.negated,
-        possible || options.negated,
-    )
+    let null = text.may_be_null || pattern.may_be_null;
+    if options.negated {
+        Range::truths(null, matches.possible, !matches.certain)
+    } else {
+        Range::truths(null, !matches.certain, matches.possible)
+    }
 }
 
 /// The range of a call of Like, of texts and their pattern. Fails only where memory runs out.
@@ -152,8 +259,8 @@ fn like_of_two<'a>(
     ensures { AnswersUnlessMemory result
         (λ r. AdmitsLike options (range_of text.now) (range_of pattern.now) (range_of r)) }
 {
-    let possible = may_match(alloc, options, text, pattern)?;
-    Ok(likeness(options, possible, text, pattern))
+    let matches = matches_of_two(alloc, options, text, pattern)?;
+    Ok(likeness(options, matches, text, pattern))
 }
 
 /// The range of a call of Like: the texts, and their pattern. Fails only where memory runs out.

@@ -12,4 +12,4 @@ returns c = λ t.
     let y = range_of c.args.pattern.now in
     subst (λ r. AdmitsCalls (shipped_type s) (shipped_means s) t (x ∷ y ∷ []) r)
     (sym c.likeness.ensures)
-    (like-admits c.args.options c.in_ok-possible.possible x y c.in_ok-possible.ensures t)
+    (like-admits c.args.options c.in_ok-matches.matches x y c.in_ok-matches.ensures t)
