@@ -96,6 +96,9 @@ fn read_columns(alloc: Global, text: &str) -> VortexResult<LogicalBatch> {
         let Some((kind, cells)) = rest.split_once(' ') else {
             return Err(VortexError::InvalidColumn);
         };
+        if batch.scope.find(name).is_some() {
+            return Err(VortexError::InvalidColumn);
+        }
         let (kind, column) = column_of(alloc, kind, cells)?;
         batch.row_count = column.len();
         let dtype = column.dtype().try_clone(alloc)?;
