@@ -74,8 +74,9 @@ fn bind_answer(
 }
 
 /// The answers of a list that was parsed from the text, over the columns of a scope whose values are
-/// of these kinds, by place; further columns are plain. They are the results of the steps of its trees, from left to right, with their names. Fails with the first error, at its
-/// position in the text.
+/// of these kinds, by place; further columns are plain. They are the results of the steps of its
+/// trees, from left to right, with their names. Fails with the first error, at its position in the
+/// text.
 pub fn bind_answers(
     alloc: Global,
     scope: &StructFields,
