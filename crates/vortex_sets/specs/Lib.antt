@@ -1,1 +1,1 @@
-pub mod IntSets
+pub mod ItemSets

@@ -2,6 +2,8 @@
 #![tactic(auto)]
 
 mod buckets;
-pub mod int_set;
+pub mod item;
+pub mod item_set;
 
-pub use int_set::IntSet;
+pub use item::{IntItem, SetItem, TextItem};
+pub use item_set::ItemSet;

@@ -1,85 +1,113 @@
 -- Rows that are looked up, as `in_list` says.
-use Rattle.std.proofs.Common.{◌≡◌, ◌<◌, ℕ, ℤ, pos, Bool, true, false, ◌||◌, ◌&&◌, not, cond, List, []}
-use Rattle.std.proofs.Common.{◌∷◌, length, drop, refl, sym, subst, ap, ◌∙◌, Some, arith}
+use Rattle.std.proofs.Common.{◌≡◌, ◌<◌, ℕ, Bool, true, false, ◌||◌, ◌&&◌, not, cond, List, []}
+use Rattle.std.proofs.Common.{◌∷◌, length, drop, map, refl, sym, subst, suc, ap, ◌∙◌, Some, pos, ℤ, arith}
 use Rattle.std.specs.Prelude.{slice_get, slice_index_or}
 use Rattle.std.specs.List.{list_any}
-use Rattle.vortex_types.specs.LogicalTypes.{LogicalType}
-use Rattle.vortex_types.specs.Values.{Value, null, number, truth, is_null}
-use Rattle.vortex_columns.specs.ColumnView.{ColumnView, row, IsUnlessNull, AreInts}
+use Rattle.std.proofs.lemmas.List.{length-map}
+use Rattle.vortex_types.specs.LogicalTypes.{LogicalType, text_type}
+use Rattle.vortex_types.specs.Values.{Value, null, number, text, truth, is_null}
+use Rattle.vortex_columns.specs.ColumnView.{ColumnView, row, IsUnlessNull, AreInts, AreBytes}
+use Rattle.vortex_columns.specs.ColumnView.{bytes_value}
 use Rattle.vortex_interface.specs.Outcomes.{values_at}
 use Rattle.vortex_kernels.specs.Rows.{HasRows}
-use Rattle.vortex_sets.specs.IntSets.{is_member}
+use Rattle.vortex_sets.specs.ItemSets.{is_member}
 use Rattle.vortex_sql_choices.specs.InList.{is_same, in_list, listed}
-use Rattle.vortex_sql_in_list.specs.InLists.{AreListed, in_numbers}
+use Rattle.vortex_sql_in_list.specs.InLists.{AreListed, AreItems, in_values}
 
-told : (m n b : Bool) → b ≡ m
-    → cond (not n || m) (truth b) null ≡ cond m (truth true) (cond n null (truth false))
+-- where a value is not null: a member, else null where the list has one
+abbrev found : Bool → Bool → Value
+found m n = cond m (truth true) (cond n null (truth false))
+
+told : (m n b : Bool) → b ≡ m → cond (not n || m) (truth b) null ≡ found m n
 told true true b e = ap truth e
 told true false b e = ap truth e
 told false true b e = refl
 told false false b e = ap truth e
 
-pub found_row : (zs : List ℤ) (n : Bool) (v : Value) (z : ℤ) (b : Bool) → IsUnlessNull v (number z)
-    → b ≡ is_member zs z
-    → cond (not (is_null v) && (not n || is_member zs z)) (truth b) null ≡ in_numbers zs n v
-found_row zs n v z b h e = by (is_null v) refl
+pub found_row : (vs : List Value) (n : Bool) (v w : Value) (b : Bool) → IsUnlessNull v w
+    → b ≡ is_member vs w
+    → cond (not (is_null v) && (not n || is_member vs w)) (truth b) null ≡ in_values vs n v
+found_row vs n v w b h e = by (is_null v) refl
   where
-    Told : Value → Type 0
-    Told w =
-        cond (not (is_null w) && (not n || is_member zs z)) (truth b) null ≡ in_numbers zs n w
+    side : Bool → Value
+    side x = cond (not x && (not n || is_member vs w)) (truth b) null
 
-    none : (w : Value) → is_null w ≡ true → Told w
-    none null k = refl
-    none w k = cc
-
-    by : (x : Bool) → is_null v ≡ x → Told v
-    by true k = none v k
-    by false k = subst Told (sym (h k)) (told (is_member zs z) n b e)
+    by : (x : Bool) → is_null v ≡ x → side (is_null v) ≡ in_values vs n v
+    by true k = ap side k ∙ sym (ap (λ x. cond x null (found (is_member vs v) n)) k)
+    by false k =
+        ap side k ∙ told (is_member vs w) n b e
+        ∙ sym
+        (ap (λ x. cond x null (found (is_member vs v) n)) k
+        ∙ ap (λ u. found (is_member vs u) n) (h k))
 
 -- a row of the first input is looked up in the others
-listed_row : (zs : List ℤ) (n : Bool) (ws : List Value) (v : Value) (z : ℤ) → AreListed zs n ws
-    → IsUnlessNull v (number z) → in_numbers zs n v ≡ listed v ws
-listed_row zs n ws v z a h = by (is_null v) refl
+listed_row : (vs : List Value) (n : Bool) (ws : List Value) (v : Value) → AreListed vs n ws
+    → in_values vs n v ≡ listed v ws
+listed_row vs n ws v a = by (is_null v) refl
   where
-    Told : Value → Type 0
-    Told w = in_numbers zs n w ≡ listed w ws
+    by : (x : Bool) → is_null v ≡ x → in_values vs n v ≡ listed v ws
+    by true k =
+        ap (λ x. cond x null (found (is_member vs v) n)) k
+        ∙ sym
+        (ap (λ x. cond x null (found (list_any (is_same v) ws) (list_any is_null ws))) k)
+    by false k =
+        ap (λ m. cond (is_null v) null (found m n)) (sym (a.has v k))
+        ∙ ap (λ m. cond (is_null v) null (found (list_any (is_same v) ws) m)) (sym a.null)
 
-    none : (w : Value) → is_null w ≡ true → Told w
-    none null k = refl
-    none w k = cc
-
-    known : Told (number z)
-    known =
-        ap (λ b. cond b (truth true) (cond n null (truth false))) (sym (a.has z))
-        ∙ ap (λ b. cond (list_any (is_same (number z)) ws) (truth true) (cond b null (truth false)))
-        (sym a.null)
-
-    by : (x : Bool) → is_null v ≡ x → Told v
-    by true k = none v k
-    by false k = subst Told (sym (h k)) known
-
-pub in_list_of : (cs : List ColumnView) (c : ColumnView) (i : ℕ) (zs : List ℤ) (n : Bool) (z : ℤ)
-    → slice_get cs 0 ≡ Some c → AreListed zs n (drop 1 (values_at cs i))
-    → IsUnlessNull (row c.rows i) (number z)
-    → in_numbers zs n (row c.rows i) ≡ in_list (values_at cs i)
-in_list_of [] c i zs n z e a h = cc
-in_list_of (d ∷ ds) c i zs n z e a h =
-    listed_row zs n (values_at ds i) (row c.rows i) z a h
+in_list_of : (cs : List ColumnView) (c : ColumnView) (i : ℕ) (vs : List Value) (n : Bool)
+    → slice_get cs 0 ≡ Some c → AreListed vs n (drop 1 (values_at cs i))
+    → in_values vs n (row c.rows i) ≡ in_list (values_at cs i)
+in_list_of [] c i vs n e a = cc
+in_list_of (d ∷ ds) c i vs n e a =
+    listed_row vs n (values_at ds i) (row c.rows i) a
     ∙ ap (λ v. listed v (values_at ds i)) (ap (λ (x : ColumnView). row x.rows i) (sym same))
   where
     same : d ≡ c
     same = cc
 
-pub looked_up_rows : (cs : List ColumnView) (c made : ColumnView) (rows : ℕ) (zs ns : List ℤ)
-    (n : Bool) (t u : LogicalType) → slice_get cs 0 ≡ Some c → length c.rows ≡ rows → AreInts c ns
-    → ((i : ℕ) → i < rows → AreListed zs n (drop 1 (values_at cs i))) → t ≡ u
-    → HasRows u (length c.rows) (λ i. in_numbers zs n (row c.rows i)) made
+pub looked_up_rows : (cs : List ColumnView) (c made : ColumnView) (rows : ℕ) (vs : List Value)
+    (n : Bool) (t u : LogicalType) → slice_get cs 0 ≡ Some c → length c.rows ≡ rows
+    → ((i : ℕ) → i < rows → AreListed vs n (drop 1 (values_at cs i))) → t ≡ u
+    → HasRows u (length c.rows) (λ i. in_values vs n (row c.rows i)) made
     → HasRows t rows (λ i. in_list (values_at cs i)) made
-looked_up_rows cs c made rows zs ns n t u first count ints listed same is = record {
+looked_up_rows cs c made rows vs n t u first count listed same is = record {
   dtype = is.dtype ∙ sym same;
   count = is.count ∙ count;
   each = λ i lt.
-      is.each i (omega (arith, lt, count))
-      ∙ in_list_of cs c i zs n (slice_index_or ns i (pos 0)) first (listed i lt)
-      (ints.each i (omega (arith, lt, count, ints.count)));
+      is.each i (omega (arith, lt, count)) ∙ in_list_of cs c i vs n first (listed i lt);
+}
+
+-- integers and texts of rows as values
+number_at : {X : Type 0} (f : X → ℤ) (xs : List X) (i : ℕ) → i < length xs
+    → slice_index_or (map (λ x. number (f x)) xs) i null
+    ≡ number (slice_index_or (map f xs) i (pos 0))
+number_at f [] i l = absurd (omega (arith, l))
+number_at f (x ∷ xs) 0 l = refl
+number_at f (x ∷ xs) (suc i) l = number_at f xs i (omega (arith, l))
+
+text_at : (xs : List (List ℕ)) (i : ℕ) → i < length xs
+    → slice_index_or (map text xs) i null ≡ text (slice_index_or xs i [])
+text_at [] i l = absurd (omega (arith, l))
+text_at (x ∷ xs) 0 l = refl
+text_at (x ∷ xs) (suc i) l = text_at xs i (omega (arith, l))
+
+pub int_items : {X : Type 0} (f : X → ℤ) (c : ColumnView) (xs : List X) → AreInts c (map f xs)
+    → AreItems c (map (λ x. number (f x)) xs)
+int_items f c xs h = record {
+  count = length-map xs (λ x. number (f x)) ∙ sym (length-map xs f) ∙ h.count;
+  each = λ i lt.
+      let within : i < length xs = omega (arith, lt, length-map xs (λ x. number (f x))) in
+      subst (IsUnlessNull (row c.rows i)) (sym (number_at f xs i within))
+      (h.each i (omega (arith, within, length-map xs f)));
+}
+
+pub text_items : (c : ColumnView) (n : Bool) (bs : List (List ℕ)) → c.dtype ≡ text_type n
+    → AreBytes c bs → AreItems c (map text bs)
+text_items c n bs e h = record {
+  count = length-map bs text ∙ h.count;
+  each = λ i lt.
+      let within : i < length bs = omega (arith, lt, length-map bs text) in
+      subst (IsUnlessNull (row c.rows i))
+      (ap (λ t. bytes_value t (slice_index_or bs i [])) e ∙ sym (text_at bs i within))
+      (h.each i within);
 }

@@ -4,5 +4,6 @@
 mod execute;
 mod found;
 mod items;
+mod rows;
 
 pub use execute::execute_in_list;

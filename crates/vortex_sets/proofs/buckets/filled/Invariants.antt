@@ -1,6 +1,6 @@
 use Rattle.std.proofs.Common.{◌≡◌, ◌+◌, ◌*◌, length, map, true}
 use Rattle.std.specs.List.{list_all}
-use Rattle.vortex_sets.specs.IntSets.{is_member}
+use Rattle.vortex_sets.specs.ItemSets.{is_member}
 use Rattle.vortex_sets.proofs.buckets.filled.Given as goal
 
 -- each slot has an item
@@ -8,6 +8,6 @@ abbrev pub invariant-loop-item : goal.invariant-loop-item
 invariant-loop-item g l =
     (length l.slots.items ≡ 4 * l.last + 4)
     × (list_all
-    (λ y. is_member (map g.T.NativePType.number l.items) (g.T.NativePType.number y))
+    (λ y. is_member (map g.I.SetItem.value l.items) (g.I.SetItem.value y))
     l.slots.items
     ≡ true)

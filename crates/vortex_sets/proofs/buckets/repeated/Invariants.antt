@@ -6,4 +6,4 @@ use Rattle.vortex_sets.proofs.buckets.repeated.Given as goal
 abbrev pub invariant-loop : goal.invariant-loop
 invariant-loop g l =
     (length l.slots.items ≡ l.counter)
-    × ((p : g.row.T.Denot → Bool) → p l.item ≡ true → list_all p l.slots.items ≡ true)
+    × ((p : g.row.I.Denot → Bool) → p l.item ≡ true → list_all p l.slots.items ≡ true)

@@ -11,7 +11,8 @@ loop-k-preserved g c = (
   λ i lt.
       next_listed (g.A.ExecutionArgs.inputs c.args.args.now) c.loop-k.k c.in_ok-input.input.now
       c.loop-k.invariant.0 (omega (arith, c.num_inputs-k-end.ensures, c.loop-k-test.true))
-      c.in_ok-input.ensures.input g.T.NativePType.number c.in-Some.item i _ _ _ _ c.in_ok-add.ensures
+      c.in_ok-input.ensures.input g.I.SetItem.value g.I.SetItem.never_null
+      c.in-Some.item i _ _ _ _ c.in_ok-add.ensures
       (c.in-Some.ensures i (omega (arith, lt, c.in_ok-input.ensures.count)))
       (c.loop-k.invariant.1 i lt),
 )
@@ -19,7 +20,7 @@ loop-k-preserved g c = (
 pub returns : goal.returns
 returns g c = λ i lt.
     subst
-    (λ xs. AreListed (map g.T.NativePType.number c.loop-k.items.numbers.items)
+    (λ xs. AreListed (map g.I.SetItem.value c.loop-k.items.values.items)
     c.loop-k.items.has_null (drop 1 (values_at xs i)))
     (take_all c.loop-k.k (g.A.ExecutionArgs.inputs c.args.args.now)
     (omega (arith, c.num_inputs-k-end.ensures, c.loop-k-test.false)))

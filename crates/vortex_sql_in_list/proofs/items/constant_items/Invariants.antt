@@ -8,5 +8,5 @@ abbrev pub invariant-loop-k : goal.invariant-loop-k
 invariant-loop-k g l =
     (1 ≤ l.k)
     × ((i : ℕ) → i < g.A.ExecutionArgs.rows l.args
-    → AreListed (map g.T.NativePType.number l.items.numbers.items) l.items.has_null
+    → AreListed (map g.I.SetItem.value l.items.values.items) l.items.has_null
     (drop 1 (values_at (take l.k (g.A.ExecutionArgs.inputs l.args)) i)))
