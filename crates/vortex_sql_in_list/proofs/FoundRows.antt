@@ -1,13 +1,12 @@
 -- Rows that are looked up, as `in_list` says.
 use Rattle.std.proofs.Common.{◌≡◌, ◌<◌, ℕ, Bool, true, false, ◌||◌, ◌&&◌, not, cond, List, []}
-use Rattle.std.proofs.Common.{◌∷◌, length, drop, map, refl, sym, subst, suc, ap, ◌∙◌, Some, pos, ℤ, arith}
+use Rattle.std.proofs.Common.{◌∷◌, length, drop, map, refl, sym, subst, zero, suc, ap, ◌∙◌, Some, pos, ℤ, arith}
 use Rattle.std.specs.Prelude.{slice_get, slice_index_or}
 use Rattle.std.specs.List.{list_any}
 use Rattle.std.proofs.lemmas.List.{length-map}
-use Rattle.vortex_types.specs.LogicalTypes.{LogicalType, text_type}
-use Rattle.vortex_types.specs.Values.{Value, null, number, text, truth, is_null}
-use Rattle.vortex_columns.specs.ColumnView.{ColumnView, row, IsUnlessNull, AreInts, AreBytes}
-use Rattle.vortex_columns.specs.ColumnView.{bytes_value}
+use Rattle.vortex_types.specs.LogicalTypes.{LogicalType}
+use Rattle.vortex_types.specs.Values.{Value, null, number, truth, is_null}
+use Rattle.vortex_columns.specs.ColumnView.{ColumnView, row, IsUnlessNull, AreInts}
 use Rattle.vortex_interface.specs.Outcomes.{values_at}
 use Rattle.vortex_kernels.specs.Rows.{HasRows}
 use Rattle.vortex_sets.specs.ItemSets.{is_member}
@@ -77,19 +76,13 @@ looked_up_rows cs c made rows vs n t u first count listed same is = record {
       is.each i (omega (arith, lt, count)) ∙ in_list_of cs c i vs n first (listed i lt);
 }
 
--- integers and texts of rows as values
+-- integers of rows as values
 number_at : {X : Type 0} (f : X → ℤ) (xs : List X) (i : ℕ) → i < length xs
     → slice_index_or (map (λ x. number (f x)) xs) i null
     ≡ number (slice_index_or (map f xs) i (pos 0))
 number_at f [] i l = absurd (omega (arith, l))
-number_at f (x ∷ xs) 0 l = refl
+number_at f (x ∷ xs) zero l = refl
 number_at f (x ∷ xs) (suc i) l = number_at f xs i (omega (arith, l))
-
-text_at : (xs : List (List ℕ)) (i : ℕ) → i < length xs
-    → slice_index_or (map text xs) i null ≡ text (slice_index_or xs i [])
-text_at [] i l = absurd (omega (arith, l))
-text_at (x ∷ xs) 0 l = refl
-text_at (x ∷ xs) (suc i) l = text_at xs i (omega (arith, l))
 
 pub int_items : {X : Type 0} (f : X → ℤ) (c : ColumnView) (xs : List X) → AreInts c (map f xs)
     → AreItems c (map (λ x. number (f x)) xs)
@@ -99,15 +92,4 @@ int_items f c xs h = record {
       let within : i < length xs = omega (arith, lt, length-map xs (λ x. number (f x))) in
       subst (IsUnlessNull (row c.rows i)) (sym (number_at f xs i within))
       (h.each i (omega (arith, within, length-map xs f)));
-}
-
-pub text_items : (c : ColumnView) (n : Bool) (bs : List (List ℕ)) → c.dtype ≡ text_type n
-    → AreBytes c bs → AreItems c (map text bs)
-text_items c n bs e h = record {
-  count = length-map bs text ∙ h.count;
-  each = λ i lt.
-      let within : i < length bs = omega (arith, lt, length-map bs text) in
-      subst (IsUnlessNull (row c.rows i))
-      (ap (λ t. bytes_value t (slice_index_or bs i [])) e ∙ sym (text_at bs i within))
-      (h.each i within);
 }

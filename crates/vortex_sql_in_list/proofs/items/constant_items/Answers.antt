@@ -11,7 +11,7 @@ loop-k-preserved g c = (
   λ i lt.
       next_listed (g.A.ExecutionArgs.inputs c.args.args.now) c.loop-k.k c.in_ok-input.input.now
       c.loop-k.invariant.0 (omega (arith, c.num_inputs-k-end.ensures, c.loop-k-test.true))
-      c.in_ok-input.ensures.input g.I.SetItem.value g.I.SetItem.never_null
+      c.in_ok-input.ensures.input g.I.SetItem.value g.met.I.SetItem.never_null
       c.in-Some.item i _ _ _ _ c.in_ok-add.ensures
       (c.in-Some.ensures i (omega (arith, lt, c.in_ok-input.ensures.count)))
       (c.loop-k.invariant.1 i lt),
