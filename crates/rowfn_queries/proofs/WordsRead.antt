@@ -1,8 +1,6 @@
 -- What is asked by words, from what parsed texts ask.
 use Rattle.std.proofs.Common.{◌≡◌, ◌∙◌, ℕ, List, Option, Some, None, Bor, String, Global, subst, sym}
 use Rattle.std.proofs.Common.{ap, inl, inr}
-use Rattle.vortex_types.specs.LogicalTypes.{Fields, no_fields}
-use Rattle.vortex_types.specs.TypeOf.{struct_fields}
 use Rattle.std.specs.Prelude.{◌⊎◌}
 use Rattle.vortex_program.specs.declared.form.Form.{Form}
 use Rattle.vortex_program.specs.declared.form.Form.TheVariants as form
@@ -16,8 +14,8 @@ use Rattle.rowfn_queries.specs.Bindings.{IsParsedBy, IsBoundIn, IsAskedIn, Refus
 use Rattle.rowfn_queries.specs.Bindings.{RefusesBound, by_condition, by_answers, columns_in, sampled_in}
 use Rattle.rowfn_queries.specs.Bindings.{read_in, placed_in, IsReadWhere, AreRead, RefusesWidened}
 use Rattle.rowfn_queries.specs.Bindings.{AreBoundIn}
-use Rattle.rowfn_queries.specs.Columns.{with_all, with_texts}
-use Rattle.rowfn_queries.specs.DeclaredColumns.{DeclaredColumns}
+use Rattle.rowfn_queries.specs.Columns.{Columns, none, scope_in, with_all, with_texts}
+use Rattle.rowfn_queries.specs.DeclaredColumns.{DeclaredColumns, unplaced}
 use Rattle.rowfn_queries.specs.Queries.{AskedBy}
 use Rattle.rowfn_queries.specs.Reading.{DeclaredBy, AreInferred, as_declared, by_header}
 use Rattle.rowfn_queries.specs.Refusals.{RefusesBy, RefusesBinding, RefusesWords, by_binding}
@@ -82,7 +80,7 @@ bound_refused b t e answers condition (by_answers q asked h) =
     (refused_by b form.Answers b.words.answers t.answers e answers h)
 
 module _ (b : Binding) (t : Texts) (d : DeclaredColumns) (names : List (String Global))
-    (e result : QueryError) (same : columns_in b ≡ d.fields)
+    (e result : QueryError) (same : columns_in b ≡ unplaced d)
     (declares : DeclaredBy b.words.columns d) (inferred : AreInferred (sampled_in b))
     (answers : IsParsedBy form.Answers b.words.answers t.answers)
     (condition : IsParsedBy form.Condition b.words.condition t.condition) where
@@ -100,9 +98,9 @@ module _ (b : Binding) (t : Texts) (d : DeclaredColumns) (names : List (String G
       by_binding d (sampled_in b) wide declares inferred
       (by_header names
       (w.columns
-      ∙ ap (λ (fs : Fields). with_texts names (with_all (sampled_in b) (with_all fs no_fields))) same))
-      (subst (λ (fs : Fields). RefusesBinding b.words wide fs result)
-      (λ i. struct_fields (w.same_sample i).now) words_here)
+      ∙ ap (λ (cs : Columns). with_texts names (with_all (sampled_in b) (with_all cs none))) same))
+      (subst (λ (cs : Columns). RefusesBinding b.words wide cs result)
+      (λ i. scope_in (w.same_sample i)) words_here)
 
   pub refused_so : RefusesBound b t e → (result ≡ e) ⊎ RefusesWidened b names t result
       → RefusesWords b.words result

@@ -4,6 +4,8 @@
 
 pub mod again;
 mod binding;
+pub mod column_type;
+mod columns;
 pub mod declared;
 pub mod error;
 pub mod inference;
@@ -15,8 +17,10 @@ mod sample;
 pub mod scope;
 mod scopes;
 mod texts;
+mod types;
 
 pub use again::Again;
+pub use column_type::ColumnType;
 pub use declared::{Declared, read_scope};
 pub use error::{HeaderFault, QueryError, TextPlace};
 pub use inference::infer;

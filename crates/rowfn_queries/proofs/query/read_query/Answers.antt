@@ -1,4 +1,4 @@
-use Rattle.std.proofs.Common.{refl}
+use Rattle.std.proofs.Common.{sym, subst}
 use Rattle.rowfn_queries.specs.DeclaredColumns.{declared_by}
 use Rattle.rowfn_queries.proofs.WordsRead.{answers_asked, condition_asked, are_read}
 use Rattle.rowfn_queries.proofs.WordsRead.{refused_so}
