@@ -5,7 +5,7 @@ use Rattle.std.specs.Prelude.{codes, ℤ, nat_lt, unsigned_abs}
 use Rattle.std.specs.List.{list_all, list_any, range_with_len}
 use Rattle.std.specs.Char.{is_ascii_digit}
 use Rattle.std.specs.Str.{bytes_eq, is_utf8}
-use Rattle.vortex_types.specs.declared.dtype.PType.TheVariants.{I64}
+use Rattle.vortex_types.specs.declared.dtype.PType.TheVariants.{I32, I64}
 use Rattle.vortex_types.specs.LogicalTypes.{LogicalType, bool_type, integer_type, text_type}
 use Rattle.vortex_cells.specs.CellValues.{cell_fits}
 use Rattle.vortex_logical.specs.declared.kind.Kind.{Kind}

@@ -67,15 +67,15 @@ abbrev mutual
   typed_behind d place w (t ∷ ts) =
       and_then (type_at t ts) (λ u. after u.further (with_column d place w u.column) ts)
 
-  -- the same after so many tokens
+  -- after so many tokens nothing, or a comma and further columns
   pub after : ℕ → DeclaredColumns → List Token → Outcome DeclaredColumns
-  after zero d ts = more_behind d ts
+  after zero d [] = answers d
+  after zero d (c ∷ ts) = if is_comma c then columns_behind d ts else refuses reason.NoComma
   after (suc n) d [] = answers d
   after (suc n) d (t ∷ ts) = after n d ts
 
-  pub more_behind : DeclaredColumns → List Token → Outcome DeclaredColumns
-  more_behind d [] = answers d
-  more_behind d (c ∷ ts) = if is_comma c then columns_behind d ts else refuses reason.NoComma
+abbrev pub more_behind : DeclaredColumns → List Token → Outcome DeclaredColumns
+more_behind = after 0
 
 abbrev pub columns_of : List Token → Outcome DeclaredColumns
 columns_of ts = columns_behind no_columns ts

@@ -138,7 +138,7 @@ fn read_named(
     tokens: &[Token<'_>],
 ) -> Result<usize, Stopped>
     requires { 0 < length tokens.now }
-    ensures read { IfOk result (λ count. (2 ≤ count) × (count ≤ length tokens.now)) }
+    ensures read { IfOk result (λ count. (2 ≤ count) × (count ≤ 7) × (count ≤ length tokens.now)) }
     ensures column { let columns = named_behind (declared_by declared.old) place
         (map token_in tokens.now) in
         MatchResult result
@@ -171,7 +171,7 @@ fn read_placed(
     digits: &[u8],
     tokens: &[Token<'_>],
 ) -> Result<usize, Stopped>
-    ensures read { IfOk result (λ count. (3 ≤ count) × (count ≤ length tokens.now)) }
+    ensures read { IfOk result (λ count. (3 ≤ count) × (count ≤ 8) × (count ≤ length tokens.now)) }
     ensures column { let columns = placed_behind (declared_by declared.old) (given_place digits.now)
         (map token_in tokens.now) in
         MatchResult result
@@ -206,7 +206,7 @@ fn read_column(
     tokens: &[Token<'_>],
 ) -> Result<usize, Stopped>
     requires { 0 < length tokens.now }
-    ensures read { IfOk result (λ count. (2 ≤ count) × (count ≤ length tokens.now)) }
+    ensures read { IfOk result (λ count. (2 ≤ count) × (count ≤ 9) × (count ≤ length tokens.now)) }
     ensures column { let columns = columns_behind (declared_by declared.old)
         (map token_in tokens.now) in
         MatchResult result

@@ -1,5 +1,5 @@
 //! The type that the fields of a column have, with the kind of its values.
-ghost use Rattle.std.specs.Prelude.{◌≡◌, ◌<◌, ◌*◌, [], IfOk, map, length, option_map};
+ghost use Rattle.std.specs.Prelude.{◌≡◌, ◌<◌, ◌*◌, ◌&&◌, [], IfOk, map, length, option_map};
 ghost use Rattle.std.specs.List.{list_any};
 ghost use Rattle.vortex_types.specs.LogicalTypes.{integer_type};
 ghost use Rattle.vortex_types.specs.TypeOf.{type_of, allows_null};
@@ -147,6 +147,13 @@ fn or_real(field: Option<&[u8]>) -> bool
     }
 }
 
+/// Whether what held of fields before holds of one more.
+fn and_real(before: bool, field: Option<&[u8]>) -> bool
+    ensures { result ≡ (before && or_real (option_map (λ f. f.now) field.entry)) }
+{
+    before && or_real(field)
+}
+
 /// Whether a field is null or a text of the kind.
 fn is_of_kind(kind: Kind, field: Option<&[u8]>) -> bool
     ensures { result ≡ is_of_kind kind (option_map (λ f. f.now) field.entry) }
@@ -155,6 +162,13 @@ fn is_of_kind(kind: Kind, field: Option<&[u8]>) -> bool
         None => true,
         Some(text) => read_cell(kind, text).is_some(),
     }
+}
+
+/// Whether what held of fields before holds of one more.
+fn and_of_kind(before: bool, kind: Kind, field: Option<&[u8]>) -> bool
+    ensures { result ≡ (before && is_of_kind kind (option_map (λ f. f.now) field.entry)) }
+{
+    before && is_of_kind(kind, field)
 }
 
 /// What is known of the fields of a column.
@@ -195,9 +209,9 @@ impl Seen {
         Seen {
             is_bool: self.is_bool && holds(&DType::Bool(Nullability::NonNullable), field),
             is_integer: self.is_integer && is_number(field),
-            is_real: self.is_real && or_real(field),
-            is_date: self.is_date && is_of_kind(Kind::Date, field),
-            is_timestamp: self.is_timestamp && is_of_kind(Kind::Timestamp, field),
+            is_real: and_real(self.is_real, field),
+            is_date: and_of_kind(self.is_date, Kind::Date, field),
+            is_timestamp: and_of_kind(self.is_timestamp, Kind::Timestamp, field),
             has_null: self.has_null || field.is_none(),
             has_value: self.has_value || field.is_some(),
         }

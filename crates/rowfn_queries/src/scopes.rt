@@ -41,7 +41,7 @@ pub(crate) fn add_needed(
     wanted: &[String],
 ) -> VortexResult<()>
     ensures { AnswersUnlessMemory result (λ _. gathered_in columns.new
-        ≡ with_wanted (is_among (map string_bytes wanted.now)) (scope_in from)
+        ≡ with_wanted (is_among (map string_bytes wanted.now)) (scope_in from.entry)
         (gathered_in columns.old)) }
 {
     for place in 0..from.fields.len() {
@@ -60,7 +60,7 @@ pub(crate) fn add_all(
     from: Scope<'_>,
 ) -> VortexResult<()>
     ensures { AnswersUnlessMemory result (λ _. gathered_in columns.new
-        ≡ with_all (scope_in from) (gathered_in columns.old)) }
+        ≡ with_all (scope_in from.entry) (gathered_in columns.old)) }
 {
     for place in 0..from.fields.len() {
         let column = from.column(alloc, place)?;

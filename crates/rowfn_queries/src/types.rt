@@ -188,7 +188,7 @@ fn type_at_word(
 ) -> Result<WrittenType, ScopeReason>
     ensures given { Gives (λ t. type_by t) result
         (type_at_word (allows_null nullability) word.now (map token_in behind.now)) }
-    ensures further { IfOk result (λ t. t.further ≤ length behind.now) }
+    ensures further { IfOk result (λ t. (t.further ≤ 5) × (t.further ≤ length behind.now)) }
 {
     let Some(open) = behind.first() else {
         return type_of_name(alloc, word, nullability);
@@ -204,7 +204,7 @@ fn type_at_word(
 fn decimal_called(word: &[u8], behind: &[Token<'_>]) -> Result<WrittenType, ScopeReason>
     ensures given { Gives (λ t. type_by t) result
         (decimal_called word.now (map token_in behind.now)) }
-    ensures further { IfOk result (λ t. t.further ≤ length behind.now) }
+    ensures further { IfOk result (λ t. (t.further ≤ 5) × (t.further ≤ length behind.now)) }
 {
     if is_decimal_word(word) {
         decimal_at(Nullability::NonNullable, 4, behind)
@@ -222,7 +222,7 @@ pub(crate) fn type_at(
 ) -> Result<WrittenType, ScopeReason>
     ensures given { Gives (λ t. type_by t) result
         (type_at (token_in token.entry) (map token_in behind.now)) }
-    ensures further { IfOk result (λ t. t.further ≤ length behind.now) }
+    ensures further { IfOk result (λ t. (t.further ≤ 5) × (t.further ≤ length behind.now)) }
 {
     match token {
         Token::Name(word) => type_at_word(alloc, word, Nullability::NonNullable, behind),
