@@ -4,13 +4,12 @@ use Rattle.std.specs.Borrow.{Bor}
 use Rattle.vortex_types.specs.LogicalTypes.{LogicalType, Fields, is_bool_type}
 use Rattle.vortex_types.specs.TypeOf.{type_of}
 use Rattle.vortex_interface.specs.Eval.{tree_type}
-use Rattle.vortex_expressions.specs.Items.{Tree, meaning}
+use Rattle.vortex_expressions.specs.Items.{meaning}
 use Rattle.vortex_expressions.specs.Reading.{TellsWhy}
 use Rattle.vortex_program.specs.declared.answer.Answer.{Answer}
 use Rattle.vortex_program.specs.declared.form.Form.{Form}
 use Rattle.vortex_program.specs.declared.form.Form.TheVariants as form
 use Rattle.vortex_program.specs.Names.{AreNamesOf}
-use Rattle.vortex_program.specs.Programs.{trees_of}
 use Rattle.vortex_program.specs.Texts.{AreAnswersOf, IsRefusedOver, StopsAt}
 use Rattle.rowfn_queries.specs.declared.error.TextPlace.{TextPlace}
 use Rattle.rowfn_queries.specs.declared.error.TextPlace.TheVariants as place
@@ -29,27 +28,28 @@ abbrev pub place_of : Form → TextPlace
 place_of form.Answers = place.Expression
 place_of form.Condition = place.Where
 
--- the tree has that type, which is not of truth values; or memory ran out
-abbrev pub IsNoTruth : Tree → QueryError → Type 0
-IsNoTruth t (error.NoTruth u) =
-    (tree_type meaning t ≡ Some (type_of u)) × (is_bool_type (type_of u) ≡ false)
-IsNoTruth t error.OutOfMemory = ⊤
-IsNoTruth t e = ⊥
+-- the answer has that type and kind, which is not of truth values; or memory ran out
+abbrev pub IsNoTruth : Answer → QueryError → Type 0
+IsNoTruth a (error.NoTruth u) =
+    (tree_type meaning a.tree ≡ Some (type_of u.dtype)) × (a.kind ≡ u.kind)
+    × (is_bool_type (type_of u.dtype) ≡ false)
+IsNoTruth a error.OutOfMemory = ⊤
+IsNoTruth a e = ⊥
 
--- one of the trees of a condition is no truth value; or memory ran out
-pub record RefusesTruth (f : Form) (ts : List Tree) (e : QueryError) : Type 0 where
-  pub tree : Tree
+-- one of the answers of a condition is no truth value; or memory ran out
+pub record RefusesTruth (f : Form) (answers : List Answer) (e : QueryError) : Type 0 where
+  pub answer : Answer
   pub of_condition : f ≡ form.Condition
-  pub among : Contains ts tree
-  pub told : IsNoTruth tree e
+  pub among : Contains answers answer
+  pub told : IsNoTruth answer e
 
 -- why a text is refused over columns; or memory ran out
 abbrev pub RefusesOver : Form → Columns → List ℕ → QueryError → Type 0
-RefusesOver f columns text (error.Unread p e) =
+RefusesOver f columns text (error.Unread p e mixed) =
     (p ≡ place_of f) × TellsWhy (StopsAt f) (IsRefusedOver f columns.fields columns.kinds text) text e
 RefusesOver f columns text (error.NoTruth t) =
     (answers : List Answer) × AreAnswersOf f columns.fields columns.kinds text answers
-    × RefusesTruth f (trees_of answers) (error.NoTruth t)
+    × RefusesTruth f answers (error.NoTruth t)
 RefusesOver f columns text error.OutOfMemory = ⊤
 RefusesOver f columns text e = ⊥
 
@@ -81,7 +81,7 @@ pub data RefusesBinding (words : Words) (columns inferred : Columns) (e : QueryE
 
 -- a text has a syntax error, whatever the columns are
 abbrev pub IsNoText : Form → List ℕ → QueryError → Type 0
-IsNoText f text (error.Unread p e) = (p ≡ place_of f) × TellsWhy (StopsAt f) (λ _. ⊥) text e
+IsNoText f text (error.Unread p e mixed) = (p ≡ place_of f) × TellsWhy (StopsAt f) (λ _. ⊥) text e
 IsNoText f text e = ⊥
 
 abbrev pub RefusesParsing : Form → Option (Bor (List ℕ)) → QueryError → Type 0

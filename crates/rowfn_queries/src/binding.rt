@@ -10,9 +10,11 @@ ghost use Rattle.vortex_program.specs.Texts.{IsRead};
 ghost use Rattle.rowfn_queries.specs.Queries.{IsTruth, IsTruthFor};
 ghost use Rattle.rowfn_queries.specs.Refusals.{IsNoTruth, RefusesTruth};
 
+use crate::column_type::ColumnType;
 use crate::columns::{Gathered, Scope};
 use crate::declared::Declared;
 use crate::error::QueryError;
+use crate::mixed::{MixedColumn, mixed_among};
 use crate::places::places_of;
 use crate::query::Words;
 use crate::question::Question;
@@ -20,9 +22,7 @@ use crate::scopes::{add_all, add_needed};
 use crate::texts::{Texts, place_of};
 use std::alloc::Global;
 use vortex_columns::VortexResult;
-use vortex_functions::BoundExpression;
 use vortex_program::{Answer, Form, Parsed, Program};
-use vortex_standard::Standard;
 
 /// The columns that texts may read: some are declared, others have the types of their fields.
 #[derive(Clone, Copy)]
@@ -33,29 +33,35 @@ pub(crate) struct Binding<'a> {
     /// The declared columns, or more, where a text is refused over those.
     pub(crate) columns: Scope<'a>,
     pub(crate) sampled: Scope<'a>,
+    /// The sampled columns that have numbers, and are text.
+    pub(crate) mixed: &'a [MixedColumn],
 }
 
-/// Fails where a tree is no truth value.
-fn check_tree(alloc: Global, tree: &BoundExpression<Standard>) -> Result<(), QueryError>
-    ensures { MatchResult result (λ _. IsTruth tree.now) (IsNoTruth tree.now) }
+/// Fails where an answer is no truth value.
+fn check_answer(alloc: Global, answer: &Answer) -> Result<(), QueryError>
+    ensures { MatchResult result (λ _. IsTruth answer.now.tree) (IsNoTruth answer.now) }
 {
-    let dtype = tree.dtype();
+    let dtype = answer.tree.dtype();
     if dtype.is_boolean() {
         return Ok(());
     }
-    Err(QueryError::NoTruth(dtype.try_clone(alloc)?))
+    let dtype = dtype.try_clone(alloc)?;
+    Err(QueryError::NoTruth(ColumnType {
+        dtype,
+        kind: answer.kind,
+    }))
 }
 
 /// Fails where a condition is no truth value.
 fn check_truth(alloc: Global, form: Form, answers: &[Answer]) -> Result<(), QueryError>
     ensures { MatchResult result (λ _. IsTruthFor form (trees_of answers.now))
-        (RefusesTruth form (trees_of answers.now)) }
+        (RefusesTruth form answers.now) }
 {
     if form != Form::Condition {
         return Ok(());
     }
     for answer in answers {
-        match check_tree(alloc, &answer.tree) {
+        match check_answer(alloc, answer) {
             Ok(()) => {}
             Err(error) => return Err(error),
         }
@@ -110,7 +116,10 @@ impl Binding<'_> {
         let columns = self.columns_read(form, &names)?;
         let answers = match parsed.bind(self.alloc, &columns.fields, &columns.kinds) {
             Ok(answers) => answers,
-            Err(error) => return Err(QueryError::Unread(place_of(form), error)),
+            Err(error) => {
+                let mixed = mixed_among(self.alloc, self.mixed, &names, &error);
+                return Err(QueryError::Unread(place_of(form), error, mixed));
+            }
         };
         match check_truth(self.alloc, form, &answers) {
             Ok(()) => {}

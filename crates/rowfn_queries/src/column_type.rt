@@ -6,6 +6,7 @@ ghost use Rattle.vortex_types.specs.TypeOf.{type_of, allows_null};
 ghost use Rattle.rowfn_queries.specs.ColumnTypes.{type_in, plain, of_kind};
 
 use std::alloc::Global;
+use std::fmt;
 use vortex_columns::{DType, Nullability, VortexResult};
 use vortex_logical::kind::Kind;
 
@@ -46,5 +47,23 @@ impl ColumnType {
             dtype,
             kind: self.kind,
         })
+    }
+}
+
+/// The type as it is declared: `i64?`, `date`, `decimal?(12,2)`.
+impl fmt::Display for ColumnType {
+    fn fmt<W: fmt::Write>(&self, f: &mut fmt::Formatter<W>) -> fmt::Result {
+        let (dtype, kind) = (&self.dtype, self.kind);
+        if kind == Kind::Plain {
+            return write!(f, "{dtype:?}");
+        }
+        let mark = if dtype.is_nullable() { "?" } else { "" };
+        match kind.decimal_digits() {
+            Some(digits) => {
+                let (precision, scale) = (digits.precision(), digits.scale());
+                write!(f, "decimal{mark}({precision},{scale})")
+            }
+            None => write!(f, "{kind}{mark}"),
+        }
     }
 }

@@ -138,7 +138,8 @@ fn is_real(text: &[u8]) -> bool
     }
 }
 
-fn or_real(field: Option<&[u8]>) -> bool
+/// Whether a field is null or a number that is an `f64`.
+pub(crate) fn or_real(field: Option<&[u8]>) -> bool
     ensures { result ≡ or_real (option_map (λ f. f.now) field.entry) }
 {
     match field {

@@ -156,18 +156,22 @@ pub fn read_query<R: Read>(
     let Sample {
         names,
         columns: inferred,
+        mixed,
         failed,
     } = match sampled(alloc, &words, format, max_field, &wanted, reader) {
         Ok(sample) => sample,
         Err(error) => return Err(error),
     };
     reader.rewind(failed);
+    let columns = declared.scope();
+    let sampled = inferred.scope();
     let binding = Binding {
         alloc,
         words,
         declared: &declared,
-        columns: declared.scope(),
-        sampled: inferred.scope(),
+        columns,
+        sampled,
+        mixed: &mixed,
     };
     match binding.bind(&texts) {
         Ok((answers, condition)) => Ok(Query {

@@ -11,6 +11,7 @@ use crate::again::Again;
 use crate::columns::Gathered;
 use crate::error::QueryError;
 use crate::inference::infer;
+use crate::mixed::{MixedColumn, mixed_columns};
 use crate::rows::{read_named, read_numbered, read_rows};
 use crate::scopes::typed_columns;
 use rowfn_csv::{Batch, Format, RecordError, Records, truth_spelled};
@@ -25,6 +26,8 @@ pub(crate) struct Sample {
     pub(crate) names: Vec<String>,
     /// The wanted ones, with the types of their fields.
     pub(crate) columns: Gathered,
+    /// Those of them that have numbers, and are text.
+    pub(crate) mixed: Vec<MixedColumn>,
     /// How reading failed, where it did.
     pub(crate) failed: Option<io::Error>,
 }
@@ -45,6 +48,7 @@ impl Sample {
         Sample {
             names: Vec::new(alloc),
             columns: no_columns(alloc),
+            mixed: Vec::new(alloc),
             failed: None,
         }
     }
@@ -129,6 +133,20 @@ fn columns_of(
     typed_columns(alloc, names, &types)
 }
 
+/// The columns of a header of those names that have numbers, and are text by another field.
+fn mixed_of(
+    alloc: Global,
+    names: &[String],
+    batch: &Batch,
+) -> Result<Vec<MixedColumn>, AllocError> {
+    let fields = batch.fields(alloc)?;
+    let row_count = batch.len();
+    if names.len().checked_mul(row_count) != Some(fields.len()) {
+        return Ok(Vec::new(alloc));
+    }
+    mixed_columns(alloc, names, &fields, row_count)
+}
+
 /// Reads the header, where there is one, and the first rows. Fails where the header cannot be read,
 /// and where memory runs out; a read that fails in the rows ends them, and is kept.
 pub(crate) fn read_sample<R: Read>(
@@ -154,6 +172,7 @@ pub(crate) fn read_sample<R: Read>(
         Err(RecordError::Io(error)) => sample.failed = Some(error),
         Err(RecordError::OutOfMemory) => return Err(QueryError::OutOfMemory),
     }
+    sample.mixed = mixed_of(alloc, &rows.names, &rows.batch)?;
     sample.columns = columns_of(alloc, &rows.names, &rows.batch, format.any_truths)?;
     Ok(sample)
 }
