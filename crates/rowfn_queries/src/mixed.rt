@@ -39,12 +39,33 @@ impl MixedColumn {
     }
 }
 
+/// Whether a text begins as a number does, as `02134` or `+1`, so that it is none for null.
+fn is_like_number(text: &str) -> bool {
+    match text.as_bytes().first() {
+        Some(first) => matches!(*first, b'0'..=b'9' | b'+' | b'-' | b'.'),
+        None => false,
+    }
+}
+
+/// Whether a name is written without quotes.
+fn is_word(name: &str) -> bool {
+    let mut bytes = name.as_bytes().iter();
+    bytes.all(|byte| byte.is_ascii_alphanumeric() || *byte == b'_')
+}
+
 /// Which field makes the column text, and how it is read otherwise.
 impl fmt::Display for MixedColumn {
     fn fmt<W: fmt::Write>(&self, f: &mut fmt::Formatter<W>) -> fmt::Result {
         let (name, row, text) = (self.name.as_str(), self.row, self.text.as_str());
-        write!(f, "column {name} is text by row {row}: {text:?} ")?;
-        write!(f, "(--null {text:?}, or --columns '{name} f64')")
+        write!(f, "column {name} is text by row {row}: {text:?} (")?;
+        if !is_like_number(text) {
+            write!(f, "--null {text:?}, or ")?;
+        }
+        if is_word(name) {
+            write!(f, "--columns '{name} f64')")
+        } else {
+            write!(f, "--columns '{name:?} f64')")
+        }
     }
 }
 
