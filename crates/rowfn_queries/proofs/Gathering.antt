@@ -1,5 +1,5 @@
 -- Columns that are gathered one by one.
-use Rattle.std.proofs.Common.{◌≡◌, ℕ, Bool, true, List, [], ◌∷◌, map, Option, None, refl, ap}
+use Rattle.std.proofs.Common.{◌≡◌, ℕ, Bool, true, List, [], ◌∷◌, map, None, refl, ap}
 use Rattle.std.proofs.Common.{if◌then◌else◌, is_some, ◌||◌}
 use Rattle.std.specs.List.{list_any}
 use Rattle.vortex_types.specs.LogicalTypes.{find_field}

@@ -4,7 +4,6 @@ use Rattle.std.specs.declared.alloc.Global.{Global}
 use Rattle.std.specs.Borrow.{Bor}
 use Rattle.vortex_types.specs.LogicalTypes.{Fields}
 use Rattle.vortex_program.specs.declared.form.Form.{Form}
-use Rattle.vortex_program.specs.declared.form.Form.TheVariants as form
 use Rattle.vortex_program.specs.declared.parsed.Parsed.{Parsed}
 use Rattle.vortex_program.specs.Texts.{IsRead}
 use Rattle.rowfn_queries.specs.declared.binding.Binding.{Binding}

@@ -1,5 +1,5 @@
 -- Which columns texts read: some are declared, others have the types of their fields.
-use Rattle.std.specs.Prelude.{◌≡◌, ◌*◌, ◌&&◌, ◌||◌, ℕ, List, Bool, ⊤, Option, Some, None, is_some}
+use Rattle.std.specs.Prelude.{◌≡◌, ◌*◌, ◌||◌, ℕ, List, Bool, Option, Some, None, is_some}
 use Rattle.std.specs.Prelude.{String, codes, length, map, if◌then◌else◌}
 use Rattle.std.specs.Option.{option_map}
 use Rattle.std.specs.Borrow.{Bor}

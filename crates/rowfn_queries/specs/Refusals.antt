@@ -1,7 +1,7 @@
 -- Why words ask nothing of rows.
 use Rattle.std.specs.Prelude.{◌≡◌, ◌⊎◌, ℕ, List, true, false, ⊤, Option, Some, None, Contains}
 use Rattle.std.specs.Borrow.{Bor}
-use Rattle.vortex_types.specs.LogicalTypes.{LogicalType, Fields, is_bool_type}
+use Rattle.vortex_types.specs.LogicalTypes.{Fields, is_bool_type}
 use Rattle.vortex_types.specs.TypeOf.{type_of}
 use Rattle.vortex_interface.specs.Eval.{tree_type}
 use Rattle.vortex_expressions.specs.Items.{meaning}

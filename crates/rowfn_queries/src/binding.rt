@@ -125,7 +125,12 @@ impl Binding<'_> {
             Ok(()) => {}
             Err(error) => return Err(error),
         }
-        let places = places_of(self.alloc, self.declared, self.words.header, &columns.fields)?;
+        let places = places_of(
+            self.alloc,
+            self.declared,
+            self.words.header,
+            &columns.fields,
+        )?;
         let program = Program::of(self.alloc, columns.fields, columns.kinds, answers)?;
         Ok(Question { program, places })
     }

@@ -49,12 +49,7 @@ impl Gathered {
     }
 
     /// One column more, where none has its name yet. E9 where an allocation fails.
-    pub(crate) fn add(
-        &mut self,
-        alloc: Global,
-        name: &str,
-        column: ColumnType,
-    ) -> VortexResult<()>
+    pub(crate) fn add(&mut self, alloc: Global, name: &str, column: ColumnType) -> VortexResult<()>
         ensures { AnswersUnlessMemory result (λ _. gathered_in self.new
             ≡ with_new (gathered_in self.old) name.now (type_in column)) }
     {

@@ -21,12 +21,7 @@ pub struct MixedColumn {
 }
 
 impl MixedColumn {
-    fn new(
-        alloc: Global,
-        name: &str,
-        row: usize,
-        text: &str,
-    ) -> Result<MixedColumn, AllocError> {
+    fn new(alloc: Global, name: &str, row: usize, text: &str) -> Result<MixedColumn, AllocError> {
         Ok(MixedColumn {
             name: String::from_str(alloc, name)?,
             row,

@@ -108,8 +108,12 @@ impl fmt::Display for DeclarationError {
                     f,
                     "no type {found}; types are bool, utf8, i8, i16, i32, i64, u8, u16, u32, u64, "
                 )?;
-                f.write_str("f32, f64, date, timestamp and decimal(p,s) of p digits, 1 to 18, s of ")?;
-                f.write_str("them after the point; with ? where they have null: f64?, decimal?(p,s)")
+                f.write_str(
+                    "f32, f64, date, timestamp and decimal(p,s) of p digits, 1 to 18, s of ",
+                )?;
+                f.write_str(
+                    "them after the point; with ? where they have null: f64?, decimal?(p,s)",
+                )
             }
             ScopeReason::NoPlace => {
                 write!(

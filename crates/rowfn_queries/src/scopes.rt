@@ -54,11 +54,7 @@ pub(crate) fn add_needed(
 }
 
 /// Adds all columns of a scope.
-pub(crate) fn add_all(
-    alloc: Global,
-    columns: &mut Gathered,
-    from: Scope<'_>,
-) -> VortexResult<()>
+pub(crate) fn add_all(alloc: Global, columns: &mut Gathered, from: Scope<'_>) -> VortexResult<()>
     ensures { AnswersUnlessMemory result (λ _. gathered_in columns.new
         ≡ with_all (scope_in from.entry) (gathered_in columns.old)) }
 {
@@ -70,11 +66,7 @@ pub(crate) fn add_all(
 }
 
 /// Adds columns of texts by their names.
-pub(crate) fn add_named(
-    alloc: Global,
-    columns: &mut Gathered,
-    names: &[String],
-) -> VortexResult<()>
+pub(crate) fn add_named(alloc: Global, columns: &mut Gathered, names: &[String]) -> VortexResult<()>
     ensures { AnswersUnlessMemory result (λ _. gathered_in columns.new
         ≡ with_texts names.now (gathered_in columns.old)) }
 {
