@@ -1,4 +1,5 @@
 pub mod SeenMore
+pub mod TypeTokens
 pub mod Refusing
 pub mod Gathering
 pub mod Placed

@@ -5,7 +5,8 @@ use Rattle.vortex_syntax.specs.Tokens.{Token}
 use Rattle.vortex_syntax.specs.Lexing.{Lexes}
 use Rattle.rowfn_queries.specs.declared.scope.ScopeReason.{ScopeReason}
 use Rattle.rowfn_queries.specs.declared.scope.ScopeReason.TheVariants as reason
-use Rattle.rowfn_queries.specs.Scopes.{columns_of, refuses, IsRefusedScope, refused, without_memory}
+use Rattle.rowfn_queries.specs.Outcomes.{refuses}
+use Rattle.rowfn_queries.specs.Scopes.{columns_of, IsRefusedScope, refused, without_memory}
 
 module _ (text : List ℕ) (ts : List Token) (lexed : Lexes text ts) where
   told : (e : ScopeReason) → (e ≢ reason.OutOfMemory → columns_of ts ≡ refuses e)

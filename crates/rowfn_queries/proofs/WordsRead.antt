@@ -1,8 +1,6 @@
 -- What is asked by words, from what parsed texts ask.
 use Rattle.std.proofs.Common.{◌≡◌, ◌∙◌, ℕ, List, Option, Some, None, Bor, String, Global, subst, sym}
 use Rattle.std.proofs.Common.{ap, inl, inr}
-use Rattle.vortex_types.specs.LogicalTypes.{Fields, no_fields}
-use Rattle.vortex_types.specs.TypeOf.{struct_fields}
 use Rattle.std.specs.Prelude.{◌⊎◌}
 use Rattle.vortex_program.specs.declared.form.Form.{Form}
 use Rattle.vortex_program.specs.declared.form.Form.TheVariants as form
@@ -16,10 +14,10 @@ use Rattle.rowfn_queries.specs.Bindings.{IsParsedBy, IsBoundIn, IsAskedIn, Refus
 use Rattle.rowfn_queries.specs.Bindings.{RefusesBound, by_condition, by_answers, columns_in, sampled_in}
 use Rattle.rowfn_queries.specs.Bindings.{read_in, placed_in, IsReadWhere, AreRead, RefusesWidened}
 use Rattle.rowfn_queries.specs.Bindings.{AreBoundIn}
-use Rattle.rowfn_queries.specs.Columns.{with_all, with_texts}
-use Rattle.rowfn_queries.specs.DeclaredColumns.{DeclaredColumns}
+use Rattle.rowfn_queries.specs.Columns.{Columns, none, scope_in, with_all, with_texts}
+use Rattle.rowfn_queries.specs.DeclaredColumns.{DeclaredColumns, unplaced}
 use Rattle.rowfn_queries.specs.Queries.{AskedBy}
-use Rattle.rowfn_queries.specs.Reading.{DeclaredBy, AreInferred, as_declared, by_header}
+use Rattle.rowfn_queries.specs.Reading.{DeclaredBy, AreInferred, as_declared, by_header, columns_read}
 use Rattle.rowfn_queries.specs.Refusals.{RefusesBy, RefusesBinding, RefusesWords, by_binding}
 use Rattle.rowfn_queries.specs.Refusals as refusals
 
@@ -45,14 +43,28 @@ module _ (b : Binding) (f : Form) where
       (subst (λ (w : List ℕ). RefusesIn b p.form w e) h.1 g)
 
 -- the same of both texts, of what they are bound in
-module _ {b : Binding} {x y : Option Question} (t : Texts) (bound : AreBoundIn b t x y) where
+module _ {b : Binding} {x y : Option Question} {columns sampled : Columns} (t : Texts)
+    (bound : AreBoundIn b t x y) (here : columns_in b ≡ columns) (there : sampled_in b ≡ sampled) where
+  asked_over : (f : Form) (o : Option (Bor (List ℕ))) (q : Option Question)
+      → AskedBy f (read_in b f) (placed_in b) o q
+      → AskedBy f (columns_read columns sampled b.words f) (placed_in b) o q
+  asked_over f o q =
+      subst (λ (z : Columns × Columns). AskedBy f (columns_read z.0 z.1 b.words f) (placed_in b) o q)
+      (λ i. (here i, there i))
+
   pub answers_asked : IsParsedBy form.Answers b.words.answers t.answers
-      → AskedBy form.Answers (read_in b form.Answers) (placed_in b) b.words.answers x
-  answers_asked p = asked_by b form.Answers b.words.answers t.answers x p bound.answers_bound
+      → AskedBy form.Answers (columns_read columns sampled b.words form.Answers) (placed_in b)
+      b.words.answers x
+  answers_asked p =
+      asked_over form.Answers b.words.answers x
+      (asked_by b form.Answers b.words.answers t.answers x p bound.answers_bound)
 
   pub condition_asked : IsParsedBy form.Condition b.words.condition t.condition
-      → AskedBy form.Condition (read_in b form.Condition) (placed_in b) b.words.condition y
-  condition_asked p = asked_by b form.Condition b.words.condition t.condition y p bound.condition_bound
+      → AskedBy form.Condition (columns_read columns sampled b.words form.Condition) (placed_in b)
+      b.words.condition y
+  condition_asked p =
+      asked_over form.Condition b.words.condition y
+      (asked_by b form.Condition b.words.condition t.condition y p bound.condition_bound)
 
 read_where : (f : Form) (o : Option (Bor (List ℕ))) (p : Option Parsed) → IsParsedBy f o p
     → IsReadWhere p
@@ -82,7 +94,7 @@ bound_refused b t e answers condition (by_answers q asked h) =
     (refused_by b form.Answers b.words.answers t.answers e answers h)
 
 module _ (b : Binding) (t : Texts) (d : DeclaredColumns) (names : List (String Global))
-    (e result : QueryError) (same : columns_in b ≡ d.fields)
+    (e result : QueryError) (same : columns_in b ≡ unplaced d)
     (declares : DeclaredBy b.words.columns d) (inferred : AreInferred (sampled_in b))
     (answers : IsParsedBy form.Answers b.words.answers t.answers)
     (condition : IsParsedBy form.Condition b.words.condition t.condition) where
@@ -100,9 +112,9 @@ module _ (b : Binding) (t : Texts) (d : DeclaredColumns) (names : List (String G
       by_binding d (sampled_in b) wide declares inferred
       (by_header names
       (w.columns
-      ∙ ap (λ (fs : Fields). with_texts names (with_all (sampled_in b) (with_all fs no_fields))) same))
-      (subst (λ (fs : Fields). RefusesBinding b.words wide fs result)
-      (λ i. struct_fields (w.same_sample i).now) words_here)
+      ∙ ap (λ (cs : Columns). with_texts names (with_all (sampled_in b) (with_all cs none))) same))
+      (subst (λ (cs : Columns). RefusesBinding b.words wide cs result)
+      (λ i. scope_in (w.same_sample i)) words_here)
 
   pub refused_so : RefusesBound b t e → (result ≡ e) ⊎ RefusesWidened b names t result
       → RefusesWords b.words result

@@ -2,17 +2,15 @@
 use Rattle.std.specs.Prelude.{◌≡◌, ⊤, ℕ, List, Option, Some, None, String}
 use Rattle.std.specs.declared.alloc.Global.{Global}
 use Rattle.std.specs.Borrow.{Bor}
-use Rattle.vortex_types.specs.LogicalTypes.{Fields, no_fields}
-use Rattle.vortex_types.specs.TypeOf.{struct_fields}
+use Rattle.vortex_types.specs.LogicalTypes.{Fields}
 use Rattle.vortex_program.specs.declared.form.Form.{Form}
-use Rattle.vortex_program.specs.declared.form.Form.TheVariants as form
 use Rattle.vortex_program.specs.declared.parsed.Parsed.{Parsed}
 use Rattle.vortex_program.specs.Texts.{IsRead}
 use Rattle.rowfn_queries.specs.declared.binding.Binding.{Binding}
 use Rattle.rowfn_queries.specs.declared.error.QueryError.{QueryError}
 use Rattle.rowfn_queries.specs.declared.question.Question.{Question}
 use Rattle.rowfn_queries.specs.declared.texts.Texts.{Texts}
-use Rattle.rowfn_queries.specs.Columns.{with_all, with_texts}
+use Rattle.rowfn_queries.specs.Columns.{Columns, none, scope_in, with_all, with_texts}
 use Rattle.rowfn_queries.specs.DeclaredColumns.{declared_by}
 use Rattle.rowfn_queries.specs.Places.{places_of}
 use Rattle.rowfn_queries.specs.Queries.{IsAsked}
@@ -35,19 +33,19 @@ pub record AreRead (texts : Texts) : Type 0 where
   pub condition : IsReadWhere texts.condition
 
 module _ (b : Binding) where
-  abbrev pub columns_in : Fields
-  columns_in = struct_fields b.columns.now
+  abbrev pub columns_in : Columns
+  columns_in = scope_in b.columns
 
-  abbrev pub sampled_in : Fields
-  sampled_in = struct_fields b.sampled.now
+  abbrev pub sampled_in : Columns
+  sampled_in = scope_in b.sampled
 
-  abbrev pub all_in : List (List ℕ) → Fields
+  abbrev pub all_in : List (List ℕ) → Columns
   all_in = all_read columns_in sampled_in
 
-  abbrev pub named_in : List (List ℕ) → Fields
+  abbrev pub named_in : List (List ℕ) → Columns
   named_in = named_read columns_in sampled_in
 
-  abbrev pub read_in : Form → List (List ℕ) → Fields
+  abbrev pub read_in : Form → List (List ℕ) → Columns
   read_in = columns_read columns_in sampled_in b.words
 
   -- where columns stand by their declarations
@@ -87,5 +85,5 @@ pub record RefusesWidened (b : Binding) (names : List (String Global)) (texts : 
   pub same_words : wide.words ≡ b.words
   pub same_sample : wide.sampled ≡ b.sampled
   pub columns : columns_in wide
-      ≡ with_texts names (with_all (sampled_in b) (with_all (columns_in b) no_fields))
+      ≡ with_texts names (with_all (sampled_in b) (with_all (columns_in b) none))
   pub refused : RefusesBound wide texts e

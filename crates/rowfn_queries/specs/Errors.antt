@@ -12,7 +12,7 @@ is_memory r = false
 
 -- whether memory ran out, and nothing is wrong with the words as far as is known
 abbrev pub is_out_of_memory : QueryError → Bool
-is_out_of_memory (error.Unread place e) = is_want_of_memory e
+is_out_of_memory (error.Unread place e mixed) = is_want_of_memory e
 is_out_of_memory (error.Columns e) = is_memory e.reason
 is_out_of_memory (error.NoTruth t) = false
 is_out_of_memory (error.Header fault) = false
@@ -26,7 +26,7 @@ words_status want = if want then 3 else 4
 abbrev pub status_of : QueryError → ℕ
 status_of (error.Header fault) = 2
 status_of (error.Reading e) = 3
-status_of (error.Unread place e) = words_status (is_want_of_memory e)
+status_of (error.Unread place e mixed) = words_status (is_want_of_memory e)
 status_of (error.Columns e) = words_status (is_memory e.reason)
 status_of (error.NoTruth t) = 4
 status_of error.OutOfMemory = 3

@@ -1,13 +1,17 @@
--- The type that the fields of a column have.
+-- The type that the fields of a column have, with the kind of its values.
 use Rattle.std.specs.Prelude.{ℕ, List, [], ◌∷◌, Bool, true, false, ◌&&◌, ◌||◌, ◌+◌, ◌*◌, ◌==◌}
 use Rattle.std.specs.Prelude.{Option, Some, None, is_some, if◌then◌else◌, slice_index_or, map, not}
-use Rattle.std.specs.Prelude.{codes}
+use Rattle.std.specs.Prelude.{codes, ℤ, nat_lt, unsigned_abs}
 use Rattle.std.specs.List.{list_all, list_any, range_with_len}
 use Rattle.std.specs.Char.{is_ascii_digit}
 use Rattle.std.specs.Str.{bytes_eq, is_utf8}
-use Rattle.vortex_types.specs.declared.dtype.PType.TheVariants.{I64}
+use Rattle.vortex_types.specs.declared.dtype.PType.TheVariants.{I32, I64}
 use Rattle.vortex_types.specs.LogicalTypes.{LogicalType, bool_type, integer_type, text_type}
 use Rattle.vortex_cells.specs.CellValues.{cell_fits}
+use Rattle.vortex_logical.specs.declared.kind.Kind.{Kind}
+use Rattle.vortex_logical.specs.declared.kind.Kind.TheVariants.{F64, Date, Timestamp}
+use Rattle.vortex_logical.specs.Cells.{stored_of_text}
+use Rattle.rowfn_queries.specs.ColumnTypes.{KindedType, kinded, plain}
 
 -- the bytes of a field, and none of a null field
 abbrev pub Field : Type 0
@@ -48,18 +52,76 @@ has_value fs = list_any is_some fs
 abbrev pub has_null : List Field → Bool
 has_null fs = list_any (λ f. not (is_some f)) fs
 
--- bool where each field that is not null says a truth value, i64 where each is the decimal text of
--- its number, else utf8, and utf8 where none is; with null where a field is null
-abbrev pub inferred : List Field → LogicalType
+-- a number with a point or an exponent
+abbrev pub is_fractional : ℕ → Bool
+is_fractional b = (b == 46) || (b == 69) || (b == 101)
+
+abbrev pub begins_digit : List ℕ → Bool
+begins_digit [] = false
+begins_digit (b ∷ bs) = is_ascii_digit b
+
+-- a text begins with a point, or with a digit, and no digit follows a first 0
+abbrev pub begins_decimal : List ℕ → Bool
+begins_decimal [] = false
+begins_decimal (b ∷ bs) =
+    if b == 48 then not (begins_digit bs) else (b == 46) || is_ascii_digit b
+
+-- the same after a minus sign, or without
+abbrev pub begins_signed : List ℕ → Bool
+begins_signed [] = false
+begins_signed (b ∷ bs) = if b == 45 then begins_decimal bs else begins_decimal (b ∷ bs)
+
+-- the integer stands for a float that is neither infinite nor a NaN
+abbrev pub is_finite : Option ℤ → Bool
+is_finite None = false
+is_finite (Some z) = nat_lt (unsigned_abs z) 9218868437227405312
+
+-- a text is a float with a point or an exponent, or the decimal text of a number that i64 holds
+abbrev pub is_real : List ℕ → Bool
+is_real bs =
+    if list_any is_fractional bs
+    then begins_signed bs && is_finite (stored_of_text F64 bs) else is_number (Some bs)
+
+abbrev pub or_real : Field → Bool
+or_real None = true
+or_real (Some bs) = is_real bs
+
+abbrev pub are_reals : List Field → Bool
+are_reals fs = list_all or_real fs
+
+-- the field is null or a text of the kind
+abbrev pub is_of_kind : Kind → Field → Bool
+is_of_kind k None = true
+is_of_kind k (Some bs) = is_some (stored_of_text k bs)
+
+abbrev pub are_of_kind : Kind → List Field → Bool
+are_of_kind k fs = list_all (is_of_kind k) fs
+
+-- the first of these types that the fields have, else utf8; with null or without
+abbrev pub first_type : (bools numbers reals dates timestamps n : Bool) → KindedType
+first_type bools numbers reals dates timestamps n =
+    if bools then plain (bool_type n)
+    else (if numbers then plain (integer_type I64 n)
+    else (if reals then kinded F64 (integer_type I64 n)
+    else (if dates then kinded Date (integer_type I32 n)
+    else (if timestamps then kinded Timestamp (integer_type I64 n)
+    else plain (text_type n)))))
+
+-- by the fields that are not null: bool where each says a truth value, i64 where each is the decimal
+-- text of its number, f64 where each is a number, date and timestamp where each is one, else utf8,
+-- and utf8 where there is none; with null where a field is null
+abbrev pub inferred : List Field → KindedType
 inferred fs =
     let n = has_null fs in
-    if has_value fs && hold (bool_type false) fs then bool_type n
-    else (if has_value fs && are_numbers fs then integer_type I64 n else text_type n)
+    if has_value fs
+    then first_type (hold (bool_type false) fs) (are_numbers fs) (are_reals fs)
+    (are_of_kind Date fs) (are_of_kind Timestamp fs) n
+    else plain (text_type n)
 
 -- the fields of column j, of the first n of rows of w fields
 abbrev pub column_fields : List Field → ℕ → ℕ → ℕ → List Field
 column_fields fs w n j = map (λ i. slice_index_or fs (i * w + j) None) (range_with_len 0 n)
 
 -- the types of columns by their fields, of n rows of w
-abbrev pub inferred_types : List Field → ℕ → ℕ → List LogicalType
+abbrev pub inferred_types : List Field → ℕ → ℕ → List KindedType
 inferred_types fs w n = map (λ j. inferred (column_fields fs w n j)) (range_with_len 0 w)

@@ -1,9 +1,12 @@
+pub mod ColumnTypes
+pub mod Outcomes
+pub mod Columns
 pub mod Inference
 pub mod Seen
 pub mod DeclaredColumns
+pub mod DeclaredTypes
 pub mod Places
 pub mod Scopes
-pub mod Columns
 pub mod Reading
 pub mod Queries
 pub mod Refusals

@@ -1,16 +1,15 @@
 -- Why words ask nothing of rows.
-use Rattle.std.specs.Prelude.{◌≡◌, ◌⊎◌, ℕ, List, [], true, false, ⊤, Option, Some, None, Contains}
+use Rattle.std.specs.Prelude.{◌≡◌, ◌⊎◌, ℕ, List, true, false, ⊤, Option, Some, None, Contains}
 use Rattle.std.specs.Borrow.{Bor}
-use Rattle.vortex_types.specs.LogicalTypes.{LogicalType, Fields, is_bool_type}
+use Rattle.vortex_types.specs.LogicalTypes.{Fields, is_bool_type}
 use Rattle.vortex_types.specs.TypeOf.{type_of}
 use Rattle.vortex_interface.specs.Eval.{tree_type}
-use Rattle.vortex_expressions.specs.Items.{Tree, meaning}
+use Rattle.vortex_expressions.specs.Items.{meaning}
 use Rattle.vortex_expressions.specs.Reading.{TellsWhy}
 use Rattle.vortex_program.specs.declared.answer.Answer.{Answer}
 use Rattle.vortex_program.specs.declared.form.Form.{Form}
 use Rattle.vortex_program.specs.declared.form.Form.TheVariants as form
 use Rattle.vortex_program.specs.Names.{AreNamesOf}
-use Rattle.vortex_program.specs.Programs.{trees_of}
 use Rattle.vortex_program.specs.Texts.{AreAnswersOf, IsRefusedOver, StopsAt}
 use Rattle.rowfn_queries.specs.declared.error.TextPlace.{TextPlace}
 use Rattle.rowfn_queries.specs.declared.error.TextPlace.TheVariants as place
@@ -18,7 +17,8 @@ use Rattle.rowfn_queries.specs.declared.error.QueryError.{QueryError}
 use Rattle.rowfn_queries.specs.declared.error.QueryError.TheVariants as error
 use Rattle.rowfn_queries.specs.declared.question.Question.{Question}
 use Rattle.rowfn_queries.specs.declared.query.Words.{Words}
-use Rattle.rowfn_queries.specs.DeclaredColumns.{DeclaredColumns}
+use Rattle.rowfn_queries.specs.Columns.{Columns}
+use Rattle.rowfn_queries.specs.DeclaredColumns.{DeclaredColumns, unplaced}
 use Rattle.rowfn_queries.specs.Queries.{AskedBy}
 use Rattle.rowfn_queries.specs.Reading.{DeclaredBy, AreInferred, IsWidened, columns_read}
 use Rattle.rowfn_queries.specs.Scopes.{IsRefusedScope}
@@ -28,47 +28,48 @@ abbrev pub place_of : Form → TextPlace
 place_of form.Answers = place.Expression
 place_of form.Condition = place.Where
 
--- the tree has that type, which is not of truth values; or memory ran out
-abbrev pub IsNoTruth : Tree → QueryError → Type 0
-IsNoTruth t (error.NoTruth u) =
-    (tree_type meaning t ≡ Some (type_of u)) × (is_bool_type (type_of u) ≡ false)
-IsNoTruth t error.OutOfMemory = ⊤
-IsNoTruth t e = ⊥
+-- the answer has that type and kind, which is not of truth values; or memory ran out
+abbrev pub IsNoTruth : Answer → QueryError → Type 0
+IsNoTruth a (error.NoTruth u) =
+    (tree_type meaning a.tree ≡ Some (type_of u.dtype)) × (a.kind ≡ u.kind)
+    × (is_bool_type (type_of u.dtype) ≡ false)
+IsNoTruth a error.OutOfMemory = ⊤
+IsNoTruth a e = ⊥
 
--- one of the trees of a condition is no truth value; or memory ran out
-pub record RefusesTruth (f : Form) (ts : List Tree) (e : QueryError) : Type 0 where
-  pub tree : Tree
+-- one of the answers of a condition is no truth value; or memory ran out
+pub record RefusesTruth (f : Form) (answers : List Answer) (e : QueryError) : Type 0 where
+  pub answer : Answer
   pub of_condition : f ≡ form.Condition
-  pub among : Contains ts tree
-  pub told : IsNoTruth tree e
+  pub among : Contains answers answer
+  pub told : IsNoTruth answer e
 
 -- why a text is refused over columns; or memory ran out
-abbrev pub RefusesOver : Form → Fields → List ℕ → QueryError → Type 0
-RefusesOver f columns text (error.Unread p e) =
-    (p ≡ place_of f) × TellsWhy (StopsAt f) (IsRefusedOver f columns [] text) text e
+abbrev pub RefusesOver : Form → Columns → List ℕ → QueryError → Type 0
+RefusesOver f columns text (error.Unread p e mixed) =
+    (p ≡ place_of f) × TellsWhy (StopsAt f) (IsRefusedOver f columns.fields columns.kinds text) text e
 RefusesOver f columns text (error.NoTruth t) =
-    (answers : List Answer) × AreAnswersOf f columns [] text answers
-    × RefusesTruth f (trees_of answers) (error.NoTruth t)
+    (answers : List Answer) × AreAnswersOf f columns.fields columns.kinds text answers
+    × RefusesTruth f answers (error.NoTruth t)
 RefusesOver f columns text error.OutOfMemory = ⊤
 RefusesOver f columns text e = ⊥
 
 -- why a text is refused over the columns that it reads; or memory ran out
-pub record RefusesRead (f : Form) (read : List (List ℕ) → Fields) (text : List ℕ) (e : QueryError)
+pub record RefusesRead (f : Form) (read : List (List ℕ) → Columns) (text : List ℕ) (e : QueryError)
     : Type 0 where
   pub names : List (List ℕ)
   pub named : AreNamesOf f text names
   pub refused : RefusesOver f (read names) text e
 
-abbrev pub RefusesText : Form → (List (List ℕ) → Fields) → List ℕ → QueryError → Type 0
+abbrev pub RefusesText : Form → (List (List ℕ) → Columns) → List ℕ → QueryError → Type 0
 RefusesText f read text e = RefusesRead f read text e ⊎ (e ≡ error.OutOfMemory)
 
-abbrev pub RefusesBy : Form → (List (List ℕ) → Fields) → Option (Bor (List ℕ)) → QueryError
+abbrev pub RefusesBy : Form → (List (List ℕ) → Columns) → Option (Bor (List ℕ)) → QueryError
     → Type 0
 RefusesBy f read None e = ⊥
 RefusesBy f read (Some text) e = RefusesText f read text.now e
 
 -- why words are refused over columns: by the condition, or, where it is none, by the answers
-pub data RefusesBinding (words : Words) (columns inferred : Fields) (e : QueryError) : Type 0 where
+pub data RefusesBinding (words : Words) (columns inferred : Columns) (e : QueryError) : Type 0 where
   by_condition :
       RefusesBy form.Condition (columns_read columns inferred words form.Condition) words.condition e
       → RefusesBinding words columns inferred e
@@ -80,7 +81,7 @@ pub data RefusesBinding (words : Words) (columns inferred : Fields) (e : QueryEr
 
 -- a text has a syntax error, whatever the columns are
 abbrev pub IsNoText : Form → List ℕ → QueryError → Type 0
-IsNoText f text (error.Unread p e) = (p ≡ place_of f) × TellsWhy (StopsAt f) (λ _. ⊥) text e
+IsNoText f text (error.Unread p e mixed) = (p ≡ place_of f) × TellsWhy (StopsAt f) (λ _. ⊥) text e
 IsNoText f text e = ⊥
 
 abbrev pub RefusesParsing : Form → Option (Bor (List ℕ)) → QueryError → Type 0
@@ -113,8 +114,8 @@ pub data RefusesWords (words : Words) (e : QueryError) : Type 0 where
   by_columns : RefusesDeclared words.columns e → RefusesWords words e
   by_syntax : RefusesTexts words e → RefusesWords words e
   by_input : words.infers ≡ true → IsOfInput e → RefusesWords words e
-  by_binding : (declared : DeclaredColumns) (inferred wide : Fields)
+  by_binding : (declared : DeclaredColumns) (inferred wide : Columns)
       → DeclaredBy words.columns declared → AreInferred inferred
-      → IsWidened declared.fields inferred wide → RefusesBinding words wide inferred e
+      → IsWidened (unplaced declared) inferred wide → RefusesBinding words wide inferred e
       → RefusesWords words e
   without_memory : e ≡ error.OutOfMemory → RefusesWords words e

@@ -1,40 +1,19 @@
--- Columns as they are declared: `price i32, stock i32?, "unit price" i64, 7 as "note" utf8`.
-use Rattle.std.specs.Prelude.{◌≡◌, ◌≢◌, ℕ, List, [], ◌∷◌, Bool, true, false, Option, Some, None}
-use Rattle.std.specs.Prelude.{if◌then◌else◌, Result, MatchResult}
-use Rattle.std.specs.Str.{is_utf8}
+-- Columns as they are declared: `price decimal(12,2), stock i32?, "unit price" i64, 7 as "day" date`.
+use Rattle.std.specs.Prelude.{◌≡◌, ℕ, zero, suc, List, [], ◌∷◌, Bool, true, false, Option, Some}
+use Rattle.std.specs.Prelude.{None, if◌then◌else◌}
 use Rattle.vortex_types.specs.LogicalTypes.{LogicalType, Fields, find_field}
 use Rattle.vortex_syntax.specs.declared.token.Sign.TheVariants as sign
 use Rattle.vortex_syntax.specs.declared.error.SyntaxError.{SyntaxError}
 use Rattle.vortex_syntax.specs.declared.error.SyntaxError.TheVariants as syntax
-use Rattle.vortex_syntax.specs.Tokens.{Token, name, nullable, quoted, number, text, sign}
+use Rattle.vortex_syntax.specs.Tokens.{Token, name, quoted, number, sign}
 use Rattle.vortex_syntax.specs.Lexing.{Lexes}
 use Rattle.vortex_expressions.specs.Calls.{unquoted}
-use Rattle.vortex_cells.specs.TypeWords.{type_named}
 use Rattle.rowfn_queries.specs.declared.scope.ScopeReason.{ScopeReason}
 use Rattle.rowfn_queries.specs.declared.scope.ScopeReason.TheVariants as reason
 use Rattle.rowfn_queries.specs.DeclaredColumns.{DeclaredColumns, no_columns, with_column}
+use Rattle.rowfn_queries.specs.DeclaredTypes.{is_comma, token_text, type_at}
+use Rattle.rowfn_queries.specs.Outcomes.{Outcome, answers, refuses, and_then}
 use Rattle.rowfn_queries.specs.Places.{place_of_digits}
-
--- what becomes of a part of a text: what it stands for, or why it stands for nothing
-pub data Outcome (A : Type 0) : Type 0 where
-  answers : A → Outcome A
-  refuses : ScopeReason → Outcome A
-
-abbrev pub and_then : {A B : Type 0} → Outcome A → (A → Outcome B) → Outcome B
-and_then (answers a) f = f a
-and_then (refuses r) f = refuses r
-
--- the outcome is what a call answers, by what is seen of it; or memory ran out
-abbrev pub Gives : {A B : Type 0} → (A → B) → Result A ScopeReason → Outcome B → Type 0
-Gives view result o =
-    MatchResult result (λ a. o ≡ answers (view a)) (λ e. e ≢ reason.OutOfMemory → o ≡ refuses e)
-
-abbrev pub is_comma : Token → Bool
-is_comma (sign sign.Comma) = true
-is_comma t = false
-
-abbrev pub token_text : List ℕ → Outcome (List ℕ)
-token_text bs = if is_utf8 bs then answers bs else refuses reason.NotUtf8
 
 -- the name that a token says, without its quotes
 abbrev pub written_name : Token → Outcome (List ℕ)
@@ -49,19 +28,6 @@ if_new w (Some found) = refuses reason.NameTwice
 -- a name that no column has which stands before it
 abbrev pub new_name : Fields → Token → Outcome (List ℕ)
 new_name fs t = and_then (written_name t) (λ w. if_new w (find_field w fs))
-
-abbrev pub if_known : Option LogicalType → Outcome LogicalType
-if_known None = refuses reason.UnknownType
-if_known (Some t) = answers t
-
-abbrev pub type_of_name : Bool → List ℕ → Outcome LogicalType
-type_of_name n w = and_then (token_text w) (λ v. if_known (type_named n v))
-
--- the type that a token names, which has null where a question mark stands behind it
-abbrev pub written_type : Token → Outcome LogicalType
-written_type (name w) = type_of_name false w
-written_type (nullable w) = type_of_name true w
-written_type t = refuses reason.NoType
 
 abbrev pub is_as : Token → Bool
 is_as (sign sign.As) = true
@@ -99,11 +65,17 @@ abbrev mutual
   pub typed_behind : DeclaredColumns → Option ℕ → List ℕ → List Token → Outcome DeclaredColumns
   typed_behind d place w [] = refuses reason.NoType
   typed_behind d place w (t ∷ ts) =
-      and_then (written_type t) (λ u. more_behind (with_column d place w u) ts)
+      and_then (type_at t ts) (λ u. after u.further (with_column d place w u.column) ts)
 
-  pub more_behind : DeclaredColumns → List Token → Outcome DeclaredColumns
-  more_behind d [] = answers d
-  more_behind d (c ∷ ts) = if is_comma c then columns_behind d ts else refuses reason.NoComma
+  -- after so many tokens nothing, or a comma and further columns
+  pub after : ℕ → DeclaredColumns → List Token → Outcome DeclaredColumns
+  after zero d [] = answers d
+  after zero d (c ∷ ts) = if is_comma c then columns_behind d ts else refuses reason.NoComma
+  after (suc n) d [] = answers d
+  after (suc n) d (t ∷ ts) = after n d ts
+
+abbrev pub more_behind : DeclaredColumns → List Token → Outcome DeclaredColumns
+more_behind = after 0
 
 abbrev pub columns_of : List Token → Outcome DeclaredColumns
 columns_of ts = columns_behind no_columns ts

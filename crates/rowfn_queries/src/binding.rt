@@ -1,7 +1,7 @@
 //! Parsed texts, bound over the columns that they read.
 ghost use Rattle.std.specs.Prelude.{◌≡◌, MatchResult, map, string_bytes};
 ghost use Rattle.vortex_errors.specs.Answers.{AnswersUnlessMemory};
-ghost use Rattle.vortex_types.specs.TypeOf.{struct_fields};
+ghost use Rattle.rowfn_queries.specs.Columns.{gathered_in};
 ghost use Rattle.vortex_program.specs.Programs.{trees_of};
 ghost use Rattle.rowfn_queries.specs.Bindings.{all_in, named_in, read_in, IsAskedIn, RefusesIn};
 ghost use Rattle.rowfn_queries.specs.Bindings.{IsBoundIn, AreBoundIn, RefusesWhere, RefusesBound};
@@ -10,18 +10,19 @@ ghost use Rattle.vortex_program.specs.Texts.{IsRead};
 ghost use Rattle.rowfn_queries.specs.Queries.{IsTruth, IsTruthFor};
 ghost use Rattle.rowfn_queries.specs.Refusals.{IsNoTruth, RefusesTruth};
 
+use crate::column_type::ColumnType;
+use crate::columns::{Gathered, Scope};
 use crate::declared::Declared;
 use crate::error::QueryError;
+use crate::mixed::{MixedColumn, mixed_among};
 use crate::places::places_of;
 use crate::query::Words;
 use crate::question::Question;
 use crate::scopes::{add_all, add_needed};
 use crate::texts::{Texts, place_of};
 use std::alloc::Global;
-use vortex_columns::{StructFields, VortexResult};
-use vortex_functions::BoundExpression;
+use vortex_columns::VortexResult;
 use vortex_program::{Answer, Form, Parsed, Program};
-use vortex_standard::Standard;
 
 /// The columns that texts may read: some are declared, others have the types of their fields.
 #[derive(Clone, Copy)]
@@ -30,31 +31,37 @@ pub(crate) struct Binding<'a> {
     pub(crate) words: Words<'a>,
     pub(crate) declared: &'a Declared,
     /// The declared columns, or more, where a text is refused over those.
-    pub(crate) columns: &'a StructFields,
-    pub(crate) sampled: &'a StructFields,
+    pub(crate) columns: Scope<'a>,
+    pub(crate) sampled: Scope<'a>,
+    /// The sampled columns that have numbers, and are text.
+    pub(crate) mixed: &'a [MixedColumn],
 }
 
-/// Fails where a tree is no truth value.
-fn check_tree(alloc: Global, tree: &BoundExpression<Standard>) -> Result<(), QueryError>
-    ensures { MatchResult result (λ _. IsTruth tree.now) (IsNoTruth tree.now) }
+/// Fails where an answer is no truth value.
+fn check_answer(alloc: Global, answer: &Answer) -> Result<(), QueryError>
+    ensures { MatchResult result (λ _. IsTruth answer.now.tree) (IsNoTruth answer.now) }
 {
-    let dtype = tree.dtype();
+    let dtype = answer.tree.dtype();
     if dtype.is_boolean() {
         return Ok(());
     }
-    Err(QueryError::NoTruth(dtype.try_clone(alloc)?))
+    let dtype = dtype.try_clone(alloc)?;
+    Err(QueryError::NoTruth(ColumnType {
+        dtype,
+        kind: answer.kind,
+    }))
 }
 
 /// Fails where a condition is no truth value.
 fn check_truth(alloc: Global, form: Form, answers: &[Answer]) -> Result<(), QueryError>
     ensures { MatchResult result (λ _. IsTruthFor form (trees_of answers.now))
-        (RefusesTruth form (trees_of answers.now)) }
+        (RefusesTruth form answers.now) }
 {
     if form != Form::Condition {
         return Ok(());
     }
     for answer in answers {
-        match check_tree(alloc, &answer.tree) {
+        match check_answer(alloc, answer) {
             Ok(()) => {}
             Err(error) => return Err(error),
         }
@@ -64,22 +71,22 @@ fn check_truth(alloc: Global, form: Form, answers: &[Answer]) -> Result<(), Quer
 
 impl Binding<'_> {
     /// The declared columns, and those of these names.
-    fn all_columns(&self, names: &[String]) -> VortexResult<StructFields>
-        ensures { AnswersUnlessMemory result (λ columns. struct_fields columns
+    fn all_columns(&self, names: &[String]) -> VortexResult<Gathered>
+        ensures { AnswersUnlessMemory result (λ columns. gathered_in columns
             ≡ all_in self.now (map string_bytes names.now)) }
     {
-        let mut columns = StructFields::new(self.alloc);
+        let mut columns = Gathered::none(self.alloc);
         add_all(self.alloc, &mut columns, self.columns)?;
         add_needed(self.alloc, &mut columns, self.sampled, names)?;
         Ok(columns)
     }
 
     /// The columns of these names.
-    fn named_columns(&self, names: &[String]) -> VortexResult<StructFields>
-        ensures { AnswersUnlessMemory result (λ columns. struct_fields columns
+    fn named_columns(&self, names: &[String]) -> VortexResult<Gathered>
+        ensures { AnswersUnlessMemory result (λ columns. gathered_in columns
             ≡ named_in self.now (map string_bytes names.now)) }
     {
-        let mut columns = StructFields::new(self.alloc);
+        let mut columns = Gathered::none(self.alloc);
         add_needed(self.alloc, &mut columns, self.columns, names)?;
         add_needed(self.alloc, &mut columns, self.sampled, names)?;
         Ok(columns)
@@ -87,8 +94,8 @@ impl Binding<'_> {
 
     /// The columns that a text of that form reads: answers next to a condition read those that they
     /// name, else all that are declared are read too.
-    fn columns_read(&self, form: Form, names: &[String]) -> VortexResult<StructFields>
-        ensures { AnswersUnlessMemory result (λ columns. struct_fields columns
+    fn columns_read(&self, form: Form, names: &[String]) -> VortexResult<Gathered>
+        ensures { AnswersUnlessMemory result (λ columns. gathered_in columns
             ≡ read_in self.now form (map string_bytes names.now)) }
     {
         if form == Form::Answers && self.words.condition.is_some() {
@@ -107,16 +114,24 @@ impl Binding<'_> {
         let form = parsed.form;
         let names = parsed.names(self.alloc)?;
         let columns = self.columns_read(form, &names)?;
-        let answers = match parsed.bind(self.alloc, &columns, &[]) {
+        let answers = match parsed.bind(self.alloc, &columns.fields, &columns.kinds) {
             Ok(answers) => answers,
-            Err(error) => return Err(QueryError::Unread(place_of(form), error)),
+            Err(error) => {
+                let mixed = mixed_among(self.alloc, self.mixed, &names, &error);
+                return Err(QueryError::Unread(place_of(form), error, mixed));
+            }
         };
         match check_truth(self.alloc, form, &answers) {
             Ok(()) => {}
             Err(error) => return Err(error),
         }
-        let places = places_of(self.alloc, self.declared, self.words.header, &columns)?;
-        let program = Program::of(self.alloc, columns, Vec::new(self.alloc), answers)?;
+        let places = places_of(
+            self.alloc,
+            self.declared,
+            self.words.header,
+            &columns.fields,
+        )?;
+        let program = Program::of(self.alloc, columns.fields, columns.kinds, answers)?;
         Ok(Question { program, places })
     }
 

@@ -1,33 +1,39 @@
-//! Columns as they are declared: `price i32, stock i32?, "unit price" i64, 7 as "note" utf8`.
-ghost use Rattle.std.specs.Prelude.{◌≡◌, ◌≢◌, ◌<◌, ◌≤◌, ◌⊎◌, map, drop, length, OnOk, MatchResult};
+//! Columns as they are declared: `price decimal(12,2), stock i32?, "unit price" i64, 7 as "day" date`.
+ghost use Rattle.std.specs.Prelude.{◌≡◌, ◌≢◌, ◌<◌, ◌≤◌, ◌⊎◌, map, drop, length, MatchResult};
 ghost use Rattle.std.specs.Prelude.{string_bytes, IfOk, None};
 ghost use Rattle.vortex_types.specs.LogicalTypes.{find_field};
-ghost use Rattle.vortex_types.specs.TypeOf.{struct_fields, type_of, allows_null};
+ghost use Rattle.vortex_types.specs.TypeOf.{struct_fields};
 ghost use Rattle.vortex_syntax.specs.Tokens.{token_in};
 ghost use Rattle.vortex_errors.specs.Answers.{AnswersUnlessMemory};
 ghost use Rattle.rowfn_queries.specs.declared.scope.ScopeReason.TheVariants.{OutOfMemory};
-ghost use Rattle.rowfn_queries.specs.Scopes.{Gives, answers, refuses, token_text, written_name};
-ghost use Rattle.rowfn_queries.specs.Scopes.{new_name, type_of_name, written_type, is_comma, is_as};
-ghost use Rattle.rowfn_queries.specs.Scopes.{given_place, named_behind, placed_behind};
+ghost use Rattle.rowfn_queries.specs.ColumnTypes.{type_in};
+ghost use Rattle.rowfn_queries.specs.Columns.{scope_in};
+ghost use Rattle.rowfn_queries.specs.Outcomes.{Gives, answers, refuses};
+ghost use Rattle.rowfn_queries.specs.Scopes.{written_name, new_name, is_as, given_place};
+ghost use Rattle.rowfn_queries.specs.Scopes.{named_behind, placed_behind};
 ghost use Rattle.rowfn_queries.specs.Scopes.{columns_behind, more_behind, columns_of};
 ghost use Rattle.rowfn_queries.specs.DeclaredColumns.{DeclaredColumns, declared_by, no_columns};
-ghost use Rattle.rowfn_queries.specs.DeclaredColumns.{with_column};
+ghost use Rattle.rowfn_queries.specs.DeclaredColumns.{with_column, unplaced};
 ghost use Rattle.rowfn_queries.specs.Scopes.{Declares, IsRefusedScope, reason_of};
 
+use crate::column_type::ColumnType;
+use crate::columns::Scope;
 use crate::places::place_of_digits;
 use crate::scope::{DeclarationError, ScopeReason};
+use crate::types::{is_comma, token_text, type_at};
 use std::alloc::Global;
-use std::str;
-use vortex_cells::types::type_named;
-use vortex_columns::{DType, Nullability, StructFields, VortexResult};
+use vortex_columns::{StructFields, VortexResult};
 use vortex_expressions::quotes::unquoted;
 use vortex_expressions::words::{found_at, line_and_column};
+use vortex_logical::kind::Kind;
 use vortex_syntax::{Sign, SyntaxError, Token, read_tokens};
 
 /// Columns that are declared, in their order.
 #[derive(Drop)]
 pub struct Declared {
     pub columns: StructFields,
+    /// The kinds of their values, by place.
+    pub kinds: Vec<Kind>,
     /// The place of each in a row of the input, counted from 0, where it is declared.
     pub places: Vec<Option<usize>>,
 }
@@ -39,17 +45,29 @@ impl Declared {
     {
         Declared {
             columns: StructFields::new(alloc),
+            kinds: Vec::new(alloc),
             places: Vec::new(alloc),
         }
     }
 
+    /// The columns without their places.
+    pub(crate) fn scope(&self) -> Scope<'_>
+        ensures { scope_in result ≡ unplaced (declared_by self.now) }
+    {
+        Scope {
+            fields: &self.columns,
+            kinds: &self.kinds,
+        }
+    }
+
     /// One column more, whose name is new.
-    fn push(&mut self, name: String, dtype: DType, place: Option<usize>) -> VortexResult<()>
+    fn push(&mut self, name: String, column: ColumnType, place: Option<usize>) -> VortexResult<()>
         requires { find_field (string_bytes name) (struct_fields self.old.columns) ≡ None }
         ensures { AnswersUnlessMemory result (λ _. declared_by self.new
-            ≡ with_column (declared_by self.old) place (string_bytes name) (type_of dtype)) }
+            ≡ with_column (declared_by self.old) place (string_bytes name) (type_in column)) }
     {
-        self.columns.push(name, dtype)?;
+        self.columns.push(name, column.dtype)?;
+        self.kinds.push(column.kind)?;
         self.places.push(place)?;
         Ok(())
     }
@@ -66,22 +84,6 @@ fn is_as(token: Token<'_>) -> bool
     ensures { result ≡ is_as (token_in token.entry) }
 {
     matches!(token, Token::Sign(Sign::As))
-}
-
-fn is_comma(token: Token<'_>) -> bool
-    ensures { result ≡ is_comma (token_in token.entry) }
-{
-    matches!(token, Token::Sign(Sign::Comma))
-}
-
-/// The bytes as a text.
-fn token_text(alloc: Global, bytes: &[u8]) -> Result<String, ScopeReason>
-    ensures { Gives string_bytes result (token_text bytes.now) }
-{
-    match str::from_utf8(bytes) {
-        Ok(text) => Ok(String::from_str(alloc, text)?),
-        Err(_) => Err(ScopeReason::NotUtf8),
-    }
 }
 
 /// The name that a token says, without its quotes.
@@ -110,28 +112,6 @@ fn new_name(alloc: Global, columns: &StructFields, token: Token<'_>) -> Result<S
     }
 }
 
-/// The type of that name.
-fn type_of_name(alloc: Global, name: &[u8], nullability: Nullability) -> Result<DType, ScopeReason>
-    ensures { Gives (λ t. type_of t) result (type_of_name (allows_null nullability) name.now) }
-{
-    let name = token_text(alloc, name)?;
-    match type_named(name.as_str(), nullability) {
-        Some(dtype) => Ok(dtype),
-        None => Err(ScopeReason::UnknownType),
-    }
-}
-
-/// The type that a token names.
-fn written_type(alloc: Global, token: Token<'_>) -> Result<DType, ScopeReason>
-    ensures { Gives (λ t. type_of t) result (written_type (token_in token.entry)) }
-{
-    match token {
-        Token::Name(name) => type_of_name(alloc, name, Nullability::NonNullable),
-        Token::Nullable(name) => type_of_name(alloc, name, Nullability::Nullable),
-        _ => Err(ScopeReason::NoType),
-    }
-}
-
 /// Why a column is not read, after so many of its tokens.
 fn stop_at(before: usize, reason: ScopeReason) -> Stopped
     ensures { result.reason ≡ reason }
@@ -149,19 +129,21 @@ fn given_place(digits: &[u8]) -> Result<usize, ScopeReason>
     }
 }
 
-/// One column more, whose name is the first token and its type the second.
+/// One column more, whose name is the first token, before its type; returns of how many tokens these
+/// are.
 fn read_named(
     alloc: Global,
     declared: &mut Declared,
     place: Option<usize>,
     tokens: &[Token<'_>],
-) -> Result<(), Stopped>
+) -> Result<usize, Stopped>
     requires { 0 < length tokens.now }
-    ensures read { OnOk result (2 ≤ length tokens.now) }
+    ensures read { IfOk result (λ count. (2 ≤ count) × (count ≤ 7) × (count ≤ length tokens.now)) }
     ensures column { let columns = named_behind (declared_by declared.old) place
         (map token_in tokens.now) in
         MatchResult result
-        (λ _. columns ≡ more_behind (declared_by declared.new) (map token_in (drop 2 tokens.now)))
+        (λ count. columns
+        ≡ more_behind (declared_by declared.new) (map token_in (drop count tokens.now)))
         (λ e. e.reason ≢ OutOfMemory → columns ≡ refuses e.reason) }
 {
     let name = match new_name(alloc, &declared.columns, tokens[0]) {
@@ -171,28 +153,30 @@ fn read_named(
     let Some(token) = tokens.get(1) else {
         return Err(stop_at(1, ScopeReason::NoType));
     };
-    let dtype = match written_type(alloc, *token) {
-        Ok(dtype) => dtype,
+    let written = match type_at(alloc, *token, &tokens[2..]) {
+        Ok(written) => written,
         Err(reason) => return Err(stop_at(1, reason)),
     };
-    match declared.push(name, dtype, place) {
-        Ok(()) => Ok(()),
+    match declared.push(name, written.column, place) {
+        Ok(()) => Ok(written.further + 2),
         Err(error) => Err(stop_at(0, ScopeReason::from(error))),
     }
 }
 
-/// One column more, whose place the digits say; `as`, its name and its type follow.
+/// One column more, whose place the digits say; `as`, its name and its type follow. Returns of how
+/// many tokens these are.
 fn read_placed(
     alloc: Global,
     declared: &mut Declared,
     digits: &[u8],
     tokens: &[Token<'_>],
-) -> Result<(), Stopped>
-    ensures read { OnOk result (3 ≤ length tokens.now) }
+) -> Result<usize, Stopped>
+    ensures read { IfOk result (λ count. (3 ≤ count) × (count ≤ 8) × (count ≤ length tokens.now)) }
     ensures column { let columns = placed_behind (declared_by declared.old) (given_place digits.now)
         (map token_in tokens.now) in
         MatchResult result
-        (λ _. columns ≡ more_behind (declared_by declared.new) (map token_in (drop 3 tokens.now)))
+        (λ count. columns
+        ≡ more_behind (declared_by declared.new) (map token_in (drop count tokens.now)))
         (λ e. e.reason ≢ OutOfMemory → columns ≡ refuses e.reason) }
 {
     let place = match given_place(digits) {
@@ -210,7 +194,7 @@ fn read_placed(
         return Err(stop_at(2, ScopeReason::NoName));
     }
     match read_named(alloc, declared, Some(place), rest) {
-        Ok(()) => Ok(()),
+        Ok(count) => Ok(count + 1),
         Err(stop) => Err(stop_at(stop.before.saturating_add(2), stop.reason)),
     }
 }
@@ -222,7 +206,7 @@ fn read_column(
     tokens: &[Token<'_>],
 ) -> Result<usize, Stopped>
     requires { 0 < length tokens.now }
-    ensures read { IfOk result (λ count. (2 ≤ count) × (count ≤ 4) × (count ≤ length tokens.now)) }
+    ensures read { IfOk result (λ count. (2 ≤ count) × (count ≤ 9) × (count ≤ length tokens.now)) }
     ensures column { let columns = columns_behind (declared_by declared.old)
         (map token_in tokens.now) in
         MatchResult result
@@ -231,11 +215,10 @@ fn read_column(
         (λ e. e.reason ≢ OutOfMemory → columns ≡ refuses e.reason) }
 {
     if let Token::Number(digits) = tokens[0] {
-        read_placed(alloc, declared, digits, &tokens[1..])?;
-        return Ok(4);
+        let count = read_placed(alloc, declared, digits, &tokens[1..])?;
+        return Ok(count + 1);
     }
-    read_named(alloc, declared, None, tokens)?;
-    Ok(2)
+    read_named(alloc, declared, None, tokens)
 }
 
 /// The columns that the tokens declare.
@@ -298,10 +281,12 @@ fn unread(alloc: Global, text: &str, error: SyntaxError) -> DeclarationError
 }
 
 /// Reads a list of columns, each a name and a type with a comma before the next, as
-/// `price i32, stock i32?, "unit price" i64`; names and types are written as in expressions. A place,
-/// counted from 1, and `as` may stand before a name: `3 as category utf8`. Ok exactly where the text
-/// is such a list in which no name stands twice, and then the columns in their order, each with its
-/// place where it has one; else why it is none, the first reason from left to right.
+/// `price decimal(12,2), stock i32?, "unit price" i64`; names are written as in expressions, and types
+/// as there, or as `date`, `timestamp`, `f64`, `f32` or `decimal(12,2)`. A type has null where `?`
+/// stands right behind its word: `f64?`, `decimal?(12,2)`. A place, counted from 1, and `as` may stand
+/// before a name: `3 as category utf8`. Ok exactly where the text is such a list in which no name
+/// stands twice, and then the columns in their order, each with its kind, and its place where it has
+/// one; else why it is none, the first reason from left to right.
 pub fn read_scope(alloc: Global, text: &str) -> Result<Declared, DeclarationError>
     // The text declares what is returned; what is reported of tokens is why they declare none.
     ensures found { MatchResult result (λ declared. Declares text.now (declared_by declared))

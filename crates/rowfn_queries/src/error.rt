@@ -2,10 +2,12 @@
 ghost use Rattle.std.specs.Prelude.{◌≡◌};
 ghost use Rattle.rowfn_queries.specs.Errors.{is_memory, is_out_of_memory, words_status, status_of};
 
+use crate::column_type::ColumnType;
+use crate::mixed::MixedColumn;
 use crate::scope::{DeclarationError, ScopeReason};
 use std::alloc::{AllocError, AllocFailed};
 use std::{fmt, io};
-use vortex_columns::{DType, VortexError};
+use vortex_columns::VortexError;
 use vortex_expressions::TextError;
 
 /// Where a text stands among the words of a program.
@@ -57,12 +59,13 @@ impl fmt::Display for HeaderFault {
 /// Why words ask nothing of rows.
 #[derive(Drop)]
 pub enum QueryError {
-    /// A text is refused, with its place in it.
-    Unread(TextPlace, TextError),
+    /// A text is refused, with its place in it; and, if a column's type is why, the column that has
+    /// numbers and is text.
+    Unread(TextPlace, TextError, Option<MixedColumn>),
     /// The columns that are declared are refused.
     Columns(DeclarationError),
     /// The condition is no truth value, but of that type.
-    NoTruth(DType),
+    NoTruth(ColumnType),
     /// The input has no header.
     Header(HeaderFault),
     /// The header could not be read.
@@ -125,7 +128,7 @@ impl QueryError {
         ensures { result ≡ is_out_of_memory self.now }
     {
         match self {
-            QueryError::Unread(_, error) => error.is_out_of_memory(),
+            QueryError::Unread(_, error, _) => error.is_out_of_memory(),
             QueryError::Columns(error) => is_memory(error.reason),
             QueryError::OutOfMemory => true,
             QueryError::NoTruth(_) | QueryError::Header(_) | QueryError::Reading(_) => false,
@@ -139,7 +142,7 @@ impl QueryError {
         match self {
             QueryError::Header(_) => 2,
             QueryError::Reading(_) | QueryError::OutOfMemory => 3,
-            QueryError::Unread(_, error) => words_status(error.is_out_of_memory()),
+            QueryError::Unread(_, error, _) => words_status(error.is_out_of_memory()),
             QueryError::Columns(error) => words_status(is_memory(error.reason)),
             QueryError::NoTruth(_) => 4,
         }
@@ -151,10 +154,13 @@ impl fmt::Display for QueryError {
     fn fmt<W: fmt::Write>(&self, f: &mut fmt::Formatter<W>) -> fmt::Result {
         match self {
             error if error.is_out_of_memory() => f.write_str("out of memory"),
-            QueryError::Unread(place, error) => write!(f, "{place}: {error}"),
+            QueryError::Unread(place, error, None) => write!(f, "{place}: {error}"),
+            QueryError::Unread(place, error, Some(mixed)) => {
+                write!(f, "{place}: {error}; {mixed}")
+            }
             QueryError::Columns(error) => write!(f, "--columns: {error}"),
-            QueryError::NoTruth(dtype) => {
-                write!(f, "--where: expected a truth value, not {dtype:?}")
+            QueryError::NoTruth(column) => {
+                write!(f, "--where: expected a truth value, not {column}")
             }
             QueryError::Header(fault) => write!(f, "{fault}"),
             QueryError::Reading(error) => write!(f, "reading: {error}"),

@@ -1,17 +1,16 @@
 //! What is asked of rows.
 ghost use Rattle.std.specs.Prelude.{◌≡◌, ◌⊎◌, IfOk, IfErr, MatchResult, true, false};
-ghost use Rattle.vortex_types.specs.LogicalTypes.{no_fields};
-ghost use Rattle.vortex_types.specs.TypeOf.{struct_fields};
 ghost use Rattle.rowfn_queries.specs.Bindings.{RefusesWidened, AreRead, columns_in, sampled_in};
-ghost use Rattle.rowfn_queries.specs.Columns.{with_all, with_texts};
+ghost use Rattle.rowfn_queries.specs.Columns.{gathered_in, none, with_all, with_texts};
 ghost use Rattle.rowfn_queries.specs.DeclaredColumns.{declared_by};
-ghost use Rattle.rowfn_queries.specs.Queries.{IsQuery};
+ghost use Rattle.rowfn_queries.specs.Queries.{IsQuery, inferred_of};
 ghost use Rattle.rowfn_queries.specs.Reading.{AreInferred, DeclaredBy};
 ghost use Rattle.rowfn_queries.specs.Refusals.{IsOfInput, RefusesDeclared};
 ghost use Rattle.rowfn_queries.specs.Refusals.{RefusesWords};
 
 use crate::again::Again;
 use crate::binding::Binding;
+use crate::columns::Gathered;
 use crate::declared::{Declared, read_scope};
 use crate::error::QueryError;
 use crate::question::Question;
@@ -22,6 +21,7 @@ use rowfn_csv::Format;
 use std::alloc::Global;
 use std::io::Read;
 use vortex_columns::{StructFields, VortexResult};
+use vortex_logical::kind::Kind;
 
 /// The words that ask, and how columns get their types.
 #[derive(Clone, Copy)]
@@ -45,16 +45,18 @@ pub struct Query {
     pub condition: Option<Question>,
     /// The columns whose types were taken from the first rows.
     pub inferred: StructFields,
+    /// The kinds of their values, by place.
+    pub inferred_kinds: Vec<Kind>,
 }
 
 /// All columns that are declared, that have the types of their fields, and that a header has besides.
-fn widened(binding: Binding<'_>, names: &[String]) -> VortexResult<StructFields>
-    ensures { IfOk result (λ columns. struct_fields columns
+fn widened(binding: Binding<'_>, names: &[String]) -> VortexResult<Gathered>
+    ensures { IfOk result (λ columns. gathered_in columns
         ≡ with_texts names.now (with_all (sampled_in binding.entry)
-        (with_all (columns_in binding.entry) no_fields))) }
+        (with_all (columns_in binding.entry) none))) }
 {
     let alloc = binding.alloc;
-    let mut columns = StructFields::new(alloc);
+    let mut columns = Gathered::none(alloc);
     add_all(alloc, &mut columns, binding.columns)?;
     add_all(alloc, &mut columns, binding.sampled)?;
     add_named(alloc, &mut columns, names)?;
@@ -76,7 +78,7 @@ fn with_header_names(
         Err(_) => return error,
     };
     let wide = Binding {
-        columns: &columns,
+        columns: columns.scope(),
         ..binding
     };
     match wide.bind(texts) {
@@ -109,9 +111,9 @@ fn sampled<R: Read>(
     wanted: &[String],
     reader: &mut Again<R>,
 ) -> Result<Sample, QueryError>
-    ensures inferred { IfOk result (λ sample. AreInferred (struct_fields sample.columns)) }
+    ensures inferred { IfOk result (λ sample. AreInferred (gathered_in sample.columns)) }
     ensures not_inferred { words.now.infers ≡ false
-        → IfOk result (λ sample. struct_fields sample.columns ≡ no_fields) }
+        → IfOk result (λ sample. gathered_in sample.columns ≡ none) }
     ensures refused { IfErr result (λ e. (words.now.infers ≡ true) × IsOfInput e) }
 {
     if words.infers && !wanted.is_empty() {
@@ -121,9 +123,10 @@ fn sampled<R: Read>(
     }
 }
 
-/// Reads what is asked of rows: the columns that are declared; the condition, a truth value, over
-/// them and the others that it names; and the answers. Columns that are named and not declared have
-/// the types that the first rows give their fields, where they are to; the reader gives these once
+/// Reads what is asked of rows: the columns that are declared, with the kinds of their values; the
+/// condition, a truth value, over them and the others that it names; and the answers. Columns that are
+/// named and not declared have the types and kinds that the first rows give their fields, where they
+/// are to; the reader gives these once
 /// more after the call.
 ///
 /// Without a header the columns are called `c1`, `c2`, .. by their places. A column stands at the
@@ -138,7 +141,7 @@ pub fn read_query<R: Read>(
 ) -> Result<Query, QueryError>
     ensures read { IfOk result (IsQuery words.entry) }
     ensures not_inferred { words.entry.infers ≡ false
-        → IfOk result (λ q. struct_fields q.inferred ≡ no_fields) }
+        → IfOk result (λ q. inferred_of q ≡ none) }
     ensures refused { IfErr result (RefusesWords words.entry) }
 {
     let declared = match declared_columns(alloc, words.columns) {
@@ -153,24 +156,29 @@ pub fn read_query<R: Read>(
     let Sample {
         names,
         columns: inferred,
+        mixed,
         failed,
     } = match sampled(alloc, &words, format, max_field, &wanted, reader) {
         Ok(sample) => sample,
         Err(error) => return Err(error),
     };
     reader.rewind(failed);
+    let columns = declared.scope();
+    let sampled = inferred.scope();
     let binding = Binding {
         alloc,
         words,
         declared: &declared,
-        columns: &declared.columns,
-        sampled: &inferred,
+        columns,
+        sampled,
+        mixed: &mixed,
     };
     match binding.bind(&texts) {
         Ok((answers, condition)) => Ok(Query {
             answers,
             condition,
-            inferred,
+            inferred: inferred.fields,
+            inferred_kinds: inferred.kinds,
         }),
         Err(error) => Err(with_header_names(binding, &texts, &names, error)),
     }

@@ -2,22 +2,22 @@
 ghost use Rattle.std.specs.Prelude.{◌≡◌, ◌*◌, IfOk, IfErr, map, length, option_map};
 ghost use Rattle.std.specs.Prelude.{string_bytes};
 ghost use Rattle.vortex_errors.specs.Answers.{AnswersUnlessMemory};
-ghost use Rattle.vortex_types.specs.LogicalTypes.{no_fields};
-ghost use Rattle.vortex_types.specs.TypeOf.{struct_fields};
-ghost use Rattle.rowfn_queries.specs.Columns.{typed_columns};
+ghost use Rattle.rowfn_queries.specs.Columns.{gathered_in, none, typed_columns};
 ghost use Rattle.rowfn_queries.specs.Inference.{inferred_types};
 ghost use Rattle.rowfn_queries.specs.Reading.{lettered, fields_seen, AreInferred};
 ghost use Rattle.rowfn_queries.specs.Refusals.{IsOfInput};
 
 use crate::again::Again;
+use crate::columns::Gathered;
 use crate::error::QueryError;
 use crate::inference::infer;
+use crate::mixed::{MixedColumn, mixed_columns};
 use crate::rows::{read_named, read_numbered, read_rows};
 use crate::scopes::typed_columns;
 use rowfn_csv::{Batch, Format, RecordError, Records, truth_spelled};
 use std::alloc::{AllocError, Global};
 use std::io::{self, Read};
-use vortex_columns::{StructFields, VortexResult};
+use vortex_columns::VortexResult;
 
 /// What the beginning of an input shows.
 #[derive(Drop)]
@@ -25,27 +25,30 @@ pub(crate) struct Sample {
     /// The names that the header has, each once, or `c1`, `c2`, .. without a header.
     pub(crate) names: Vec<String>,
     /// The wanted ones, with the types of their fields.
-    pub(crate) columns: StructFields,
+    pub(crate) columns: Gathered,
+    /// Those of them that have numbers, and are text.
+    pub(crate) mixed: Vec<MixedColumn>,
     /// How reading failed, where it did.
     pub(crate) failed: Option<io::Error>,
 }
 
 /// No columns, whose types no fields gave.
-fn no_columns(alloc: Global) -> StructFields
-    ensures none { struct_fields result ≡ no_fields }
-    ensures inferred { AreInferred (struct_fields result) }
+fn no_columns(alloc: Global) -> Gathered
+    ensures none { gathered_in result ≡ none }
+    ensures inferred { AreInferred (gathered_in result) }
 {
-    StructFields::new(alloc)
+    Gathered::none(alloc)
 }
 
 impl Sample {
     pub(crate) fn none(alloc: Global) -> Sample
-        ensures none { struct_fields result.columns ≡ no_fields }
-        ensures inferred { AreInferred (struct_fields result.columns) }
+        ensures none { gathered_in result.columns ≡ none }
+        ensures inferred { AreInferred (gathered_in result.columns) }
     {
         Sample {
             names: Vec::new(alloc),
             columns: no_columns(alloc),
+            mixed: Vec::new(alloc),
             failed: None,
         }
     }
@@ -105,20 +108,20 @@ fn fields_of(
     Ok(fields)
 }
 
-/// The columns of a header of those names, with the types of their fields, of which each row has one
+/// The columns of a header of those names, with the types and kinds of their fields, of which each row has one
 /// for each; none where it has not.
 fn columns_of(
     alloc: Global,
     names: &[String],
     batch: &Batch,
     any_truths: bool,
-) -> VortexResult<StructFields>
+) -> VortexResult<Gathered>
     ensures types { AnswersUnlessMemory result (λ columns.
         length batch.now.fields ≡ length names.now * length batch.now.spans
-        → struct_fields columns ≡ typed_columns (map string_bytes names.now)
+        → gathered_in columns ≡ typed_columns (map string_bytes names.now)
         (inferred_types (fields_seen any_truths batch.now.fields) (length names.now)
         (length batch.now.spans))) }
-    ensures inferred { IfOk result (λ columns. AreInferred (struct_fields columns)) }
+    ensures inferred { IfOk result (λ columns. AreInferred (gathered_in columns)) }
 {
     let fields = fields_of(alloc, batch, any_truths)?;
     let (width, row_count) = (names.len(), batch.len());
@@ -128,6 +131,20 @@ fn columns_of(
     }
     let types = infer(alloc, &fields, width, row_count)?;
     typed_columns(alloc, names, &types)
+}
+
+/// The columns of a header of those names that have numbers, and are text by another field.
+fn mixed_of(
+    alloc: Global,
+    names: &[String],
+    batch: &Batch,
+) -> Result<Vec<MixedColumn>, AllocError> {
+    let fields = batch.fields(alloc)?;
+    let row_count = batch.len();
+    if names.len().checked_mul(row_count) != Some(fields.len()) {
+        return Ok(Vec::new(alloc));
+    }
+    mixed_columns(alloc, names, &fields, row_count)
 }
 
 /// Reads the header, where there is one, and the first rows. Fails where the header cannot be read,
@@ -140,7 +157,7 @@ pub(crate) fn read_sample<R: Read>(
     wanted: &[String],
     reader: &mut Again<R>,
 ) -> Result<Sample, QueryError>
-    ensures inferred { IfOk result (λ sample. AreInferred (struct_fields sample.columns)) }
+    ensures inferred { IfOk result (λ sample. AreInferred (gathered_in sample.columns)) }
     ensures refused { IfErr result IsOfInput }
 {
     let mut sample = Sample::none(alloc);
@@ -155,6 +172,7 @@ pub(crate) fn read_sample<R: Read>(
         Err(RecordError::Io(error)) => sample.failed = Some(error),
         Err(RecordError::OutOfMemory) => return Err(QueryError::OutOfMemory),
     }
+    sample.mixed = mixed_of(alloc, &rows.names, &rows.batch)?;
     sample.columns = columns_of(alloc, &rows.names, &rows.batch, format.any_truths)?;
     Ok(sample)
 }

@@ -73,8 +73,19 @@ impl ScopeReason {
         match self {
             ScopeReason::NoName => "the name of a column, or its place and as",
             ScopeReason::NoAs => "as and a name after the place of a column",
-            ScopeReason::NoType => "a type after the name, as i64 or utf8?",
+            ScopeReason::NoType => "a type after the name, as i64, utf8? or decimal(12,2)",
             _ => "a comma or the end",
+        }
+    }
+}
+
+impl DeclarationError {
+    /// Where the mark of null goes, where it stands apart.
+    fn nullable_hint(&self) -> &'static str {
+        if self.found.as_str() == "\"?\"" {
+            "; a type has null with ? right behind its word: i64?, decimal?(12,2)"
+        } else {
+            ""
         }
     }
 }
@@ -88,13 +99,21 @@ impl fmt::Display for DeclarationError {
         }
         write!(f, "line {line}, column {column}: ")?;
         match self.reason {
-            ScopeReason::NoToken => write!(f, "no word and no sign begins with {found}"),
+            ScopeReason::NoToken => {
+                write!(f, "no word and no sign begins with {found}")?;
+                f.write_str(self.nullable_hint())
+            }
             ScopeReason::UnknownType => {
                 write!(
                     f,
-                    "no type {found}; types are bool, utf8, i8, i16, i32, i64, u8, u16, u32 "
+                    "no type {found}; types are bool, utf8, i8, i16, i32, i64, u8, u16, u32, u64, "
                 )?;
-                f.write_str("and u64, with ? where they have null")
+                f.write_str(
+                    "f32, f64, date, timestamp and decimal(p,s) of p digits, 1 to 18, s of ",
+                )?;
+                f.write_str(
+                    "them after the point; with ? where they have null: f64?, decimal?(p,s)",
+                )
             }
             ScopeReason::NoPlace => {
                 write!(

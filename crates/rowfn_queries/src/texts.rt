@@ -36,7 +36,7 @@ fn answers_of<'a>(alloc: Global, text: Option<&'a str>) -> Result<Option<Parsed<
     };
     match parse_answers(alloc, text) {
         Ok(parsed) => Ok(Some(parsed)),
-        Err(error) => Err(QueryError::Unread(place_of(Form::Answers), error)),
+        Err(error) => Err(QueryError::Unread(place_of(Form::Answers), error, None)),
     }
 }
 
@@ -49,7 +49,7 @@ fn condition_of<'a>(alloc: Global, text: Option<&'a str>) -> Result<Option<Parse
     };
     match parse_condition(alloc, text) {
         Ok(parsed) => Ok(Some(parsed)),
-        Err(error) => Err(QueryError::Unread(place_of(Form::Condition), error)),
+        Err(error) => Err(QueryError::Unread(place_of(Form::Condition), error, None)),
     }
 }
 

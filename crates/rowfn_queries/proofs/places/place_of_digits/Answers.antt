@@ -1,4 +1,4 @@
-use Rattle.std.proofs.Common.{rules, None, ◌≡◌, ◌∙◌, Option, ℕ}
+use Rattle.std.proofs.Common.{rules, None, ◌≡◌, ◌∙◌}
 use Rattle.vortex_cells.specs.CellValues.{integer_of}
 use Rattle.rowfn_queries.proofs.Placed.{no_place}
 use Rattle.rowfn_queries.proofs.places.place_of_digits.Goals as goal
