@@ -8,7 +8,7 @@ const AFTER_HELP: &str = "Rows are CSV. EXPRESSION is one answer or more:
   price * stock as worth, price      answers, each with a name if it has one
   price, \"unit price\"                columns; in double quotes any name
   7  -7  7::u8  'it''s'  true  null  literals; null::utf8? is a null of a type
-  + - * / %  -a                      whole numbers; of two types in the wider one
+  + - * / %  -a                      numbers; of two types in the wider one
   a & b, a | b, a # b, ~a, a << n    operations on bits; a >> n
   s || t                             one text after the other
   = <> != < <= > >=                  two values of one type; texts by their bytes
@@ -22,8 +22,10 @@ const AFTER_HELP: &str = "Rows are CSV. EXPRESSION is one answer or more:
                                      replace split_part repeat reverse concat regexp_like
   cast(a as int), a::int             between integers, truth values and texts; try_cast gives null
                                      where cast fails
-Types are bool, i8 to i64, u8 to u64 and utf8; a ? after one allows null.
-There are no fractions, dates or times.
+Types are bool, i8 to i64, u8 to u64, f32, f64, decimal(12,2), date, timestamp and utf8; a ? after
+the type's word allows null: f64?, decimal?(12,2).
+Next to a float or a decimal a number may have a point or an exponent: 12.5, 1e-3. Next to a date or
+a timestamp a text is one: day >= '2024-01-31'. day + 30 is a date.
 
 Columns that --columns does not declare take their types from the first rows. --columns also takes a
 column by its place, from 1, and gives it a name: '3 as category utf8'. Without a header columns are
@@ -165,7 +167,7 @@ const READING: [Row; 8] = [
         id: "columns",
         long: Some("columns"),
         value: "COLUMNS",
-        help: "Columns and their types: 'price i32, \"unit price\" i64?, 3 as category utf8'",
+        help: "Columns and their types: 'price decimal(12,2), day date?, 3 as category utf8'",
         ..TEXT
     },
     Row {
