@@ -24,8 +24,7 @@ const AFTER_HELP: &str = "Rows are CSV. EXPRESSION is one answer or more:
                                      where cast fails
 Types are bool, i8 to i64, u8 to u64, f32, f64, decimal(12,2), date, timestamp and utf8; a ? after
 the type's word allows null: f64?, decimal?(12,2).
-Next to a float or a decimal a number may have a point or an exponent: 12.5, 1e-3. Next to a date or
-a timestamp a text is one: day >= '2024-01-31'. day + 30 is a date.
+Next to floats and decimals a number may be 12.5 or 1e-3, next to dates and timestamps a text is one.
 
 Columns that --columns does not declare take their types from the first rows. --columns also takes a
 column by its place, from 1, and gives it a name: '3 as category utf8'. Without a header columns are
