@@ -24,7 +24,7 @@ const AFTER_HELP: &str = "Rows are CSV. EXPRESSION is one answer or more:
                                      where cast fails
 Types are bool, i8 to i64, u8 to u64, f32, f64, decimal(12,2), date, timestamp and utf8; a ? after
 the type's word allows null: f64?, decimal?(12,2).
-Next to floats and decimals a number may be 12.5 or 1e-3, next to dates and timestamps a text is one.
+Next to floats and decimals numbers may be 12.5 or 1e-3; a text next to a date or timestamp is one.
 
 Columns that --columns does not declare take their types from the first rows. --columns also takes a
 column by its place, from 1, and gives it a name: '3 as category utf8'. Without a header columns are
