@@ -10,7 +10,7 @@ use Rattle.std.proofs.Math.Nat.{mul-le-mul_left}
 use Rattle.vortex_types.specs.LogicalTypes.{bool_type}
 use Rattle.vortex_logical.specs.declared.kind.Kind.TheVariants.{Date, Timestamp}
 use Rattle.rowfn_queries.specs.Inference.{Field, holds, column_fields}
-use Rattle.rowfn_queries.specs.Inference.{is_number, or_real, is_of_kind}
+use Rattle.rowfn_queries.specs.Inference.{is_number, is_numeric, is_of_kind}
 use Rattle.rowfn_queries.specs.Seen.{seen, seen_with}
 
 and_true : (b : Bool) → (b && true) ≡ b
@@ -35,7 +35,7 @@ pub seen_more : (fs : List Field) (f : Field) → seen_with (seen fs) f ≡ seen
 seen_more fs f = λ i. record {
   is_bool = all_more (holds (bool_type false)) fs f i;
   is_integer = all_more is_number fs f i;
-  is_real = all_more or_real fs f i;
+  is_real = all_more is_numeric fs f i;
   is_date = all_more (is_of_kind Date) fs f i;
   is_timestamp = all_more (is_of_kind Timestamp) fs f i;
   has_null = any_more (λ (f : Field). not (is_some f)) fs f i;

@@ -52,7 +52,7 @@ has_value fs = list_any is_some fs
 abbrev pub has_null : List Field → Bool
 has_null fs = list_any (λ f. not (is_some f)) fs
 
--- a number with a point or an exponent
+-- a point, and the letters of an exponent
 abbrev pub is_fractional : ℕ → Bool
 is_fractional b = (b == 46) || (b == 69) || (b == 101)
 
@@ -76,18 +76,18 @@ abbrev pub is_finite : Option ℤ → Bool
 is_finite None = false
 is_finite (Some z) = nat_lt (unsigned_abs z) 9218868437227405312
 
--- a text is a float with a point or an exponent, or the decimal text of a number that i64 holds
-abbrev pub is_real : List ℕ → Bool
-is_real bs =
-    if list_any is_fractional bs
-    then begins_signed bs && is_finite (stored_of_text F64 bs) else is_number (Some bs)
+-- the field is null, or a float that is finite, with a point or an exponent
+abbrev pub is_float : Field → Bool
+is_float None = true
+is_float (Some bs) =
+    begins_signed bs && list_any is_fractional bs && is_finite (stored_of_text F64 bs)
 
-abbrev pub or_real : Field → Bool
-or_real None = true
-or_real (Some bs) = is_real bs
+-- or the decimal text of a number that i64 holds
+abbrev pub is_numeric : Field → Bool
+is_numeric f = is_number f || is_float f
 
-abbrev pub are_reals : List Field → Bool
-are_reals fs = list_all or_real fs
+abbrev pub are_numeric : List Field → Bool
+are_numeric fs = list_all is_numeric fs
 
 -- the field is null or a text of the kind
 abbrev pub is_of_kind : Kind → Field → Bool
@@ -114,7 +114,7 @@ abbrev pub inferred : List Field → KindedType
 inferred fs =
     let n = has_null fs in
     if has_value fs
-    then first_type (hold (bool_type false) fs) (are_numbers fs) (are_reals fs)
+    then first_type (hold (bool_type false) fs) (are_numbers fs) (are_numeric fs)
     (are_of_kind Date fs) (are_of_kind Timestamp fs) n
     else plain (text_type n)
 

@@ -1,5 +1,5 @@
 //! The type that the fields of a column have, with the kind of its values.
-ghost use Rattle.std.specs.Prelude.{◌≡◌, ◌<◌, ◌*◌, ◌&&◌, [], IfOk, map, length, option_map};
+ghost use Rattle.std.specs.Prelude.{◌≡◌, ◌<◌, ◌*◌, ◌&&◌, ◌||◌, [], IfOk, map, length, option_map};
 ghost use Rattle.std.specs.List.{list_any};
 ghost use Rattle.vortex_types.specs.LogicalTypes.{integer_type};
 ghost use Rattle.vortex_types.specs.TypeOf.{type_of, allows_null};
@@ -9,7 +9,7 @@ ghost use Rattle.rowfn_queries.specs.ColumnTypes.{type_in, kinded};
 ghost use Rattle.rowfn_queries.specs.Inference.{holds, inferred, column_fields};
 ghost use Rattle.rowfn_queries.specs.Inference.{begins_number, is_decimal, is_number};
 ghost use Rattle.rowfn_queries.specs.Inference.{is_fractional, begins_digit, begins_decimal};
-ghost use Rattle.rowfn_queries.specs.Inference.{begins_signed, is_finite, is_real, or_real};
+ghost use Rattle.rowfn_queries.specs.Inference.{begins_signed, is_finite, is_float, is_numeric};
 ghost use Rattle.rowfn_queries.specs.Inference.{is_of_kind, first_type, inferred_types};
 ghost use Rattle.rowfn_queries.specs.Seen.{seen, seen_with, type_seen};
 
@@ -126,33 +126,29 @@ fn is_finite(text: &[u8]) -> bool
     }
 }
 
-/// Whether a text is a float with a point or an exponent, or the decimal text of a number that `i64`
-/// holds: `1e400`, `02134` and `-0` are not.
-fn is_real(text: &[u8]) -> bool
-    ensures { result ≡ is_real text.now }
-{
-    if has_fraction(text) {
-        begins_signed(text) && is_finite(text)
-    } else {
-        is_number(Some(text))
-    }
-}
-
-/// Whether a field is null or a number that is an `f64`.
-pub(crate) fn or_real(field: Option<&[u8]>) -> bool
-    ensures { result ≡ or_real (option_map (λ f. f.now) field.entry) }
+/// Whether a field is null, or a float that is finite, with a point or an exponent: `1e400` and `nan`
+/// are not.
+fn is_float(field: Option<&[u8]>) -> bool
+    ensures { result ≡ is_float (option_map (λ f. f.now) field.entry) }
 {
     match field {
         None => true,
-        Some(text) => is_real(text),
+        Some(text) => begins_signed(text) && has_fraction(text) && is_finite(text),
     }
 }
 
-/// Whether what held of fields before holds of one more.
-fn and_real(before: bool, field: Option<&[u8]>) -> bool
-    ensures { result ≡ (before && or_real (option_map (λ f. f.now) field.entry)) }
+/// The same, or the decimal text of a number that `i64` holds.
+pub(crate) fn is_numeric(field: Option<&[u8]>) -> bool
+    ensures { result ≡ is_numeric (option_map (λ f. f.now) field.entry) }
 {
-    before && or_real(field)
+    is_number(field) || is_float(field)
+}
+
+/// Whether what held of fields before holds of one more, which is a whole number or not.
+fn and_numeric(before: bool, is_number: bool, field: Option<&[u8]>) -> bool
+    ensures { result ≡ (before && (is_number || is_float (option_map (λ f. f.now) field.entry))) }
+{
+    before && (is_number || is_float(field))
 }
 
 /// Whether a field is null or a text of the kind.
@@ -207,10 +203,11 @@ impl Seen {
     fn with(self, field: Option<&[u8]>) -> Seen
         ensures { result ≡ seen_with self (option_map (λ f. f.now) field.entry) }
     {
+        let number = is_number(field);
         Seen {
             is_bool: self.is_bool && holds(&DType::Bool(Nullability::NonNullable), field),
-            is_integer: self.is_integer && is_number(field),
-            is_real: and_real(self.is_real, field),
+            is_integer: self.is_integer && number,
+            is_real: and_numeric(self.is_real, number, field),
             is_date: and_of_kind(self.is_date, Kind::Date, field),
             is_timestamp: and_of_kind(self.is_timestamp, Kind::Timestamp, field),
             has_null: self.has_null || field.is_none(),

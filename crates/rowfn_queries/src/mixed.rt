@@ -1,10 +1,11 @@
 //! Columns that have numbers in the first rows, and are text by another field.
 ghost use Rattle.std.specs.Prelude.{◌≡◌, ◌<◌, ◌*◌, length};
 
-use crate::inference::or_real;
+use crate::inference::is_numeric;
 use crate::scopes::is_in_names;
 use std::alloc::{AllocError, Global};
 use std::{fmt, str};
+use vortex_columns::{DType, StructFields};
 use vortex_expressions::{Reason, Refusal, TextError};
 
 /// How many bytes of a field are reported, at most.
@@ -81,7 +82,7 @@ fn first_text<'b>(
         let Some(text) = fields[row * width + column] else {
             continue;
         };
-        if or_real(Some(text)) {
+        if is_numeric(Some(text)) {
             has_number = true;
         } else if first.is_none() {
             first = Some((row + 1, text));
@@ -100,10 +101,19 @@ fn reported(text: &str) -> &str {
     text
 }
 
-/// The columns of those names that have numbers, and are text by another field.
+/// Whether the column of that name is of texts.
+fn is_text(types: &StructFields, name: &str) -> bool {
+    match types.find(name) {
+        Some((_, dtype)) => matches!(dtype, DType::Utf8(_)),
+        None => false,
+    }
+}
+
+/// The columns of those names that are text, by one field, and have numbers.
 pub(crate) fn mixed_columns(
     alloc: Global,
     names: &[String],
+    types: &StructFields,
     fields: &[Option<&[u8]>],
     row_count: usize,
 ) -> Result<Vec<MixedColumn>, AllocError>
@@ -111,6 +121,9 @@ pub(crate) fn mixed_columns(
 {
     let mut columns = Vec::new(alloc);
     for column in 0..names.len() {
+        if !is_text(types, names[column].as_str()) {
+            continue;
+        }
         let Some((row, field)) = first_text(fields, names.len(), row_count, column) else {
             continue;
         };

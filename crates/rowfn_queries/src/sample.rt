@@ -17,7 +17,7 @@ use crate::scopes::typed_columns;
 use rowfn_csv::{Batch, Format, RecordError, Records, truth_spelled};
 use std::alloc::{AllocError, Global};
 use std::io::{self, Read};
-use vortex_columns::VortexResult;
+use vortex_columns::{StructFields, VortexResult};
 
 /// What the beginning of an input shows.
 #[derive(Drop)]
@@ -133,10 +133,11 @@ fn columns_of(
     typed_columns(alloc, names, &types)
 }
 
-/// The columns of a header of those names that have numbers, and are text by another field.
+/// The columns of a header of those names that are text, by one field, and have numbers.
 fn mixed_of(
     alloc: Global,
     names: &[String],
+    types: &StructFields,
     batch: &Batch,
 ) -> Result<Vec<MixedColumn>, AllocError> {
     let fields = batch.fields(alloc)?;
@@ -144,7 +145,7 @@ fn mixed_of(
     if names.len().checked_mul(row_count) != Some(fields.len()) {
         return Ok(Vec::new(alloc));
     }
-    mixed_columns(alloc, names, &fields, row_count)
+    mixed_columns(alloc, names, types, &fields, row_count)
 }
 
 /// Reads the header, where there is one, and the first rows. Fails where the header cannot be read,
@@ -172,7 +173,7 @@ pub(crate) fn read_sample<R: Read>(
         Err(RecordError::Io(error)) => sample.failed = Some(error),
         Err(RecordError::OutOfMemory) => return Err(QueryError::OutOfMemory),
     }
-    sample.mixed = mixed_of(alloc, &rows.names, &rows.batch)?;
     sample.columns = columns_of(alloc, &rows.names, &rows.batch, format.any_truths)?;
+    sample.mixed = mixed_of(alloc, &rows.names, &sample.columns.fields, &rows.batch)?;
     Ok(sample)
 }

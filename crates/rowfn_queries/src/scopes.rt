@@ -4,8 +4,8 @@ ghost use Rattle.std.specs.List.{list_any};
 ghost use Rattle.std.specs.Str.{bytes_eq};
 ghost use Rattle.vortex_errors.specs.Answers.{AnswersUnlessMemory};
 ghost use Rattle.rowfn_queries.specs.ColumnTypes.{type_in};
-ghost use Rattle.rowfn_queries.specs.Columns.{gathered_in, scope_in, is_among, with_wanted, with_all};
-ghost use Rattle.rowfn_queries.specs.Columns.{typed_columns, with_texts};
+ghost use Rattle.rowfn_queries.specs.Columns.{gathered_in, scope_in, is_among, with_wanted};
+ghost use Rattle.rowfn_queries.specs.Columns.{with_all, typed_columns, with_texts};
 
 use crate::column_type::ColumnType;
 use crate::columns::{Gathered, Scope};

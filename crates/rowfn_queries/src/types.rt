@@ -1,6 +1,5 @@
-//! The types of declared columns: `i64`, `utf8?`, `date`, `f64?`, `decimal(12,2)`, `decimal?(12,2)`.
-ghost use Rattle.std.specs.Prelude.{◌≡◌, ◌≤◌, map, length, OnOk, IfOk, IfSome, OnSome, string_bytes};
-ghost use Rattle.std.specs.Prelude.{false};
+//! The types of declared columns: `i64`, `utf8?`, `date`, `decimal(12,2)`, `decimal?(12,2)`.
+ghost use Rattle.std.specs.Prelude.{◌≡◌, ◌≤◌, map, length, IfOk, OnSome, string_bytes};
 ghost use Rattle.std.specs.Option.{option_map};
 ghost use Rattle.vortex_types.specs.TypeOf.{type_of, allows_null};
 ghost use Rattle.vortex_syntax.specs.Tokens.{token_in};
