@@ -116,7 +116,7 @@ fn push_answer(
 }
 
 /// The answer of that number, if there is one.
-fn answer_at(answers: &[Answer], place: usize) -> Option<&Answer>
+pub(crate) fn answer_at(answers: &[Answer], place: usize) -> Option<&Answer>
     ensures { option_map (λ a. a.now) result ≡ slice_get answers.now place }
 {
     answers.get(place)
