@@ -15,7 +15,7 @@ use Rattle.vortex_errors.specs.declared.error.VortexError.TheVariants.{OutOfMemo
 use Rattle.vortex_errors.specs.Answers.{UnlessMemory}
 use Rattle.vortex_program.specs.Executing.{RefusesColumnsFirst}
 use Rattle.rowfn_batches.specs.declared.errors.StreamError.TheVariants as end
-use Rattle.rowfn_batches.specs.BatchAnswers.{width_of, first_fields, AreFirst, trees_asked}
+use Rattle.rowfn_batches.specs.BatchAnswers.{scope_of, kinds_of, width_of, first_fields, AreFirst, trees_asked}
 use Rattle.rowfn_batches.specs.BatchAnswers.{IsUnserved}
 
 pub if_ok-weaker : {A E : Type 0} (r : Result A E) (P Q : A → Type 0) → ((a : A) → P a → Q a)
@@ -35,12 +35,13 @@ module _ (x : Request) (fs : List (Option (Bor (List ℕ)))) (n w : ℕ) (counte
       subst P same h
 
   pub are_first : (cs : List ColumnView)
-      → AreEven (struct_fields x.program.now.scope) (map field_in whole) n
-      × AreColumns (struct_fields x.program.now.scope) (map field_in whole) n (width_of x) cs
+      → AreEven (scope_of x) (kinds_of x) (map field_in whole) n
+      × AreColumns (scope_of x) (kinds_of x) (map field_in whole) n (width_of x) cs
       → AreFirst x (map field_in fs) n cs
   are_first cs h =
-      let ds = struct_fields x.program.now.scope in
-      let here = of_first (λ f. AreEven ds f n × AreColumns ds f n (width_of x) cs) h in
+      let ds = scope_of x in
+      let ks = kinds_of x in
+      let here = of_first (λ f. AreEven ds ks f n × AreColumns ds ks f n (width_of x) cs) h in
       record { even = here.0; said = here.1 }
 
 -- the columns of first rows do not serve a tree
