@@ -1,7 +1,6 @@
 use Rattle.std.proofs.Common.{refl}
-use Rattle.vortex_types.specs.TypeOf.{struct_fields}
 use Rattle.rowfn_batches.specs.Batches.{IsLeftmost, IsTooLong}
-use Rattle.rowfn_batches.specs.BatchAnswers.{with_batch, at_misfit, too_long}
+use Rattle.rowfn_batches.specs.BatchAnswers.{with_batch, at_misfit, too_long, scope_of, kinds_of}
 use Rattle.rowfn_batches.proofs.FirstRows.{are_first, of_first, if_ok-weaker}
 use Rattle.rowfn_batches.proofs.answering.BatchTask.answer_batch.Goals as goal
 
@@ -25,7 +24,7 @@ returns-in-Err-Misfit-clause-ends c =
     let column = c.leftmost_misfit-column.result in
     let misfit = of_first x c.args.fields.now c.args.row_count c.len.result c.len.ensures
     c.first_rows-whole.result.now c.first_rows-whole.ensures
-    (λ f. IsLeftmost (struct_fields x.program.now.scope) f c.args.self.now.places.now row column)
+    (λ f. IsLeftmost (scope_of x) (kinds_of x) f c.args.self.now.places.now row column)
     c.leftmost_misfit-column.ensures in
     let told = c.in_ok-misfit-in-Err-Misfit in
     if_ok-weaker c.answer_fitting-in-Err-Misfit.result _ _
@@ -38,6 +37,6 @@ returns-in-Err-TextsTooLong-clause-refused c =
     let column = c.in-Err-TextsTooLong.column in
     let long = of_first x c.args.fields.now c.args.row_count c.len.result c.len.ensures
     c.first_rows-whole.result.now c.first_rows-whole.ensures
-    (λ f. IsTooLong (struct_fields x.program.now.scope) f c.args.row_count column)
+    (λ f. IsTooLong (scope_of x) (kinds_of x) f c.args.row_count column)
     (rw c.in-Err-TextsTooLong.field-0-is at c.in-Err-TextsTooLong.ensures).1 in
     too_long column long c.in_ok-too_long-in-Err-TextsTooLong.ensures

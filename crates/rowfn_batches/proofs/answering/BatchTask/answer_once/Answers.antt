@@ -1,9 +1,9 @@
 use Rattle.std.proofs.Math.Logic.{∥∥₁_map}
 use Rattle.rowfn_batches.proofs.Optimized.{rewrites}
-use Rattle.rowfn_batches.proofs.answering.BatchTask.answer_faultless.Goals as goal
+use Rattle.rowfn_batches.proofs.answering.BatchTask.answer_once.Goals as goal
 
-pub returns-in-Ok-clause-rows : goal.returns-in-Ok-clause-rows
-returns-in-Ok-clause-rows c = record {
+pub show_values-requires : goal.show_values-requires
+show_values-requires c = record {
   columns = c.in_ok-columns.columns.items;
   first = c.in_ok-columns.ensures;
   mean =
