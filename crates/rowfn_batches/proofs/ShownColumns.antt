@@ -15,7 +15,26 @@ use Rattle.vortex_program.specs.declared.answer.Answer.{Answer}
 use Rattle.rowfn_batches.specs.Fields.{Field}
 use Rattle.rowfn_batches.specs.declared.errors.StreamError.{StreamError}
 use Rattle.rowfn_batches.specs.Showing.{lone_column, ShowsValues, ShowsAnswer, ShowsAt, Shows, Lacks}
-use Rattle.rowfn_batches.specs.Showing.{Hides, ArePair}
+use Rattle.rowfn_batches.specs.Showing.{Hides, ArePair, HidesAnswer, LacksAnswer, IsHidden, TellsLong}
+use Rattle.rowfn_batches.specs.declared.errors.StreamError.TheVariants as end
+use Rattle.rowfn_batches.specs.declared.request.Request.{Request}
+use Rattle.rowfn_batches.specs.BatchAnswers.{AreValues, IsUnserved, width_of, first_fields, answers_asked}
+
+-- the texts of an answer that are too long end the rows
+unserved_long : (x : Request) (fs : List Field) (n k : ℕ) (values : List ColumnView) (e : StreamError)
+    → AreValues x fs n values
+    → (h : Hides (width_of x) (first_fields x fs n) n (answers_asked x) values k e)
+    → TellsLong h.answer e → IsUnserved x fs e
+unserved_long x fs n k values (end.TextsTooLong name) are h told = (n, k, values, are, h)
+unserved_long x fs n k values e are h told = absurd told
+
+pub unserved_shown : (x : Request) (fs : List Field) (n k : ℕ) (values : List ColumnView)
+    (e : StreamError)
+    → AreValues x fs n values
+    → (e ≡ end.OutOfMemory) ⊎ Hides (width_of x) (first_fields x fs n) n (answers_asked x) values k e
+    → IsUnserved x fs e
+unserved_shown x fs n k values e are (inl is) = subst (IsUnserved x fs) (sym is) tt
+unserved_shown x fs n k values e are (inr h) = unserved_long x fs n k values e are h h.told
 
 -- a tree that is a column, or none
 pub lone_at : (w : ℕ) (t : Tree) (p : ℕ) → IsLeafAt p t
@@ -77,6 +96,17 @@ module _ (w : ℕ) (fs : List Field) (n : ℕ) where
           subst (λ (c : Answer). ShowsAnswer w fs n c v s) one
           (plain_shown b.kind (lone_column w b.tree) v s plain same);
     }
+
+    -- the texts of an answer are too long, or a value has none
+    pub hidden_at : (a : Answer) (v : ColumnView) (e : StreamError) → ArePair answers old k a v
+        → IsHidden w fs n a v e → (e ≡ end.OutOfMemory) ⊎ Hides w fs n answers old k e
+    hidden_at a v e pair (inl is) = inl is
+    hidden_at a v e pair (inr h) =
+        inr (record { answer = a; value = v; pair = pair; hides = h.0; told = h.1 })
+
+    pub lacks_at : (a : Answer) (v : ColumnView) (i : ℕ) → ArePair answers old k a v
+        → LacksAnswer w fs n a v i → Lacks w fs n answers old k i a
+    lacks_at a v i pair h = record { value = v; pair = pair; lacks = h }
 
     -- others are replaced
     pub shown_texts : (b : Answer) (value texts : ColumnView) → k < length old
@@ -157,7 +187,7 @@ module _ (w : ℕ) (fs : List Field) (n : ℕ) where
       lacks = lacks.lacks;
     }
 
-    pub hiding : (k : ℕ) (e : StreamError) (now : List ColumnView) → AreReplaced k now
+    hiding : (k : ℕ) (e : StreamError) (now : List ColumnView) → AreReplaced k now
         → Hides w fs n answers now k e → Hides w fs n answers values k e
     hiding k e now h hides = record {
       answer = hides.answer;
@@ -169,3 +199,9 @@ module _ (w : ℕ) (fs : List Field) (n : ℕ) where
       hides = hides.hides;
       told = hides.told;
     }
+
+    pub hidden : (k : ℕ) (e : StreamError) (now : List ColumnView) → AreReplaced k now
+        → (e ≡ end.OutOfMemory) ⊎ Hides w fs n answers now k e
+        → (e ≡ end.OutOfMemory) ⊎ Hides w fs n answers values k e
+    hidden k e now h (inl is) = inl is
+    hidden k e now h (inr hides) = inr (hiding k e now h hides)

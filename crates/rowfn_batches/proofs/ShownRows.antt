@@ -23,14 +23,15 @@ use Rattle.rowfn_batches.specs.Showing.{own_texts, ShowsKind, ShowsValues, Lacks
 all_count : {A : Type 0} (os : List (Option A)) (xs : List A) → all_some os ≡ Some xs
     → length xs ≡ length os
 all_count [] xs e = let same : xs ≡ [] = cc in ap length same
-all_count {A} (o ∷ os) xs e = by o (all_some os) refl e
+all_count {A} (o ∷ os) xs e = by o (all_some os) (λ ys h. all_count os ys h) e
   where
-    by : (p : Option A) (r : Option (List A)) → all_some os ≡ r → with_first p r ≡ Some xs
+    by : (p : Option A) (r : Option (List A))
+        → ((ys : List A) → r ≡ Some ys → length ys ≡ length os) → with_first p r ≡ Some xs
         → length xs ≡ length (o ∷ os)
     by None r h f = cc
     by (Some x) None h f = cc
     by (Some x) (Some ys) h f =
-        let same : xs ≡ x ∷ ys = cc in omega (arith, ap length same, all_count os ys h)
+        let same : xs ≡ x ∷ ys = cc in omega (arith, ap length same, h ys refl)
 
 where_count : (t : LogicalType) (o : Option (List Value)) (s : ColumnView)
     → Some s ≡ option_and_then (column_where t) o → (vs : List Value) × (o ≡ Some vs) × (s.rows ≡ vs)

@@ -4,6 +4,7 @@ use Rattle.std.proofs.Common.{take, arith, Some, None, get_or, refl, sym, subst,
 use Rattle.std.specs.Prelude.{slice_get}
 use Rattle.std.proofs.lemmas.List.{length-map}
 use Rattle.std.proofs.lemmas.Option.{slice_get_within, slice_get_cases, slice_get-get_or}
+use Rattle.std.proofs.lemmas.Option.{get_or_from_slice_get}
 use Rattle.vortex_program.specs.declared.answer.Answer.{Answer}
 use Rattle.std.proofs.Common.{mul-le-mul_left, mul_comm, lt_of_not-le}
 use Rattle.std.proofs.Math.Logic.{∥∥₁_elim}
@@ -55,6 +56,12 @@ module _ (x : Request) (fs : List Field) where
       λ k d lt. ∥∥₁_elim a.mean (search props)
       (λ m. all_have a.columns n (trees_asked x) values m k d lt)
 
+  pub value_long : (n : ℕ) (values : List ColumnView) → AreValues x fs n values → (k : ℕ)
+      (v : ColumnView) → slice_get values k ≡ Some v → n ≤ length v.rows
+  value_long n values a k v there =
+      subst (λ (c : ColumnView). n ≤ length c.rows) (get_or_from_slice_get values k v v there)
+      (have_values n values a k v (slice_get_within values k v there))
+
   -- each column is shown of an answer's values
   long_at : (n : ℕ) (answers : List ColumnView) (a : AreAnswers x fs n answers) (k : ℕ)
       (s : ColumnView) → slice_get answers k ≡ Some s → length (answers_asked x) ≡ length a.values
@@ -97,7 +104,7 @@ module _ (x : Request) (fs : List Field) where
         all_counted a.are.columns n (trees_asked x) a.values m,
       )))
 
-  within_shown : (number : ℕ → ℕ) (fit : ℕ) (other : Option StreamError) (n : ℕ)
+  pub within_shown : (number : ℕ → ℕ) (fit : ℕ) (other : Option StreamError) (n : ℕ)
       (e : Option StreamError)
       → EndsShown x fs number fit other n e → n ≤ fit
   within_shown number fit other n e (with_all is ended) = omega (arith, is)
@@ -151,7 +158,7 @@ module _ (x : Request) (fs : List Field) where
   pub within_batch : (places : List ℕ) (number : ℕ → ℕ) (count : ℕ) (behind : Option StreamError)
       (n : ℕ)
       (e : Option StreamError) → EndsBatch x fs places number count behind n e → n ≤ count
-  within_batch places number count behind n e (fit, other, fitting, faultless, ended, ends, shows) =
+  within_batch places number count behind n e (fit, other, fitting, (faultless, ended, ends, shows)) =
       omega (
         arith,
         within_fitting places number count behind fit other fitting,

@@ -96,7 +96,8 @@ impl BatchTask<'_> {
             columns.items)
             (λ e. e ≡ OutOfMemory) }
     {
-        let (declared, kinds) = (&self.asked.program.scope, &self.asked.program.kinds);
+        let declared = &self.asked.program.scope;
+        let kinds = self.asked.program.kinds.as_slice();
         let fields = first_rows(fields, declared.len(), row_count);
         match read_columns(self.alloc, declared, kinds, fields, row_count) {
             Ok(columns) => Ok(columns),
@@ -275,7 +276,8 @@ impl BatchTask<'_> {
         ensures refused { IfErr result (IsUnanswered self.now.asked
             (map field_in fields.now) row_count) }
     {
-        let (declared, kinds) = (&self.asked.program.scope, &self.asked.program.kinds);
+        let declared = &self.asked.program.scope;
+        let kinds = self.asked.program.kinds.as_slice();
         let whole = first_rows(fields, declared.len(), row_count);
         match read_columns(self.alloc, declared, kinds, whole, row_count) {
             Ok(columns) => self.answer_fitting(fields, &columns, row_count, error),

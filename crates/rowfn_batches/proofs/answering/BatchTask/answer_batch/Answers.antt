@@ -9,7 +9,7 @@ answer_fitting-requires c =
     rw c.deref.ensures.value
     (are_first c.args.self.now.asked c.args.fields.now c.args.row_count c.len.result
     c.len.ensures c.first_rows-whole.result.now c.first_rows-whole.ensures
-    c.in-Ok.columns.items c.in-Ok.ensures)
+    c.in-Ok.columns.items c.as_slice-kinds.result.now c.as_slice-kinds.ensures.value c.in-Ok.ensures)
 
 pub returns-in-Ok-clause-ends : goal.returns-in-Ok-clause-ends
 returns-in-Ok-clause-ends c =
@@ -25,7 +25,7 @@ returns-in-Err-Misfit-clause-ends c =
     let misfit = of_first x c.args.fields.now c.args.row_count c.len.result c.len.ensures
     c.first_rows-whole.result.now c.first_rows-whole.ensures
     (λ f. IsLeftmost (scope_of x) (kinds_of x) f c.args.self.now.places.now row column)
-    c.leftmost_misfit-column.ensures in
+    (rw c.as_slice-kinds.ensures.value at c.leftmost_misfit-column.ensures) in
     let told = c.in_ok-misfit-in-Err-Misfit in
     if_ok-weaker c.answer_fitting-in-Err-Misfit.result _ _
     (λ a h. (row, _, at_misfit column told.misfit refl misfit told.ensures, h))
@@ -38,5 +38,5 @@ returns-in-Err-TextsTooLong-clause-refused c =
     let long = of_first x c.args.fields.now c.args.row_count c.len.result c.len.ensures
     c.first_rows-whole.result.now c.first_rows-whole.ensures
     (λ f. IsTooLong (scope_of x) (kinds_of x) f c.args.row_count column)
-    (rw c.in-Err-TextsTooLong.field-0-is at c.in-Err-TextsTooLong.ensures).1 in
+    (rw (c.in-Err-TextsTooLong.field-0-is, c.as_slice-kinds.ensures.value) at c.in-Err-TextsTooLong.ensures).1 in
     too_long column long c.in_ok-too_long-in-Err-TextsTooLong.ensures

@@ -2,7 +2,7 @@ use Rattle.std.proofs.Common.{map}
 use Rattle.rowfn_batches.specs.Fields.{field_in}
 use Rattle.rowfn_batches.specs.BatchAnswers.{width_of, first_fields, answers_asked}
 use Rattle.rowfn_batches.proofs.ShownColumns.{AreReplaced}
-use Rattle.rowfn_batches.proofs.showing.BatchTask.show_values.Given as goal
+use Rattle.rowfn_batches.proofs.answering.BatchTask.show_values.Given as goal
 
 -- what is shown of the columns so far
 abbrev pub invariant-loop-k : goal.invariant-loop-k
