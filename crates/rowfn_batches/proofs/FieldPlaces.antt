@@ -1,7 +1,7 @@
 -- Where a field stands, and lists that are made element by element.
 use Rattle.std.proofs.Common.{◌≡◌, ℕ, zero, suc, ◌+◌, ◌*◌, ◌/◌, ◌%◌, ◌<◌, ◌≤◌, List, [], ◌∷◌, ◌++◌}
 use Rattle.std.proofs.Common.{map}
-use Rattle.std.proofs.Common.{sym, ap, subst, ◌∙◌, arith, length, mul_comm, lt_of_not-le}
+use Rattle.std.proofs.Common.{sym, subst, ◌∙◌, arith, length, mul_comm, lt_of_not-le}
 use Rattle.std.specs.List.{range_with_len}
 use Rattle.std.proofs.lemmas.List.{map-append}
 use Rattle.std.proofs.lemmas.List.FromFn.{map-range_with_len_more}

@@ -1,6 +1,6 @@
 -- Columns that are replaced, one after the other, by what is shown of them.
 use Rattle.std.proofs.Common.{◌≡◌, ◌≢◌, ◌∙◌, ◌⊎◌, inl, inr, ℕ, zero, suc, ◌+◌, ◌<◌, ◌≤◌, List, [], ◌∷◌}
-use Rattle.std.proofs.Common.{Bool, Option, Some, None, length, refl, sym, ap, subst, arith}
+use Rattle.std.proofs.Common.{Option, Some, None, length, refl, sym, ap, subst, arith}
 use Rattle.std.proofs.Common.{if◌then◌else◌}
 use Rattle.std.specs.Prelude.{slice_get, slice_set, nat_lt}
 use Rattle.std.proofs.lemmas.Bool.{cases_lt}
@@ -15,7 +15,7 @@ use Rattle.vortex_program.specs.declared.answer.Answer.{Answer}
 use Rattle.rowfn_batches.specs.Fields.{Field}
 use Rattle.rowfn_batches.specs.declared.errors.StreamError.{StreamError}
 use Rattle.rowfn_batches.specs.Showing.{lone_column, ShowsValues, ShowsAnswer, ShowsAt, Shows, Lacks}
-use Rattle.rowfn_batches.specs.Showing.{Hides, ArePair, HidesAnswer, LacksAnswer, IsHidden, TellsLong}
+use Rattle.rowfn_batches.specs.Showing.{Hides, ArePair, LacksAnswer, IsHidden, TellsLong}
 use Rattle.rowfn_batches.specs.declared.errors.StreamError.TheVariants as end
 use Rattle.rowfn_batches.specs.declared.request.Request.{Request}
 use Rattle.rowfn_batches.specs.BatchAnswers.{AreValues, IsUnserved, width_of, first_fields, answers_asked}

@@ -1,5 +1,5 @@
 -- What is shown of values has as many rows; and what ends rows of which one has no text.
-use Rattle.std.proofs.Common.{◌≡◌, ◌≢◌, ◌∙◌, ℕ, suc, ◌<◌, ◌≤◌, List, [], ◌∷◌, Bool, true, false, Option}
+use Rattle.std.proofs.Common.{◌≡◌, ◌≢◌, ℕ, ◌<◌, ◌≤◌, List, [], ◌∷◌, Bool, true, false, Option}
 use Rattle.std.proofs.Common.{Some, None, map, length, refl, sym, ap, subst, arith, if◌then◌else◌}
 use Rattle.std.specs.List.{range_with_len}
 use Rattle.std.specs.Option.{option_and_then}
@@ -15,7 +15,7 @@ use Rattle.vortex_cells.specs.CellValues.{column_from, column_where, fit_column}
 use Rattle.vortex_cells.specs.Fields.{field_cell}
 use Rattle.vortex_logical.specs.declared.kind.Kind.{Kind}
 use Rattle.vortex_logical.specs.declared.kind.Kind.TheVariants.{Plain, Date, Timestamp, Decimal, F64, F32}
-use Rattle.vortex_logical_cells.specs.StoredTexts.{AreTextsOf, IsFirstWithout, MakeNoColumn}
+use Rattle.vortex_logical_cells.specs.StoredTexts.{IsFirstWithout, MakeNoColumn}
 use Rattle.rowfn_batches.specs.Fields.{Field}
 use Rattle.rowfn_batches.specs.Showing.{own_texts, ShowsKind, ShowsValues, LacksText, IsNotShown}
 

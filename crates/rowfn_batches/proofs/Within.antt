@@ -1,6 +1,6 @@
 -- A batch's answers have a row for each row that is answered, and those are no more than it has.
 use Rattle.std.proofs.Common.{◌≡◌, ℕ, zero, suc, ◌+◌, ◌*◌, ◌<◌, ◌≤◌, List, [], ◌∷◌, Option, length}
-use Rattle.std.proofs.Common.{take, arith, Some, None, get_or, refl, sym, subst, map, ◌⊎◌, inl, inr}
+use Rattle.std.proofs.Common.{take, arith, Some, None, get_or, refl, sym, subst, ◌⊎◌, inl, inr}
 use Rattle.std.specs.Prelude.{slice_get}
 use Rattle.std.proofs.lemmas.List.{length-map}
 use Rattle.std.proofs.lemmas.Option.{slice_get_within, slice_get_cases, slice_get-get_or}

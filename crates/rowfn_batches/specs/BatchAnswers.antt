@@ -1,5 +1,5 @@
 -- What the rows of a batch answer, up to the first that ends the stream, and what ends it there.
-use Rattle.std.specs.Prelude.{◌≡◌, ◌+◌, ◌*◌, ◌-◌, ◌^◌, ◌≤◌, min, ℕ, List, map, take, Option}
+use Rattle.std.specs.Prelude.{◌≡◌, ◌+◌, ◌*◌, ◌-◌, ◌^◌, ◌≤◌, min, ℕ, List, take, Option}
 use Rattle.std.specs.Prelude.{Some, None, string_bytes, Vec, ⊤, get_or, option_map}
 use Rattle.std.specs.declared.alloc.Global.{Global}
 use Rattle.vortex_errors.specs.declared.error.VortexError.{VortexError}
@@ -150,8 +150,8 @@ module _ (x : Request) (fs : List Field) where
       (faultless : ℕ) × (behind : Option StreamError)
       × EndsAnswers number fit other faultless behind × EndsShown number faultless behind n e
 
-  -- the columns of first rows are not valid for a tree, the texts of an answer's values are too long,
-  -- or memory ran out
+  -- the columns of first rows are not valid for a tree, the texts of an answer's values are too
+  -- long, or memory ran out
   abbrev pub IsUnserved : StreamError → Type 0
   IsUnserved (end.Refused e) =
       UnlessMemory

@@ -30,7 +30,7 @@ abbrev pub kind_type : Kind → LogicalType → List ℕ
 kind_type Plain t = type_text t
 kind_type k t = kind_name k ++ (if is_nullable t then codes "?" else [])
 
--- the lines of a tree, which prints itself so and whose values have the kind, are added under a title
+-- the lines of a tree, which prints itself so and has values of the kind, are added under a title
 pub record AddsTree (title : List ℕ) (t : Tree) (k : Kind) (printed old new : List ℕ) : Type 0
   where
     pub dtype : LogicalType
@@ -47,7 +47,8 @@ pub data AddsRules (printed : List ℕ) (optimized : Option Answer) (old new : L
       → IfSome (tree_text o.tree) (λ words. printed ≡ words) → new ≡ old
       → AddsRules printed optimized old new
   prints_otherwise : (o : Answer) (other : List ℕ) → optimized ≡ Some o → other ≢ printed
-      → AddsTree (codes "optimized") o.tree o.kind other old new → AddsRules printed optimized old new
+      → AddsTree (codes "optimized") o.tree o.kind other old new
+      → AddsRules printed optimized old new
 
 -- the lines of an answer are added: its name, its tree, and what rules make of that
 pub record AddsAnswer (a : Answer) (optimized : Option Answer) (old new : List ℕ) : Type 0 where

@@ -40,7 +40,7 @@ module _ (w : ℕ) (fs : List Field) (n : ℕ) where
   abbrev pub own_texts : ℕ → Option ColumnView
   own_texts j = column_of_fields (text_type true) (cells_apart fs w n j)
 
-  -- of values of a kind these texts are shown: of a lone column its own fields, else the values' texts
+  -- of values of a kind these texts are shown: of a lone column its own fields, else their texts
   abbrev pub ShowsKind : Kind → Option ℕ → ColumnView → ColumnView → Type 0
   ShowsKind k (Some j) value shown = Some shown ≡ own_texts j
   ShowsKind k None value shown = AreTextsOf k value.rows n shown

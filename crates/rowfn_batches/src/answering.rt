@@ -146,13 +146,9 @@ impl BatchTask<'_> {
         Ok(StreamError::TextsTooLong(String::from_str(self.alloc, name)?))
     }
 
-    /// What is shown of the answers of the first rows, which have neither a misfit nor a fault; or the
-    /// first of them in which a value has no text.
-    fn answer_once(
-        &self,
-        fields: &[Option<&[u8]>],
-        row_count: usize,
-    ) -> Result<Shown, StreamError>
+    /// What is shown of the answers of the first rows, which have neither a misfit nor a fault; or
+    /// the first of them in which a value has no text.
+    fn answer_once(&self, fields: &[Option<&[u8]>], row_count: usize) -> Result<Shown, StreamError>
         ensures { MatchResult result
             (AnswersOrLacks self.now.asked (map field_in fields.now) (number_of self.now) row_count)
             (IsUnserved self.now.asked (map field_in fields.now)) }
@@ -165,8 +161,8 @@ impl BatchTask<'_> {
         }
     }
 
-    /// What the first rows answer, which have neither a misfit nor a fault: up to the first in which
-    /// a value has no text. Each turn has fewer rows than the one before it.
+    /// What the first rows answer, which have neither a misfit nor a fault: up to the first in
+    /// which a value has no text. Each turn has fewer rows than the one before it.
     fn answer_faultless(
         &self,
         fields: &[Option<&[u8]>],
@@ -198,8 +194,8 @@ impl BatchTask<'_> {
         }
     }
 
-    /// What the first rows answer, of which these are the values: up to the first in which one has no
-    /// text.
+    /// What the first rows answer, of which these are the values: up to the first in which one has
+    /// no text.
     fn answer_values(
         &self,
         fields: &[Option<&[u8]>],
@@ -256,12 +252,12 @@ impl BatchTask<'_> {
         }
     }
 
-    /// What the rows of a batch answer: up to the first that has a misfit, a fault or a value without
-    /// a text, or all of them and the error behind the batch, if there is one. Of several misfits of a
-    /// row the leftmost in the input is told.
+    /// What the rows of a batch answer: up to the first that has a misfit, a fault or a value
+    /// without a text, or all of them and the error behind the batch, if there is one. Of several
+    /// misfits of a row the leftmost in the input is told.
     ///
-    /// Refused where the texts of a column or of an answer are too long for a batch, where the columns
-    /// are not valid for a tree, and where memory runs out; never with a row's fault.
+    /// Refused where the texts of a column or of an answer are too long for a batch, where the
+    /// columns are not valid for a tree, and where memory runs out; never with a row's fault.
     pub fn answer_batch(
         &self,
         fields: &[Option<&[u8]>],

@@ -79,12 +79,7 @@ pub(crate) fn kind_at(kinds: &[Kind], place: usize) -> Kind
 }
 
 /// Whether a field is a value of a column.
-fn fits_column(
-    declared: &StructFields,
-    kinds: &[Kind],
-    column: usize,
-    field: Option<&[u8]>,
-) -> bool
+fn fits_column(declared: &StructFields, kinds: &[Kind], column: usize, field: Option<&[u8]>) -> bool
     requires { column < field_count (struct_fields declared.now) }
     ensures { result
         ≡ fits_column (struct_fields declared.now) kinds.now column (field_in field.entry) }
@@ -103,9 +98,11 @@ fn read_column(
     column: usize,
 ) -> VortexResult<Option<Column>>
     requires column { column < field_count (struct_fields declared.now) }
-    requires even { AreEven (struct_fields declared.now) kinds.now (map field_in fields.now) row_count }
+    requires even { AreEven (struct_fields declared.now) kinds.now
+        (map field_in fields.now) row_count }
     ensures { AnswersUnlessMemory result (λ c. c
-        ≡ column_at (struct_fields declared.now) kinds.now (map field_in fields.now) row_count column) }
+        ≡ column_at (struct_fields declared.now) kinds.now
+        (map field_in fields.now) row_count column) }
 {
     let width = declared.len();
     column_of_kind(
@@ -120,11 +117,7 @@ fn read_column(
 }
 
 /// The first field that does not fit its column, row by row and in a row from left to right.
-fn first_misfit(
-    declared: &StructFields,
-    kinds: &[Kind],
-    fields: &[Option<&[u8]>],
-) -> Option<usize>
+fn first_misfit(declared: &StructFields, kinds: &[Kind], fields: &[Option<&[u8]>]) -> Option<usize>
     requires { 0 < field_count (struct_fields declared.now) }
     ensures { MatchOption result
         (AllFit (struct_fields declared.now) kinds.now (map field_in fields.now))
@@ -148,7 +141,8 @@ fn fits_in(
 ) -> bool
     requires column { column < field_count (struct_fields declared.now) }
     requires place { row * field_count (struct_fields declared.now) + column < length fields.now }
-    ensures { result ≡ fits_in (struct_fields declared.now) kinds.now (map field_in fields.now) row column }
+    ensures { result ≡ fits_in (struct_fields declared.now) kinds.now
+        (map field_in fields.now) row column }
 {
     let place = row * declared.len() + column;
     fits_column(declared, kinds, column, fields[place])
@@ -175,11 +169,13 @@ fn nearer(
     requires place { row * field_count (struct_fields declared.now) + columns.1
         < length fields.now }
     ensures second { get_or places.now columns.1 0 < get_or places.now columns.0 0
-        → fits_in (struct_fields declared.now) kinds.now (map field_in fields.now) row columns.1 ≡ false
+        → fits_in (struct_fields declared.now) kinds.now
+        (map field_in fields.now) row columns.1 ≡ false
         → result ≡ columns.1 }
     ensures before { get_or places.now columns.0 0 ≤ get_or places.now columns.1 0
         → result ≡ columns.0 }
-    ensures fits { fits_in (struct_fields declared.now) kinds.now (map field_in fields.now) row columns.1
+    ensures fits { fits_in (struct_fields declared.now) kinds.now
+        (map field_in fields.now) row columns.1
         ≡ true → result ≡ columns.0 }
 {
     let (first, second) = columns;
@@ -202,9 +198,12 @@ pub(crate) fn leftmost_misfit(
     row: usize,
     column: usize,
 ) -> usize
-    requires misfit { IsMisfit (struct_fields declared.now) kinds.now (map field_in fields.now) row column }
-    requires even { (n : ℕ) × AreEven (struct_fields declared.now) kinds.now (map field_in fields.now) n }
-    ensures { IsLeftmost (struct_fields declared.now) kinds.now (map field_in fields.now) places.now row
+    requires misfit { IsMisfit (struct_fields declared.now) kinds.now
+        (map field_in fields.now) row column }
+    requires even { (n : ℕ) × AreEven (struct_fields declared.now) kinds.now
+        (map field_in fields.now) n }
+    ensures { IsLeftmost (struct_fields declared.now) kinds.now
+        (map field_in fields.now) places.now row
         result }
 {
     let width = declared.len();
@@ -224,12 +223,15 @@ fn refusal(
     column: usize,
 ) -> FieldsError
     requires column { column < field_count (struct_fields declared.now) }
-    requires even { AreEven (struct_fields declared.now) kinds.now (map field_in fields.now) row_count }
-    requires said { column_at (struct_fields declared.now) kinds.now (map field_in fields.now) row_count
+    requires even { AreEven (struct_fields declared.now) kinds.now
+        (map field_in fields.now) row_count }
+    requires said { column_at (struct_fields declared.now) kinds.now
+        (map field_in fields.now) row_count
         column ≡ None }
     requires before { (cs : List ColumnView) × AreColumns (struct_fields declared.now) kinds.now
         (map field_in fields.now) row_count column cs }
-    ensures { RefusesBatch (struct_fields declared.now) kinds.now (map field_in fields.now) row_count result }
+    ensures { RefusesBatch (struct_fields declared.now) kinds.now
+        (map field_in fields.now) row_count result }
 {
     match first_misfit(declared, kinds, fields) {
         Some(place) => FieldsError::Misfit {
@@ -250,9 +252,9 @@ fn is_even(width: usize, row_count: usize, count: usize) -> bool
     }
 }
 
-/// The columns of a batch, in the order in which they are declared, whose values are of these kinds,
-/// by place; further columns are plain. The fields are row by row, one for each column; `None` is a
-/// null field.
+/// The columns of a batch, in the order in which they are declared, whose values have these kinds by
+/// place; further columns are plain. The fields are row by row, one for each column; `None` is a null
+/// field.
 ///
 /// A field of a plain column is the cell of a script as it is, but that a text's has no quotes, and
 /// `null` spelled out is no null: a text of four letters in a text's column, and in any other a
@@ -266,7 +268,8 @@ pub fn read_columns(
     fields: &[Option<&[u8]>],
     row_count: usize,
 ) -> Result<Vec<Column>, FieldsError>
-    ensures { ReadsColumns (struct_fields declared.now) kinds.now (map field_in fields.now) row_count
+    ensures { ReadsColumns (struct_fields declared.now) kinds.now
+        (map field_in fields.now) row_count
         result }
 {
     if !is_even(declared.len(), row_count, fields.len()) {

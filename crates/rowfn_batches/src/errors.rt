@@ -18,8 +18,8 @@ pub enum StreamError {
     },
     /// A call of an answer is refused, whatever the row.
     Refused(VortexError),
-    /// The value of an answer, by its name, has no text of its kind: a date past the year 9999, or a
-    /// decimal of too many digits.
+    /// The value of an answer, by its name, has no text of its kind: a date past the year 9999, or
+    /// a decimal of too many digits.
     NoText {
         row: u64,
         name: String,

@@ -79,8 +79,8 @@ fn write_reason<W: fmt::Write>(f: &mut fmt::Formatter<W>, error: &StreamError) -
     f.write_str(quote)
 }
 
-/// What follows the row's number: the column or the answer by its name, the reason, and the beginning
-/// of the field.
+/// What follows the row's number: the column or answer by its name, the reason, and the beginning of
+/// the field.
 impl fmt::Display for RefusalLine<'_> {
     fn fmt<W: fmt::Write>(&self, f: &mut fmt::Formatter<W>) -> fmt::Result {
         match self.error {
@@ -99,8 +99,9 @@ impl fmt::Display for RefusalLine<'_> {
 }
 
 /// Tells rows that are refused to a writer, as CSV with commas between fields: `row` by its number,
-/// `column`, the name of the column or answer, which is empty where none is at fault, `reason`, and `field`, its first
-/// 80 characters, where one does not fit. Lines are held until they are enough, or flushed.
+/// `column`, the name of the column or answer, which is empty where none is at fault, `reason`, and
+/// `field`, its first 80 characters, where one does not fit. Lines are held until they are enough, or
+/// flushed.
 #[derive(Drop)]
 pub struct Refusals<W> {
     alloc: Global,

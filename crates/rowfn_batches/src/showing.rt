@@ -26,8 +26,8 @@ use vortex_logical_cells::{KindTexts, texts_of_kind};
 use vortex_program::Answer;
 use vortex_standard::Standard;
 
-/// What is shown of the values of answers; or the first row, counted from 0, in which a value has no
-/// text, with its error.
+/// What is shown of the values of answers; or the first row, counted from 0, in which one has no text,
+/// with its error.
 #[derive(Drop)]
 pub enum Shown {
     Columns(Vec<Column>),
@@ -137,8 +137,8 @@ impl BatchTask<'_> {
         })
     }
 
-    /// Puts what is shown of an answer in the place of its values; or returns the first row, counted
-    /// from 0, in which a value has no text, with its error.
+    /// Puts what is shown of an answer in the place of its values. Or returns the first row, counted
+    /// from 0, in which one has no text, with its error.
     fn show_at(
         &self,
         fields: &[Option<&[u8]>],
@@ -154,7 +154,8 @@ impl BatchTask<'_> {
         ensures { let w = width_of self.now.asked in let answers = answers_asked self.now.asked in
             let first = first_fields self.now.asked (map field_in fields.now) row_count in
             MatchResult result
-            (λ o. MatchOption o (ShowsAt w first row_count answers shown.old.items k shown.new.items)
+            (λ o. MatchOption o
+            (ShowsAt w first row_count answers shown.old.items k shown.new.items)
             (λ s. (a : Asked) × Lacks w first row_count answers shown.old.items k s.0 a
             × TellsNoText (number_of self.now) s.0 a s.1))
             (λ e. (e ≡ OutOfMemory) ⊎ Hides w first row_count answers shown.old.items k e) }
@@ -172,8 +173,8 @@ impl BatchTask<'_> {
         }
     }
 
-    /// What is shown of the values of the first rows: of an answer of a kind texts, its fields as they
-    /// are in the input where it is a lone column, else the texts of its values.
+    /// What is shown of the values of the first rows: of an answer of a kind texts, which are its
+    /// fields as they are in the input if it is a lone column, else the texts of its values.
     pub(crate) fn show_values(
         &self,
         fields: &[Option<&[u8]>],

@@ -192,8 +192,8 @@ fn fits_stored(kind: Kind, nullability: Nullability, field: Option<&[u8]>) -> bo
     }
 }
 
-/// Whether a field is a value of a column of the kind: a text of the kind, or null where `dtype` has
-/// null; for a plain column a value of `dtype`.
+/// Whether a field is a value of a column of the kind: a text of the kind, or null where `dtype`
+/// has null; for a plain column a value of `dtype`.
 pub fn field_fits_kind(kind: Kind, dtype: &DType, field: Option<&[u8]>) -> bool
     ensures { result ≡ fits_kind kind (type_of dtype.now) (cell_in field.entry) }
 {

@@ -71,10 +71,10 @@ fn column_of_texts(alloc: Global, texts: ViewsBuilder, valid: &[bool]) -> Vortex
     Column::try_utf8_values(alloc, values, validity)
 }
 
-/// The texts of the first rows of a column of stored integers of the kind, null for null: a text that
-/// is read back as the integer, a float in digits that are read back as the float. Or the first row
-/// whose value has none, as a date past the year 9999. E12 exactly where the texts are not those of a
-/// column. E9 where an allocation fails.
+/// The texts of the first rows of a column of stored integers of the kind, null for null: a text
+/// that is read back as the integer, a float in digits that are read back as the float. Or the first
+/// row whose value has none, as a date past the year 9999. E12 exactly where the texts are not those
+/// of a column. E9 where an allocation fails.
 pub fn texts_of_kind(
     alloc: Global,
     kind: Kind,

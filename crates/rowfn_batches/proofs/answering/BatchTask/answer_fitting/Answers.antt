@@ -1,8 +1,8 @@
-use Rattle.std.proofs.Common.{ℕ, refl, sym, subst, map}
+use Rattle.std.proofs.Common.{refl, map}
 use Rattle.std.proofs.Math.Logic.{∥∥₁_map}
 use Rattle.rowfn_batches.specs.Fields.{field_in}
 use Rattle.rowfn_batches.specs.declared.errors.StreamError.TheVariants as end
-use Rattle.rowfn_batches.specs.BatchAnswers.{EndsAnswers, with_them, at_fault, number_of}
+use Rattle.rowfn_batches.specs.BatchAnswers.{with_them, at_fault}
 use Rattle.rowfn_batches.proofs.FirstRows.{if_ok-weaker, unserved}
 use Rattle.rowfn_batches.proofs.Optimized.{rewrites}
 use Rattle.rowfn_batches.proofs.answering.BatchTask.answer_fitting.Goals as goal
@@ -26,9 +26,13 @@ returns-in-Err-Fault-clause-ends c =
     let found = c.in-Err-Fault in
     let faulty = ∥∥₁_map (rewrites x) (λ r. rw found.field-0-is at (found.ensures r)) in
     if_ok-weaker c.answer_faultless.result _ _
-    (λ a h.
-    (found.row, _, at_fault c.args.columns.now found.field-0-1 found.error
-    (end.Fault c.number_of.result found.error) refl c.requires faulty (c.number_of.ensures, refl), h))
+    (λ a h. (
+      found.row,
+      _,
+      at_fault c.args.columns.now found.field-0-1 found.error
+          (end.Fault c.number_of.result found.error) refl c.requires faulty (c.number_of.ensures, refl),
+      h,
+    ))
     c.answer_faultless.ensures.ends
 
 pub returns-in-Err-Refused-clause-refused : goal.returns-in-Err-Refused-clause-refused

@@ -42,10 +42,10 @@ returns-in_ok-no_text-in-Some-NoText c =
           c.args.row_count (answers_asked x) c.args.shown.now.items c.args.k c.in-Some.answer.now
           c.index.result.now c.in-Some-NoText.row
           (record {
-      written = sym (c.in-Some.ensures ∙ ap (λ l. slice_get l c.args.k) c.deref.ensures.value);
-      there = slice_get_read c.args.shown.now.items (length c.args.shown.now.items) c.args.k
-          c.index.result.now refl c.requires.place c.index.ensures;
-    })
+            written = sym (c.in-Some.ensures ∙ ap (λ l. slice_get l c.args.k) c.deref.ensures.value);
+            there = slice_get_read c.args.shown.now.items (length c.args.shown.now.items) c.args.k
+                c.index.result.now refl c.requires.place c.index.ensures;
+          })
           (rw c.in-Some-NoText.field-0-is at (rw c.in-Some-NoText.is at c.in_ok-show_answer.ensures)),
       c.in_ok-no_text-in-Some-NoText.ensures,
     )

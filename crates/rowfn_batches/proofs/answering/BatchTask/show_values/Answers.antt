@@ -1,5 +1,4 @@
-use Rattle.std.proofs.Common.{sym, ap, ◌∙◌, map, arith}
-use Rattle.std.specs.Prelude.{slice_get}
+use Rattle.std.proofs.Common.{sym, ◌∙◌, map, arith}
 use Rattle.std.proofs.lemmas.Result.{err_from_is_err_and}
 use Rattle.rowfn_batches.specs.Fields.{field_in}
 use Rattle.rowfn_batches.specs.BatchAnswers.{width_of, first_fields, answers_asked}
