@@ -1,5 +1,5 @@
 -- Texts that are added one after the other.
-use Rattle.std.proofs.Common.{◌≡◌, ◌∙◌, ◌++◌, ◌∷◌, [], ℕ, List, Result, Ok, Err, ap, sym, append_assoc}
+use Rattle.std.proofs.Common.{◌≡◌, ◌∙◌, ◌++◌, ◌∷◌, [], ℕ, List, Result, Ok, Err, ap, append_assoc}
 use Rattle.std.proofs.Common.{is_ok, if◌then◌else◌}
 use Rattle.std.specs.Prelude.{OnOk, codes, decimal}
 use Rattle.rowfn_batches.specs.Explaining.{tree_head, weight_end}

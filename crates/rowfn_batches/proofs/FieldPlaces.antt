@@ -1,7 +1,7 @@
 -- Where a field stands, and lists that are made element by element.
 use Rattle.std.proofs.Common.{◌≡◌, ℕ, zero, suc, ◌+◌, ◌*◌, ◌/◌, ◌%◌, ◌<◌, ◌≤◌, List, [], ◌∷◌, ◌++◌}
 use Rattle.std.proofs.Common.{map}
-use Rattle.std.proofs.Common.{sym, ap, subst, ◌∙◌, arith, length, mul_comm, lt_of_not-le}
+use Rattle.std.proofs.Common.{sym, subst, ◌∙◌, arith, length, mul_comm, lt_of_not-le}
 use Rattle.std.specs.List.{range_with_len}
 use Rattle.std.proofs.lemmas.List.{map-append}
 use Rattle.std.proofs.lemmas.List.FromFn.{map-range_with_len_more}
@@ -11,6 +11,7 @@ use Rattle.std.proofs.Common.{get_or, Bor, Option, None}
 use Rattle.std.proofs.lemmas.List.{get_or-map}
 use Rattle.vortex_types.specs.LogicalTypes.{Fields, field_count}
 pub use Rattle.vortex_cells.proofs.Apart.{place_within}
+use Rattle.vortex_logical.specs.declared.kind.Kind.{Kind}
 use Rattle.rowfn_batches.specs.Fields.{Field, field_in}
 use Rattle.rowfn_batches.specs.Batches.{field_at, IsFirstMisfit, IsMisfit}
 
@@ -50,10 +51,10 @@ made_more g f xs x i h e =
     ∙ sym (map-range_with_len_more f 0 i i (omega arith))
 
 -- a row and a column of a place
-pub misfit_there : (ds : Fields) (fs : List Field) (k : ℕ) → 0 < field_count ds
-    → IsFirstMisfit ds fs k → IsMisfit ds fs (k / field_count ds) (k % field_count ds)
-misfit_there ds fs k some h =
+pub misfit_there : (ds : Fields) (ks : List Kind) (fs : List Field) (k : ℕ) → 0 < field_count ds
+    → IsFirstMisfit ds ks fs k → IsMisfit ds ks fs (k / field_count ds) (k % field_count ds)
+misfit_there ds ks fs k some h =
     record {
       below = mod-lt k some;
-      first = subst (IsFirstMisfit ds fs) (sym (div-add-mod' k (field_count ds))) h;
+      first = subst (IsFirstMisfit ds ks fs) (sym (div-add-mod' k (field_count ds))) h;
     }

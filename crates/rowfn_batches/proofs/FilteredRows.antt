@@ -1,10 +1,10 @@
 -- Rows that are taken, one row more.
 use Rattle.std.proofs.Common.{◌≡◌, ◌∙◌, ℕ, ◌+◌, ◌*◌, ◌<◌, List, [], ◌∷◌, ◌++◌, map, take, drop}
 use Rattle.std.proofs.Common.{length}
-use Rattle.std.proofs.Common.{get_or, ap, ap₂, sym, refl, append-nil, Bool, if◌then◌else◌, Option}
+use Rattle.std.proofs.Common.{get_or, ap, ap₂, sym, append-nil, Bool, if◌then◌else◌, Option}
 use Rattle.std.proofs.Common.{Bor}
 use Rattle.std.specs.Prelude.{filter, IfOk, Result, Ok, Err}
-use Rattle.std.specs.List.{flat_map, range_with_len}
+use Rattle.std.specs.List.{range_with_len}
 use Rattle.std.proofs.lemmas.Grind.{flat_map-append}
 use Rattle.std.proofs.lemmas.List.{map-append, take-map, drop-map, take_more}
 use Rattle.std.proofs.lemmas.List.Elements.{filter-append}

@@ -1,12 +1,16 @@
 -- What the fields of the first rows make, as fields that are borrowed say it.
 use Rattle.std.proofs.Common.{◌≡◌, ◌∙◌, ◌*◌, ℕ, List, Option, Result, Ok, Err, map, take}
-use Rattle.std.proofs.Common.{ap, sym, subst}
+use Rattle.std.proofs.Common.{ap, sym, subst, true}
 use Rattle.std.specs.Prelude.{IfOk}
 use Rattle.std.specs.Borrow.{Bor}
 use Rattle.std.proofs.Math.Logic.{∥∥₁_map}
 use Rattle.std.proofs.lemmas.List.{take-map}
 use Rattle.vortex_columns.specs.ColumnView.{ColumnView}
-use Rattle.vortex_types.specs.TypeOf.{struct_fields}
+use Rattle.vortex_types.specs.LogicalTypes.{LogicalType, text_type}
+use Rattle.vortex_cells.specs.Cells.{cells_apart}
+use Rattle.vortex_cells.specs.Fields.{column_of_fields}
+use Rattle.vortex_logical.specs.declared.kind.Kind.{Kind}
+use Rattle.rowfn_batches.specs.Showing.{own_texts}
 use Rattle.rowfn_batches.specs.declared.request.Request.{Request}
 use Rattle.rowfn_batches.specs.Fields.{Field, field_in}
 use Rattle.rowfn_batches.specs.Batches.{AreEven, AreColumns}
@@ -15,7 +19,7 @@ use Rattle.vortex_errors.specs.declared.error.VortexError.TheVariants.{OutOfMemo
 use Rattle.vortex_errors.specs.Answers.{UnlessMemory}
 use Rattle.vortex_program.specs.Executing.{RefusesColumnsFirst}
 use Rattle.rowfn_batches.specs.declared.errors.StreamError.TheVariants as end
-use Rattle.rowfn_batches.specs.BatchAnswers.{width_of, first_fields, AreFirst, trees_asked}
+use Rattle.rowfn_batches.specs.BatchAnswers.{scope_of, kinds_of, width_of, first_fields, AreFirst, trees_asked}
 use Rattle.rowfn_batches.specs.BatchAnswers.{IsUnserved}
 
 pub if_ok-weaker : {A E : Type 0} (r : Result A E) (P Q : A → Type 0) → ((a : A) → P a → Q a)
@@ -34,14 +38,28 @@ module _ (x : Request) (fs : List (Option (Bor (List ℕ)))) (n w : ℕ) (counte
       ∙ sym (take-map field_in (width_of x * n) fs) in
       subst P same h
 
-  pub are_first : (cs : List ColumnView)
-      → AreEven (struct_fields x.program.now.scope) (map field_in whole) n
-      × AreColumns (struct_fields x.program.now.scope) (map field_in whole) n (width_of x) cs
+  pub are_first : (cs : List ColumnView) (given : List Kind) → given ≡ kinds_of x
+      → AreEven (scope_of x) given (map field_in whole) n
+      × AreColumns (scope_of x) given (map field_in whole) n (width_of x) cs
       → AreFirst x (map field_in fs) n cs
-  are_first cs h =
-      let ds = struct_fields x.program.now.scope in
-      let here = of_first (λ f. AreEven ds f n × AreColumns ds f n (width_of x) cs) h in
+  are_first cs given same h =
+      let ds = scope_of x in
+      let ks = kinds_of x in
+      let here = of_first (λ f. AreEven ds ks f n × AreColumns ds ks f n (width_of x) cs)
+      (subst (λ (k : List Kind). AreEven ds k (map field_in whole) n
+      × AreColumns ds k (map field_in whole) n (width_of x) cs) same h) in
       record { even = here.0; said = here.1 }
+
+  -- the fields of a column as texts
+  pub are_own : (j : ℕ) (o : Option ColumnView) (t : LogicalType) → t ≡ text_type true
+      → o ≡ column_of_fields t (cells_apart (map field_in whole) w n j)
+      → o ≡ own_texts (width_of x) (first_fields x (map field_in fs) n) n j
+  are_own j o t typed e =
+      of_first (λ f. o ≡ column_of_fields (text_type true) (cells_apart f (width_of x) n j))
+      (e
+      ∙ ap (λ (u : LogicalType). column_of_fields u (cells_apart (map field_in whole) w n j)) typed
+      ∙ ap (λ (v : ℕ). column_of_fields (text_type true) (cells_apart (map field_in whole) v n j))
+      counted)
 
 -- the columns of first rows do not serve a tree
 pub unserved : {Known : Type 0} (x : Request) (fs : List Field) (n : ℕ) (cs : List ColumnView) → AreFirst x fs n cs

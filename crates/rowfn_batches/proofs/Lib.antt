@@ -1,6 +1,9 @@
 pub mod FieldPlaces
 pub mod TruthFields
 pub mod FirstRows
+pub mod KindPlaces
+pub mod ShownRows
+pub mod ShownColumns
 pub mod Flowing
 pub mod Optimized
 pub mod Starting

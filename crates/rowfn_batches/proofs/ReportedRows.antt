@@ -1,5 +1,5 @@
 -- The line of a row that is refused, part by part.
-use Rattle.std.proofs.Common.{◌≡◌, ◌∙◌, ◌++◌, ◌∷◌, [], ℕ, List, Bool, ap, sym, append_assoc}
+use Rattle.std.proofs.Common.{◌≡◌, ◌∙◌, ◌++◌, ◌∷◌, [], ℕ, List, Bool, ap, append_assoc}
 use Rattle.std.specs.Prelude.{decimal}
 use Rattle.rowfn_batches.specs.declared.errors.StreamError.{StreamError}
 use Rattle.rowfn_batches.specs.Refusals.{AddsLine, header_before, row_shown}

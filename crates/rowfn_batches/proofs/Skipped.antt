@@ -1,6 +1,6 @@
 -- Parts of a batch that a stream passes on.
 use Rattle.std.proofs.Common.{◌≡◌, ◌∙◌, ℕ, ◌*◌, List, length, take, drop, map}
-use Rattle.std.proofs.Common.{Option, Some, None, Result, Ok, Err, ap, sym, subst, refl}
+use Rattle.std.proofs.Common.{Option, Some, None, Result, ap, sym}
 use Rattle.rowfn_csv.specs.declared.records.Span.{Span}
 use Rattle.rowfn_batches.specs.declared.errors.StreamError.{StreamError}
 use Rattle.rowfn_batches.specs.declared.header.Layout.{Layout}

@@ -1,32 +1,32 @@
--- What the fields of a batch, which stand row by row, make of the columns that are declared.
+-- What the fields of a batch, which are row by row, make of the columns that are declared.
 use Rattle.std.specs.Prelude.{◌≡◌, ◌+◌, ◌*◌, ◌%◌, ◌<◌, ◌≤◌, ℕ, List, length, map, Bool, true, false}
 use Rattle.std.specs.Prelude.{get_or}
 use Rattle.std.specs.Prelude.{Option, Some, None, Result, MatchResult, slice_index_or, ⊤}
 use Rattle.std.specs.declared.alloc.Global.{Global}
 use Rattle.std.specs.Prelude.{Vec}
 use Rattle.std.specs.List.{range_with_len}
-use Rattle.std.specs.Option.{option_and_then}
 use Rattle.vortex_types.specs.LogicalTypes.{Fields, field_count, field_type}
 use Rattle.vortex_columns.specs.ColumnView.{ColumnView}
-use Rattle.vortex_cells.specs.CellValues.{all_some, column_of_cells}
+use Rattle.vortex_cells.specs.Cells.{cells_apart}
+use Rattle.vortex_logical.specs.declared.kind.Kind.{Kind}
+use Rattle.vortex_logical_cells.specs.StoredFields.{column_of_kind, fits_kind}
+use Rattle.vortex_expressions.specs.Calls.{kind_at}
 use Rattle.rowfn_batches.specs.declared.columns.FieldsError.{FieldsError}
 use Rattle.rowfn_batches.specs.declared.columns.FieldsError.TheVariants.{Misfit, TextsTooLong}
 use Rattle.rowfn_batches.specs.declared.columns.FieldsError.TheVariants.{Uneven, OutOfMemory}
-use Rattle.vortex_cells.specs.Fields.{field_cell}
-use Rattle.rowfn_batches.specs.Fields.{Field, field_fits}
+use Rattle.rowfn_batches.specs.Fields.{Field}
 
 abbrev pub field_at : List Field → ℕ → Field
 field_at fs k = slice_index_or fs k None
 
--- the cells of column j, of n rows of w fields; none where a field is no cell
-abbrev pub cells_at : List Field → ℕ → ℕ → ℕ → Option (List (Option (List ℕ)))
-cells_at fs w n j =
-    all_some (map (λ i. field_cell (field_at fs (i * w + j))) (range_with_len 0 n))
+-- columns have these types, and kinds by place: the field is a value of column j
+abbrev pub fits_column : Fields → List Kind → ℕ → Field → Bool
+fits_column ds ks j f = fits_kind (kind_at ks j) (field_type j ds) f
 
-module _ (ds : Fields) (fs : List Field) where
-  -- the type of the column in which the k-th field stands holds the field
+module _ (ds : Fields) (ks : List Kind) (fs : List Field) where
+  -- the k-th field is a value of its column
   abbrev pub fits_at : ℕ → Bool
-  fits_at k = field_fits (field_type (k % field_count ds) ds) (field_at fs k)
+  fits_at k = fits_column ds ks (k % field_count ds) (field_at fs k)
 
   abbrev pub AllFit : Type 0
   AllFit = (k : ℕ) → k < length fs → fits_at k ≡ true
@@ -64,7 +64,7 @@ module _ (ds : Fields) (fs : List Field) where
     -- the column that the fields of column j say
     abbrev pub column_at : ℕ → Option ColumnView
     column_at j =
-        option_and_then (column_of_cells (field_type j ds)) (cells_at fs (field_count ds) n j)
+        column_of_kind (kind_at ks j) (field_type j ds) (cells_apart fs (field_count ds) n j)
 
     -- the columns of the first k
     abbrev pub AreColumns : ℕ → List ColumnView → Type 0

@@ -14,7 +14,8 @@ read_ending read.OutOfMemory = end.OutOfMemory
 abbrev pub status_of : StreamError → ℕ
 status_of (end.Fault row e) = 1
 status_of (end.Refused e) = 1
-status_of (end.Misfit row column dtype field) = 2
+status_of (end.NoText row name kind) = 1
+status_of (end.Misfit row column kind dtype field) = 2
 status_of (end.TextsTooLong column) = 2
 status_of (end.ColumnMissing name) = 2
 status_of (end.ColumnTwice name) = 2
@@ -34,7 +35,8 @@ status_of end.OutOfMemory = 3
 -- the number of the row that is refused, where one is
 abbrev pub row_told : StreamError → Option ℕ
 row_told (end.Fault row e) = Some row
-row_told (end.Misfit row column dtype field) = Some row
+row_told (end.NoText row name kind) = Some row
+row_told (end.Misfit row column kind dtype field) = Some row
 row_told (end.Width row wanted found) = Some row
 row_told (end.OpenQuote row) = Some row
 row_told (end.FieldTooLong row limit) = Some row

@@ -2,6 +2,7 @@ pub mod Fields
 pub mod Batches
 pub mod Printing
 pub mod ReadingBack
+pub mod Showing
 pub mod BatchAnswers
 pub mod Endings
 pub mod Layouts

@@ -1,18 +1,19 @@
 //! What a batch answers, up to the first row that ends the stream.
 ghost use Rattle.std.specs.Prelude.{◌≡◌, ◌<◌, ◌+◌, ◌*◌, length, map, take, IfOk, IfErr};
 ghost use Rattle.std.specs.Prelude.{MatchResult, option_map};
-ghost use Rattle.vortex_types.specs.TypeOf.{struct_fields};
 ghost use Rattle.rowfn_batches.specs.Fields.{field_in};
 ghost use Rattle.rowfn_batches.specs.Batches.{field_at};
 ghost use Rattle.rowfn_batches.specs.declared.errors.StreamError.TheVariants.{OutOfMemory};
 ghost use Rattle.rowfn_batches.specs.BatchAnswers.{row_number, row_among, number_of};
 ghost use Rattle.rowfn_batches.specs.BatchAnswers.{TellsMisfit, TellsName, AreFirst};
-ghost use Rattle.rowfn_batches.specs.BatchAnswers.{AreAnswers, EndsAnswers, EndsBatch};
-ghost use Rattle.rowfn_batches.specs.BatchAnswers.{IsUnserved, IsUnanswered, width_of};
+ghost use Rattle.rowfn_batches.specs.BatchAnswers.{AreAnswers, EndsRows, EndsShown, EndsBatch};
+ghost use Rattle.rowfn_batches.specs.BatchAnswers.{IsUnserved, IsUnanswered, width_of, scope_of};
+ghost use Rattle.rowfn_batches.specs.BatchAnswers.{kinds_of, AreValues, AnswersOrLacks};
 
-use crate::columns::{FieldsError, leftmost_misfit, read_columns};
+use crate::columns::{FieldsError, kind_at, leftmost_misfit, read_columns};
 use crate::errors::StreamError;
 use crate::request::Request;
+use crate::showing::Shown;
 use std::alloc::Global;
 use vortex_columns::Column;
 use vortex_program::RunError;
@@ -57,7 +58,7 @@ pub fn row_among(rows: Option<&[usize]>, row: usize) -> usize
 }
 
 /// The fields of the first rows that have so many each; all where there are fewer.
-fn first_rows<'f, 'b>(
+pub(crate) fn first_rows<'f, 'b>(
     fields: &'f [Option<&'b [u8]>],
     width: usize,
     row_count: usize,
@@ -77,7 +78,7 @@ fn first_rows<'f, 'b>(
 
 impl BatchTask<'_> {
     /// The number of a row that is answered.
-    fn number_of(&self, row: usize) -> u64
+    pub(crate) fn number_of(&self, row: usize) -> u64
         ensures { result ≡ number_of self.now row }
     {
         row_number(self.rows_before, row_among(self.rows, row))
@@ -96,14 +97,15 @@ impl BatchTask<'_> {
             (λ e. e ≡ OutOfMemory) }
     {
         let declared = &self.asked.program.scope;
+        let kinds = self.asked.program.kinds.as_slice();
         let fields = first_rows(fields, declared.len(), row_count);
-        match read_columns(self.alloc, declared, fields, row_count) {
+        match read_columns(self.alloc, declared, kinds, fields, row_count) {
             Ok(columns) => Ok(columns),
             Err(_) => Err(StreamError::OutOfMemory),
         }
     }
 
-    /// The error for a field that its column does not hold. E9 where memory is refused.
+    /// The error for a field that is no value of its column. E9 where an allocation fails.
     fn misfit(
         &self,
         fields: &[Option<&[u8]>],
@@ -114,8 +116,8 @@ impl BatchTask<'_> {
         requires place { row * width_of self.now.asked + column < length fields.now }
         ensures { let width = width_of self.now.asked in
             MatchResult result
-            (TellsMisfit (number_of self.now) row
-            (struct_fields self.now.asked.program.now.scope) column
+            (TellsMisfit (number_of self.now) row (scope_of self.now.asked)
+            (kinds_of self.now.asked) column
             (field_at (map field_in fields.now) (row * width + column)))
             (λ e. e ≡ OutOfMemory) }
     {
@@ -127,6 +129,7 @@ impl BatchTask<'_> {
         Ok(StreamError::Misfit {
             row: self.number_of(row),
             column: String::from_str(self.alloc, declared.name(column))?,
+            kind: kind_at(&self.asked.program.kinds, column),
             dtype: declared.dtype(column).clone()?,
             field,
         })
@@ -136,15 +139,30 @@ impl BatchTask<'_> {
     fn too_long(&self, column: usize) -> Result<StreamError, StreamError>
         requires { column < width_of self.now.asked }
         ensures { MatchResult result
-            (TellsName (struct_fields self.now.asked.program.now.scope) column)
+            (TellsName (scope_of self.now.asked) column)
             (λ e. e ≡ OutOfMemory) }
     {
         let name = self.asked.program.scope.name(column);
         Ok(StreamError::TextsTooLong(String::from_str(self.alloc, name)?))
     }
 
-    /// What the first rows answer, which have neither a misfit nor a fault. E9 where memory is
-    /// refused.
+    /// What is shown of the answers of the first rows, which have neither a misfit nor a fault; or
+    /// the first of them in which a value has no text.
+    fn answer_once(&self, fields: &[Option<&[u8]>], row_count: usize) -> Result<Shown, StreamError>
+        ensures { MatchResult result
+            (AnswersOrLacks self.now.asked (map field_in fields.now) (number_of self.now) row_count)
+            (IsUnserved self.now.asked (map field_in fields.now)) }
+    {
+        let columns = self.columns(fields, row_count)?;
+        match self.asked.program.run(self.alloc, &columns, row_count) {
+            Ok(values) => self.show_values(fields, values, row_count),
+            // the columns are valid for the trees, and no row faults
+            Err(_) => Err(StreamError::OutOfMemory),
+        }
+    }
+
+    /// What the first rows answer, which have neither a misfit nor a fault: up to the first in
+    /// which a value has no text. Each turn has fewer rows than the one before it.
     fn answer_faultless(
         &self,
         fields: &[Option<&[u8]>],
@@ -153,22 +171,57 @@ impl BatchTask<'_> {
     ) -> Result<Answered, StreamError>
         ensures rows { IfOk result (λ a. AreAnswers self.now.asked
             (map field_in fields.now) a.row_count a.answers.items) }
-        ensures ends { IfOk result (λ a. (a.row_count ≡ row_count) × (a.error ≡ error)) }
-        ensures refused { IfErr result (λ e. e ≡ OutOfMemory) }
+        ensures ends { IfOk result (λ a. EndsShown self.now.asked (map field_in fields.now)
+            (number_of self.now) row_count error a.row_count a.error) }
+        ensures refused { IfErr result (IsUnserved self.now.asked (map field_in fields.now)) }
     {
-        let columns = self.columns(fields, row_count)?;
-        match self.asked.program.run(self.alloc, &columns, row_count) {
-            Ok(answers) => Ok(Answered {
+        let mut count = row_count;
+        let mut behind = error;
+        'turns: loop {
+            match self.answer_once(fields, count)? {
+                Shown::Columns(answers) => {
+                    return Ok(Answered {
+                        answers,
+                        row_count: count,
+                        error: behind,
+                    });
+                }
+                Shown::NoText { row, error } => {
+                    count = row;
+                    behind = Some(error);
+                }
+            }
+        }
+    }
+
+    /// What the first rows answer, of which these are the values: up to the first in which one has
+    /// no text.
+    fn answer_values(
+        &self,
+        fields: &[Option<&[u8]>],
+        values: Vec<Column>,
+        row_count: usize,
+        error: Option<StreamError>,
+    ) -> Result<Answered, StreamError>
+        requires { AreValues self.now.asked (map field_in fields.now) row_count values.items }
+        ensures rows { IfOk result (λ a. AreAnswers self.now.asked
+            (map field_in fields.now) a.row_count a.answers.items) }
+        ensures ends { IfOk result (λ a. EndsShown self.now.asked (map field_in fields.now)
+            (number_of self.now) row_count error a.row_count a.error) }
+        ensures refused { IfErr result (IsUnserved self.now.asked (map field_in fields.now)) }
+    {
+        match self.show_values(fields, values, row_count)? {
+            Shown::Columns(answers) => Ok(Answered {
                 answers,
                 row_count,
                 error,
             }),
-            // the columns are valid for the trees, and no row faults
-            Err(_) => Err(StreamError::OutOfMemory),
+            Shown::NoText { row, error } => self.answer_faultless(fields, row, Some(error)),
         }
     }
 
-    /// What the first rows answer, which have no misfit: up to the first that faults.
+    /// What the first rows answer, which have no misfit: up to the first that faults, or in which a
+    /// value has no text.
     fn answer_fitting(
         &self,
         fields: &[Option<&[u8]>],
@@ -180,17 +233,13 @@ impl BatchTask<'_> {
             columns.now }
         ensures rows { IfOk result (λ a. AreAnswers self.now.asked
             (map field_in fields.now) a.row_count a.answers.items) }
-        ensures ends { IfOk result (λ a. EndsAnswers self.now.asked
+        ensures ends { IfOk result (λ a. EndsRows self.now.asked
             (map field_in fields.now) (number_of self.now) row_count error a.row_count a.error) }
         ensures refused { IfErr result
             (IsUnserved self.now.asked (map field_in fields.now)) }
     {
         match self.asked.program.run(self.alloc, columns, row_count) {
-            Ok(answers) => Ok(Answered {
-                answers,
-                row_count,
-                error,
-            }),
+            Ok(values) => self.answer_values(fields, values, row_count, error),
             Err(RunError::Fault { row, error, .. }) => {
                 let fault = StreamError::Fault {
                     row: self.number_of(row),
@@ -203,12 +252,12 @@ impl BatchTask<'_> {
         }
     }
 
-    /// What the rows of a batch answer: up to the first that has a misfit or a fault, or all of
-    /// them and the error behind the batch, if there is one. Of several misfits of a row the
-    /// leftmost in the input is told.
+    /// What the rows of a batch answer: up to the first that has a misfit, a fault or a value
+    /// without a text, or all of them and the error behind the batch, if there is one. Of several
+    /// misfits of a row the leftmost in the input is told.
     ///
-    /// Refused where the texts of a column are too long for a batch, where the columns do not serve
-    /// a tree, and where memory runs out; never with a row's fault.
+    /// Refused where the texts of a column or of an answer are too long for a batch, where the
+    /// columns are not valid for a tree, and where memory runs out; never with a row's fault.
     pub fn answer_batch(
         &self,
         fields: &[Option<&[u8]>],
@@ -224,11 +273,12 @@ impl BatchTask<'_> {
             (map field_in fields.now) row_count) }
     {
         let declared = &self.asked.program.scope;
+        let kinds = self.asked.program.kinds.as_slice();
         let whole = first_rows(fields, declared.len(), row_count);
-        match read_columns(self.alloc, declared, whole, row_count) {
+        match read_columns(self.alloc, declared, kinds, whole, row_count) {
             Ok(columns) => self.answer_fitting(fields, &columns, row_count, error),
             Err(FieldsError::Misfit { row, column }) => {
-                let column = leftmost_misfit(declared, self.places, whole, row, column);
+                let column = leftmost_misfit(declared, kinds, self.places, whole, row, column);
                 let misfit = self.misfit(fields, row, column)?;
                 let columns = self.columns(fields, row)?;
                 self.answer_fitting(fields, &columns, row, Some(misfit))

@@ -5,6 +5,7 @@ use std::alloc::{AllocError, AllocFailed};
 use std::fmt::{self, Write};
 use std::{io, str};
 use vortex_columns::{DType, VortexError};
+use vortex_logical::kind::Kind;
 use vortex_standard::ErrorText;
 
 /// What ends a stream before the end of its input. Records are counted from 1, without the header.
@@ -17,14 +18,23 @@ pub enum StreamError {
     },
     /// A call of an answer is refused, whatever the row.
     Refused(VortexError),
-    /// A field that its column does not hold; nothing where it is a null.
+    /// The value of an answer, by its name, has no text of its kind: a date past the year 9999, or
+    /// a decimal of too many digits.
+    NoText {
+        row: u64,
+        name: String,
+        kind: Kind,
+    },
+    /// A field that is no value of its column; nothing where it is a null.
     Misfit {
         row: u64,
         column: String,
+        kind: Kind,
         dtype: DType,
         field: Option<Vec<u8>>,
     },
-    /// The texts of a column, by its name, take more bytes in a batch than a column holds.
+    /// The texts of a column or of an answer, by its name, take more bytes in a batch than a column
+    /// holds.
     TextsTooLong(String),
     /// A declared column that the header does not name.
     ColumnMissing(String),
@@ -118,7 +128,7 @@ impl StreamError {
         ensures { result ≡ status_of self.now }
     {
         match self {
-            StreamError::Fault { .. } | StreamError::Refused(_) => 1,
+            StreamError::Fault { .. } | StreamError::Refused(_) | StreamError::NoText { .. } => 1,
             StreamError::Misfit { .. }
             | StreamError::TextsTooLong(_)
             | StreamError::ColumnMissing(_)
@@ -140,6 +150,7 @@ impl StreamError {
     {
         match self {
             StreamError::Fault { row, .. } => Some(*row),
+            StreamError::NoText { row, .. } => Some(*row),
             StreamError::Misfit { row, .. } => Some(*row),
             StreamError::Width { row, .. } => Some(*row),
             StreamError::OpenQuote { row } => Some(*row),
@@ -159,11 +170,27 @@ impl StreamError {
         }
     }
 
+    /// Whether the reason has a comma, as the name of a decimal has.
+    pub(crate) fn has_comma(&self) -> bool {
+        match self {
+            StreamError::Misfit { kind, .. } | StreamError::NoText { kind, .. } => {
+                matches!(kind, Kind::Decimal(_))
+            }
+            _ => false,
+        }
+    }
+
     /// Writes why a row is refused, without its number, its column and its field.
     pub(crate) fn write_reason<W: fmt::Write>(&self, f: &mut fmt::Formatter<W>) -> fmt::Result {
         match self {
             StreamError::Fault { error, .. } => write_error(f, error),
-            StreamError::Misfit { dtype, .. } => write!(f, "is no {dtype:?}"),
+            StreamError::NoText { kind, .. } => write!(f, "the result is no {kind}"),
+            StreamError::Misfit {
+                kind: Kind::Plain,
+                dtype,
+                ..
+            } => write!(f, "is no {dtype:?}"),
+            StreamError::Misfit { kind, .. } => write!(f, "is no {kind}"),
             StreamError::Width { wanted, found, .. } => {
                 write!(f, "{found} fields instead of {wanted}")
             }
@@ -255,6 +282,11 @@ fn write_input<W: fmt::Write>(f: &mut fmt::Formatter<W>, error: &StreamError) ->
             write!(f, "row {row}, column {column}: ")?;
             write_field(f, field.as_ref().map(|bytes| bytes.as_slice()))?;
             f.write_str(" ")?;
+            error.write_reason(f)
+        }
+        StreamError::NoText { row, name, .. } => {
+            let name = name.as_str();
+            write!(f, "row {row}, answer {name}: ")?;
             error.write_reason(f)
         }
         StreamError::TextsTooLong(name) => {

@@ -6,13 +6,17 @@ ghost use Rattle.vortex_errors.specs.Answers.{AnswersUnlessMemory};
 ghost use Rattle.vortex_interface.specs.Printing.{tree_text};
 ghost use Rattle.vortex_expressions.specs.Writing.{text_of_tree};
 ghost use Rattle.rowfn_batches.specs.Explaining.{tree_head, weight_end, AddsTree, AddsRules};
-ghost use Rattle.rowfn_batches.specs.Explaining.{AddsAnswer, AreExplained};
+ghost use Rattle.rowfn_batches.specs.Explaining.{AddsAnswer, AreExplained, kind_type};
+ghost use Rattle.std.specs.Prelude.{if◌then◌else◌};
+ghost use Rattle.vortex_types.specs.TypeOf.{type_of};
+ghost use Rattle.vortex_logical.specs.Kinds.{kind_name};
 
 use itoa::Buffer;
 use std::alloc::{AllocError, Global};
-use vortex_columns::VortexResult;
+use vortex_columns::{DType, VortexResult};
 use vortex_expressions::write_expression;
 use vortex_functions::BoundExpression;
+use vortex_logical::kind::Kind;
 use vortex_program::{Answer, Program};
 use vortex_standard::Standard;
 
@@ -51,21 +55,49 @@ fn push_weight(out: &mut String, weight: u64) -> Result<(), AllocError>
     out.push_str("\n")
 }
 
-/// Adds the lines of a tree under a title. E9 where an allocation fails.
+/// Adds the name of a kind, with the mark of a type that has null. E9 where an allocation fails.
+fn push_kind(
+    out: &mut String,
+    alloc: Global,
+    kind: &Kind,
+    is_nullable: bool,
+) -> Result<(), AllocError>
+    ensures { OnOk result (string_bytes out.new ≡ string_bytes out.old
+        ++ (kind_name kind.now ++ (if is_nullable then codes "?" else []))) }
+{
+    let name = format!(in alloc; "{kind}")?;
+    out.push_str(name.as_str())?;
+    out.push_str(if is_nullable { "?" } else { "" })
+}
+
+/// Adds the type of an answer's values: its kind where it has one. E9 where an allocation fails.
+fn push_type(out: &mut String, alloc: Global, kind: &Kind, dtype: &DType) -> VortexResult<()>
+    ensures { AnswersUnlessMemory result (λ _. string_bytes out.new
+        ≡ string_bytes out.old ++ kind_type kind.now (type_of dtype.now)) }
+{
+    if matches!(kind, Kind::Plain) {
+        return dtype.write_text(out);
+    }
+    push_kind(out, alloc, kind, dtype.is_nullable())?;
+    Ok(())
+}
+
+/// Adds the lines of a tree, whose values have a kind, under a title. E9 where an allocation fails.
 fn push_tree(
     out: &mut String,
     alloc: Global,
     title: &str,
     tree: &BoundExpression<Standard>,
+    kind: &Kind,
     printed: &str,
 ) -> VortexResult<()>
     requires { IfSome (tree_text tree.now) (λ words. printed.now ≡ words) }
-    ensures { AnswersUnlessMemory result (λ _. AddsTree title.now tree.now printed.now
-        (string_bytes out.old) (string_bytes out.new)) }
+    ensures { AnswersUnlessMemory result (λ _. AddsTree title.now tree.now kind.now
+        printed.now (string_bytes out.old) (string_bytes out.new)) }
 {
     let words = text_of(alloc, tree)?;
     push_head(out, title, words.as_str(), printed)?;
-    tree.dtype().write_text(out)?;
+    push_type(out, alloc, kind, tree.dtype())?;
     push_weight(out, tree.weight())?;
     Ok(())
 }
@@ -95,7 +127,14 @@ fn push_rules(
     if are_one(other.as_str(), printed) {
         return Ok(());
     }
-    push_tree(out, alloc, "optimized", &optimized.tree, other.as_str())
+    push_tree(
+        out,
+        alloc,
+        "optimized",
+        &optimized.tree,
+        &optimized.kind,
+        other.as_str(),
+    )
 }
 
 /// Adds the lines of an answer. E9 where an allocation fails.
@@ -111,12 +150,19 @@ fn push_answer(
     out.push_str(answer.name.as_str())?;
     out.push_str("\n")?;
     let printed = answer.tree.sql_text(alloc)?;
-    push_tree(out, alloc, "tree", &answer.tree, printed.as_str())?;
+    push_tree(
+        out,
+        alloc,
+        "tree",
+        &answer.tree,
+        &answer.kind,
+        printed.as_str(),
+    )?;
     push_rules(out, alloc, printed.as_str(), optimized)
 }
 
 /// The answer of that number, if there is one.
-fn answer_at(answers: &[Answer], place: usize) -> Option<&Answer>
+pub(crate) fn answer_at(answers: &[Answer], place: usize) -> Option<&Answer>
     ensures { option_map (λ a. a.now) result ≡ slice_get answers.now place }
 {
     answers.get(place)

@@ -71,15 +71,25 @@ fn write_field<W: fmt::Write>(f: &mut fmt::Formatter<W>, field: Option<&[u8]>) -
     f.write_str("\"")
 }
 
-/// What stands behind the row's number: the column by its name, the reason, and the beginning of the
-/// field.
+/// Writes why a row is refused, in quotes where that has a comma.
+fn write_reason<W: fmt::Write>(f: &mut fmt::Formatter<W>, error: &StreamError) -> fmt::Result {
+    let quote = if error.has_comma() { "\"" } else { "" };
+    f.write_str(quote)?;
+    error.write_reason(f)?;
+    f.write_str(quote)
+}
+
+/// What follows the row's number: the column or answer by its name, the reason, and the beginning of
+/// the field.
 impl fmt::Display for RefusalLine<'_> {
     fn fmt<W: fmt::Write>(&self, f: &mut fmt::Formatter<W>) -> fmt::Result {
-        if let StreamError::Misfit { column, .. } = self.error {
-            write_text(f, column.as_str(), "")?;
+        match self.error {
+            StreamError::Misfit { column, .. } => write_text(f, column.as_str(), "")?,
+            StreamError::NoText { name, .. } => write_text(f, name.as_str(), "")?,
+            _ => {}
         }
         f.write_str(",")?;
-        self.error.write_reason(f)?;
+        write_reason(f, self.error)?;
         f.write_str(",")?;
         if let StreamError::Misfit { field, .. } = self.error {
             write_field(f, field.as_ref().map(|bytes| bytes.as_slice()))?;
@@ -89,8 +99,9 @@ impl fmt::Display for RefusalLine<'_> {
 }
 
 /// Tells rows that are refused to a writer, as CSV with commas between fields: `row` by its number,
-/// `column` by its name, which is empty where no column is at fault, `reason`, and `field`, its first
-/// 80 characters, where one does not fit. Lines are held until they are enough, or flushed.
+/// `column`, the name of the column or answer, which is empty where none is at fault, `reason`, and
+/// `field`, its first 80 characters, where one does not fit. Lines are held until they are enough, or
+/// flushed.
 #[derive(Drop)]
 pub struct Refusals<W> {
     alloc: Global,

@@ -7,4 +7,5 @@ use Rattle.rowfn_batches.proofs.columns.first_misfit.Given as goal
 -- the fields so far fit
 abbrev pub invariant-loop-place : goal.invariant-loop-place
 invariant-loop-place l =
-    (k : ℕ) → k < l.place → fits_at (struct_fields l.declared) (map field_in l.fields) k ≡ true
+    (k : ℕ) → k < l.place
+    → fits_at (struct_fields l.declared) l.kinds (map field_in l.fields) k ≡ true

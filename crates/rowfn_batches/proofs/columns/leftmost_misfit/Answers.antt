@@ -10,7 +10,7 @@ use Rattle.rowfn_batches.proofs.columns.leftmost_misfit.Goals as goal
 
 pub loop-other-init : goal.loop-other-init
 loop-other-init c =
-    leftmost_first (struct_fields c.args.declared.now) (map field_in c.args.fields.now)
+    leftmost_first (struct_fields c.args.declared.now) c.args.kinds.now (map field_in c.args.fields.now)
     c.args.places.now c.args.row c.args.column _ refl c.requires.misfit
 
 pub nearer-leftmost-requires-clause-place : goal.nearer-leftmost-requires-clause-place
@@ -25,7 +25,7 @@ nearer-leftmost-requires-clause-place c =
 pub loop-other-preserved : goal.loop-other-preserved
 loop-other-preserved c =
     let told = c.nearer-leftmost.ensures in
-    leftmost_next (struct_fields c.args.declared.now) (map field_in c.args.fields.now)
+    leftmost_next (struct_fields c.args.declared.now) c.args.kinds.now (map field_in c.args.fields.now)
     c.args.places.now c.args.row c.loop-other.other c.loop-other.leftmost c.nearer-leftmost.result
     (omega (arith, c.loop-other-test.true, c.len-width.ensures)) c.loop-other.invariant told.second
     told.before told.fits
@@ -41,8 +41,8 @@ returns c =
       c.loop-other.auto.other-end,
       c.requires.misfit.below,
     ) in
-    is_leftmost ds fs c.args.places.now c.args.row c.args.column c.loop-other.leftmost
+    is_leftmost ds c.args.kinds.now fs c.args.places.now c.args.row c.args.column c.loop-other.leftmost
     c.requires.even.0 c.requires.even.1 c.requires.misfit
     (subst
-    (λ (n : ℕ). IsLeftmostOf ds fs c.args.places.now c.args.row n c.loop-other.leftmost) all
+    (λ (n : ℕ). IsLeftmostOf ds c.args.kinds.now fs c.args.places.now c.args.row n c.loop-other.leftmost) all
     c.loop-other.invariant)

@@ -7,5 +7,5 @@ use Rattle.rowfn_batches.proofs.columns.leftmost_misfit.Given as goal
 -- the leftmost of the columns so far
 abbrev pub invariant-loop-other : goal.invariant-loop-other
 invariant-loop-other l =
-    IsLeftmostOf (struct_fields l.declared) (map field_in l.fields) l.places l.row l.other
+    IsLeftmostOf (struct_fields l.declared) l.kinds (map field_in l.fields) l.places l.row l.other
     l.leftmost

@@ -8,7 +8,7 @@ use Rattle.rowfn_batches.proofs.columns.read_columns.Goals as goal
 pub loop-place-preserved : goal.loop-place-preserved
 loop-place-preserved c =
     let columns =
-    column_at (struct_fields c.args.declared.now)
+    column_at (struct_fields c.args.declared.now) c.args.kinds.now
     (map field_in c.args.fields.now) c.args.row_count in
     rw c.in_ok-push-in-Some.ensures.items
     (made_more Some columns c.loop-place.columns.items c.in-Some.column c.loop-place.place

@@ -7,5 +7,5 @@ use Rattle.rowfn_batches.proofs.columns.read_columns.Given as goal
 -- the columns so far
 abbrev pub invariant-loop-place : goal.invariant-loop-place
 invariant-loop-place l =
-    AreColumns (struct_fields l.declared)
+    AreColumns (struct_fields l.declared) l.kinds
     (map field_in l.fields) l.row_count l.place l.columns.items

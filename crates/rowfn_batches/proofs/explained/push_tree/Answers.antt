@@ -13,11 +13,11 @@ returns c =
       prints = c.requires;
       added =
           three (string_bytes c.args.out.now) (string_bytes c.push_head.new.out)
-          (string_bytes c.write_text.new.out) (string_bytes c.push_weight.new.out) _ _ _
+          (string_bytes c.push_type.new.out) (string_bytes c.push_weight.new.out) _ _ _
           (c.in_ok-push_head.ensures
           ∙ ap (λ w. string_bytes c.args.out.now ++ tree_head c.args.title.now w c.args.printed.now)
           words)
-          c.in_ok-write_text.ensures
+          c.in_ok-push_type.ensures
           (c.in_ok-push_weight.ensures
-          ∙ ap (λ n. string_bytes c.write_text.new.out ++ weight_end n) c.weight.ensures.told);
+          ∙ ap (λ n. string_bytes c.push_type.new.out ++ weight_end n) c.weight.ensures.told);
     }

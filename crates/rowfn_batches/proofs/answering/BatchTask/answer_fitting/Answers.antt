@@ -1,32 +1,38 @@
-use Rattle.std.proofs.Common.{ℕ, refl, sym, subst, map}
+use Rattle.std.proofs.Common.{refl, map}
 use Rattle.std.proofs.Math.Logic.{∥∥₁_map}
 use Rattle.rowfn_batches.specs.Fields.{field_in}
 use Rattle.rowfn_batches.specs.declared.errors.StreamError.TheVariants as end
-use Rattle.rowfn_batches.specs.BatchAnswers.{EndsAnswers, at_fault, number_of}
+use Rattle.rowfn_batches.specs.BatchAnswers.{with_them, at_fault}
 use Rattle.rowfn_batches.proofs.FirstRows.{if_ok-weaker, unserved}
 use Rattle.rowfn_batches.proofs.Optimized.{rewrites}
 use Rattle.rowfn_batches.proofs.answering.BatchTask.answer_fitting.Goals as goal
 
-pub returns-in-Ok-clause-rows : goal.returns-in-Ok-clause-rows
-returns-in-Ok-clause-rows c = record {
+pub answer_values-requires : goal.answer_values-requires
+answer_values-requires c = record {
   columns = c.args.columns.now;
   first = c.requires;
   mean = ∥∥₁_map (rewrites c.args.self.now.asked) c.in-Ok.ensures;
 }
 
+pub returns-in-Ok-clause-ends : goal.returns-in-Ok-clause-ends
+returns-in-Ok-clause-ends c =
+    if_ok-weaker c.answer_values.result _ _
+    (λ a h. (c.args.row_count, c.args.error, with_them refl refl, h))
+    c.answer_values.ensures.ends
+
 pub returns-in-Err-Fault-clause-ends : goal.returns-in-Err-Fault-clause-ends
 returns-in-Err-Fault-clause-ends c =
     let x = c.args.self.now.asked in
-    let fs = map field_in c.args.fields.now in
-    let number = number_of c.args.self.now in
-    let fit = c.args.row_count in
     let found = c.in-Err-Fault in
     let faulty = ∥∥₁_map (rewrites x) (λ r. rw found.field-0-is at (found.ensures r)) in
     if_ok-weaker c.answer_faultless.result _ _
-    (λ a h.
-    subst (λ (n : ℕ). EndsAnswers x fs number fit c.args.error n a.error) (sym h.0)
-    (at_fault c.args.columns.now found.field-0-1 found.error
-    (end.Fault c.number_of.result found.error) h.1 c.requires faulty (c.number_of.ensures, refl)))
+    (λ a h. (
+      found.row,
+      _,
+      at_fault c.args.columns.now found.field-0-1 found.error
+          (end.Fault c.number_of.result found.error) refl c.requires faulty (c.number_of.ensures, refl),
+      h,
+    ))
     c.answer_faultless.ensures.ends
 
 pub returns-in-Err-Refused-clause-refused : goal.returns-in-Err-Refused-clause-refused

@@ -1,5 +1,5 @@
 use Rattle.std.proofs.lemmas.Result.{err_from_is_err_and}
-use Rattle.rowfn_batches.specs.Starts.{taken, no_memory}
+use Rattle.rowfn_batches.specs.Starts.{taken}
 use Rattle.rowfn_batches.proofs.Starting.{pushes_none, pushes_picked, pushes_names}
 use Rattle.rowfn_batches.proofs.stream.starting.push_header.Goals as goal
 

@@ -3,8 +3,8 @@ use Rattle.std.specs.Str.{is_utf8}
 use Rattle.std.proofs.lemmas.Str.{IsUtf8-from_is_utf8, is_utf8-from_IsUtf8}
 use Rattle.std.proofs.lemmas.Bool.{false_from_ne_true}
 use Rattle.vortex_cells.specs.Fields.{field_cell}
-use Rattle.rowfn_batches.specs.Fields.{field_in}
-use Rattle.rowfn_batches.proofs.fields.field_cell.Goals as goal
+use Rattle.vortex_cells.specs.Cells.{cell_in}
+use Rattle.vortex_logical_cells.proofs.fields.cell_of_field.Goals as goal
 
 pub returns : goal.returns
 returns c =
@@ -12,7 +12,7 @@ returns c =
     let readable = is_utf8-from_IsUtf8 bytes c.in_ok-text.ensures.1 in
     ap (λ t. Some (Some t)) c.in_ok-text.ensures.0
     ∙ sym (ap (λ b. if b then Some (Some bytes) else None) readable)
-    ∙ ap (λ f. field_cell (field_in f)) (sym c.in-Some.is)
+    ∙ ap (λ f. field_cell (cell_in f)) (sym c.in-Some.is)
 
 pub returns-in_err-text : goal.returns-in_err-text
 returns-in_err-text c =
@@ -22,4 +22,4 @@ returns-in_err-text c =
     (λ e. c.in_err-text.ensures (IsUtf8-from_is_utf8 bytes e)) in
     rw c.from_residual.ensures
     (sym (ap (λ b. if b then Some (Some bytes) else None) unreadable)
-    ∙ ap (λ f. field_cell (field_in f)) (sym c.in-Some.is))
+    ∙ ap (λ f. field_cell (cell_in f)) (sym c.in-Some.is))

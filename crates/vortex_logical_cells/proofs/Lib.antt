@@ -1,0 +1,2 @@
+pub mod StoredRows
+pub mod WrittenTexts

@@ -1,0 +1,2 @@
+pub mod StoredFields
+pub mod StoredTexts
