@@ -46,7 +46,10 @@ use Rattle.vortex_expressions.specs.Calls as calls
 use Rattle.vortex_expressions.specs.Calls.{column_of, column_in}
 use Rattle.vortex_logical.specs.declared.kind.Kind.{Kind}
 use Rattle.vortex_expressions.specs.Applied.{values_of, cases_settled, arguments_settled}
-use Rattle.vortex_expressions.specs.Applied.{function_call, applied_item}
+use Rattle.vortex_expressions.specs.Applied.{function_call}
+use Rattle.vortex_expressions.specs.Functions.{values_in, call_kind, met_values, aligned_arguments}
+use Rattle.vortex_expressions.specs.Functions.{kinded_call, function_item, applied_item}
+use Rattle.vortex_logical.specs.declared.operand.Operand.TheVariants.{Of}
 use Rattle.vortex_expressions.specs.Casts.{cast_function, cast_by, cast_from, cast_tree, cast_hint}
 use Rattle.std.specs.Option.{option_map}
 use Rattle.vortex_expressions.specs.Casts.{tried_if}
@@ -64,6 +67,7 @@ use Rattle.vortex_expressions.proofs.SureCalls.{sure_all, sure_less, sure_named_
 use Rattle.vortex_expressions.proofs.SureCalls.{sure_null, sure_called, sure_item}
 use Rattle.vortex_expressions.proofs.SureCalls.{sure_text, sure_quoted, sure_column, sure_named}
 use Rattle.vortex_expressions.proofs.SureKinds.{sure_kinded_joined, sure_kinded_between, sure_stored}
+use Rattle.vortex_expressions.proofs.SureKinds.{Any, sure_met, sure_aligned_arguments, result_is}
 
 module _ (columns : List ℕ → Outcome Item) (sure_columns : (w : List ℕ) → Sure IsItem (columns w)) where
   sure_sign : (s : Sign) → is_operand (sign s) ≡ true → Sure IsItem (calls.sign_item s)
@@ -176,6 +180,22 @@ module _ (columns : List ℕ → Outcome Item) (sure_columns : (w : List ℕ) �
       sure_then AllTyped IsTyped (arguments_settled s is) (call_of (callable f))
       (sure_arguments s is h) (λ ts j. sure_named_call f ts)
 
+  sure_kinded_call : (f : Standard) (k : Kind) (is : List Item) → AllItems is
+      → Sure IsItem (kinded_call f k is)
+  sure_kinded_call f k is h =
+      let s = (row_of f).types.takes in
+      sure_then Any IsItem (met_values k (Of k) (values_in s is)) _
+      (sure_met k (Of k) (values_in s is))
+      (λ a j. sure_then AllItems IsItem (aligned_arguments s k a is) _
+      (sure_aligned_arguments s k a is h)
+      (λ js l. sure_then IsTyped IsItem (function_call f js) _ (sure_call_on f js l)
+      (λ t q. result_is f a t q)))
+
+  sure_item_call : (f : Standard) (is : List Item) → AllItems is → Sure IsItem (function_item f is)
+  sure_item_call f is h =
+      sure_if IsItem (calls.is_plain (call_kind f is)) _ _ (sure_item _ (sure_call_on f is h))
+      (sure_kinded_call f (call_kind f is) is h)
+
   sure_cast_by : (o : Option Standard) (u : Tree) → Sure IsTyped (cast_by o u)
   sure_cast_by None u = tt
   sure_cast_by (Some f) u = sure_named_call f (u ∷ [])
@@ -244,6 +264,10 @@ module _ (columns : List ℕ → Outcome Item) (sure_columns : (w : List ℕ) �
   sure_negated true t h = sure_not None (bound t) h
   sure_negated false t h = h
 
+  sure_negated_item : (n : Bool) (i : Item) → IsItem i → Sure IsItem (calls.negated_item n i)
+  sure_negated_item true i h = sure_item _ (sure_not None i h)
+  sure_negated_item false i h = h
+
   sure_within : (a b c : Item) → IsItem a → IsItem b → IsItem c
       → Sure IsTyped (calls.between_three a b c)
   sure_within a b c h k j =
@@ -304,8 +328,8 @@ module _ (columns : List ℕ → Outcome Item) (sure_columns : (w : List ℕ) �
   sure_distinct : (n : Bool) (a b : Item) → IsItem a → IsItem b
       → Sure IsItem (calls.distinct_item n a b)
   sure_distinct n a b h k =
-      sure_item _ (sure_then IsTyped IsTyped (function_call standard.IsDistinct (a ∷ b ∷ [])) _
-      (sure_call_on standard.IsDistinct (a ∷ b ∷ []) (h, (k, tt))) (sure_negated n))
+      sure_then IsItem IsItem (function_item standard.IsDistinct (a ∷ b ∷ [])) _
+      (sure_item_call standard.IsDistinct (a ∷ b ∷ []) (h, (k, tt))) (sure_negated_item n)
 
   sure_plus : (i : Item) → IsItem i → Sure IsItem (calls.plus_item i)
   sure_plus i h =
@@ -338,8 +362,8 @@ module _ (columns : List ℕ → Outcome Item) (sure_columns : (w : List ℕ) �
 
   sure_listed : (n : Bool) (is : List Item) → AllItems is → Sure IsItem (calls.listed_item n is)
   sure_listed n is h =
-      sure_item _ (sure_then IsTyped IsTyped (function_call standard.InList is) _
-      (sure_call_on standard.InList is h) (sure_negated n))
+      sure_then IsItem IsItem (function_item standard.InList is) _
+      (sure_item_call standard.InList is h) (sure_negated_item n)
 
   sure_equal : (a : Item) (is : List Item) → IsItem a → AllItems is
       → Sure AllItems (calls.equal_cases a is)
@@ -360,13 +384,13 @@ module _ (columns : List ℕ → Outcome Item) (sure_columns : (w : List ℕ) �
   sure_chosen : (b : Bool) (is : List Item) → AllItems is → Sure IsItem (calls.chosen_item b is)
   sure_chosen b is h =
       sure_then AllItems IsItem (calls.conditions_of b is) _ (sure_conditions b is h)
-      (λ js k. sure_item _ (sure_call_on standard.Case js k))
+      (λ js k. sure_item_call standard.Case js k)
 
   sure_applied : (w : List ℕ) (is : List Item) → AllItems is → Sure IsItem (applied_item w is)
   sure_applied w is h =
       sure_then _ IsItem (or_refuses NoFunction (standard_named w)) _
       (sure_or NoFunction (standard_named w))
-      (λ f k. sure_item _ (sure_call_on f is h))
+      (λ f k. sure_item_call f is h)
 
   mutual
     pub sure : (t : Syntax) → Fits t → Sure IsItem (item_by columns t)

@@ -18,7 +18,7 @@ use Rattle.vortex_logical.specs.declared.operand.Operand.TheVariants.{Whole, Of}
 use Rattle.vortex_logical.specs.CommonKinds.{common_operand}
 use Rattle.vortex_lowering.specs.Operands.{are_shipped}
 use Rattle.vortex_lowering.specs.Results.{result_operand, are_computed}
-use Rattle.vortex_lowering.specs.LoweredTrees.{compared_tree, bounded_tree, computed_tree}
+use Rattle.vortex_lowering.specs.LoweredTrees.{compared_tree, bounded_tree, computed_tree, tree_at_scale}
 use Rattle.vortex_standard.specs.declared.standard.Standard.{Standard}
 use Rattle.vortex_logical_calls.specs.Outcomes as calls
 use Rattle.vortex_logical_calls.specs.Calls.{Lowered, typed, call_two}
@@ -30,6 +30,8 @@ use Rattle.vortex_logical_calls.specs.Computation.{float_operator}
 use Rattle.vortex_logical.specs.declared.kind.Kind.TheVariants.{F64}
 use Rattle.vortex_standard.specs.declared.standard.Standard.TheVariants as standard
 use Rattle.vortex_logical_calls.specs.Computation.{computed}
+use Rattle.vortex_logical_calls.specs.Alignment.{meet_next, aligned}
+use Rattle.vortex_lowering.specs.Operands.{scale_of}
 use Rattle.vortex_logical_calls.specs.Literals.{kind_beside, literal_of}
 use Rattle.vortex_syntax.specs.declared.step.WrittenOperator as written
 use Rattle.vortex_expressions.specs.Literals.{Literal, number, text, truth, null}
@@ -41,8 +43,12 @@ use Rattle.vortex_expressions.specs.Kinded.{literal_operand, item_operand, value
 use Rattle.vortex_expressions.specs.Kinded.{KindedOperator, compares, computes, neither, operated}
 use Rattle.vortex_expressions.specs.Kinded.{kinded_operator, kinded_joined, kinded_between}
 use Rattle.vortex_expressions.specs.Kinded.{within_bounds}
+use Rattle.vortex_expressions.specs.Functions.{met_with, met_values, aligned_item, aligned_items}
+use Rattle.vortex_expressions.specs.Functions.{aligned_cases, aligned_arguments, is_choice, result_item}
+use Rattle.vortex_sql_rows.specs.declared.types.Takes.{Takes}
+use Rattle.vortex_sql_rows.specs.declared.types.Takes.TheVariants.{Alike, Each, Cases}
 use Rattle.vortex_expressions.proofs.SureCalls.{Sure, sure_then, IsTyped, IsItem, sure_constant}
-use Rattle.vortex_expressions.proofs.SureCalls.{sure_item}
+use Rattle.vortex_expressions.proofs.SureCalls.{sure_item, AllItems}
 
 -- P of the result, if there is one
 abbrev IfMade : {A : Type 0} → (A → Type 0) → calls.Outcome A → Type 0
@@ -136,7 +142,7 @@ computed_made o x y =
     (result_operand o a.operand b.operand) _ (typed_made (computed_tree o a b)))))
 
 -- items next to a value of a kind
-abbrev Any : {A : Type 0} → A → Type 0
+abbrev pub Any : {A : Type 0} → A → Type 0
 Any a = Unit {0}
 
 sure_whole : (p : PType) (l : Literal) → Sure Any (whole_literal p l)
@@ -201,3 +207,52 @@ pub sure_stored : (i : Item) → IsItem i → IsItem (stored_item i)
 sure_stored (literal l) h = h
 sure_stored (bound t) h = h
 sure_stored (kinded k t) h = h
+
+-- functions on values of kinds
+aligned_made : (a : Operand) (x : Lowered) → IfMade IsTyped (aligned a x)
+aligned_made a x =
+    if_then IsTyped (converted (conversion_beside x.operand a) x) _
+    (λ y. typed_made (tree_at_scale (scale_of a) y))
+
+pub sure_met : (k : Kind) (a : Operand) (is : List Item) → Sure Any (met_values k a is)
+sure_met k a [] = tt
+sure_met k a (i ∷ is) =
+    sure_then {A = Operand} Any Any (met_with k a i) _
+    (sure_then {A = Lowered} {B = Operand} Any Any (item_operand k i) _ (sure_operand k i)
+    (λ x h. sure_told Any (meet_next a x.operand) (any_made (meet_next a x.operand))))
+    (λ b h. sure_met k b is)
+
+sure_aligned : (k : Kind) (a : Operand) (i : Item) → Sure IsItem (aligned_item k a i)
+sure_aligned k a i =
+    sure_then {A = Lowered} Any IsItem (item_operand k i) _ (sure_operand k i)
+    (λ x h. sure_item _ (sure_told IsTyped (aligned a x) (aligned_made a x)))
+
+sure_aligned_items : (k : Kind) (a : Operand) (is : List Item) → Sure AllItems (aligned_items k a is)
+sure_aligned_items k a [] = tt
+sure_aligned_items k a (i ∷ is) =
+    sure_then IsItem AllItems (aligned_item k a i) _ (sure_aligned k a i)
+    (λ j h. sure_then AllItems AllItems (aligned_items k a is) _ (sure_aligned_items k a is)
+    (λ js g. (h, g)))
+
+sure_aligned_cases : (k : Kind) (a : Operand) (is : List Item) → AllItems is
+    → Sure AllItems (aligned_cases k a is)
+sure_aligned_cases k a [] h = tt
+sure_aligned_cases k a (v ∷ []) h =
+    sure_then IsItem AllItems (aligned_item k a v) _ (sure_aligned k a v) (λ j g. (g, tt))
+sure_aligned_cases k a (c ∷ v ∷ is) h =
+    sure_then IsItem AllItems (aligned_item k a v) _ (sure_aligned k a v)
+    (λ j g. sure_then AllItems AllItems (aligned_cases k a is) _ (sure_aligned_cases k a is h.1.1)
+    (λ js l. (h.0, (g, l))))
+
+pub sure_aligned_arguments : (s : Takes) (k : Kind) (a : Operand) (is : List Item) → AllItems is
+    → Sure AllItems (aligned_arguments s k a is)
+sure_aligned_arguments (Alike q) k a is h = sure_aligned_items k a is
+sure_aligned_arguments (Each x y z) k a is h = sure_aligned_items k a is
+sure_aligned_arguments Cases k a is h = sure_aligned_cases k a is h
+
+pub result_is : (f : Standard) (a : Operand) (t : Tree) → IsTyped t → IsItem (result_item f a t)
+result_is f a t h = by (is_choice f)
+  where
+    by : (b : Bool) → IsItem (cond b (value_item a t) (bound t))
+    by true = value_is a t h
+    by false = h

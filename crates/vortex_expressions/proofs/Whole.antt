@@ -21,7 +21,7 @@ use Rattle.vortex_expressions.specs.Calls.{matched_item, listed_item, chosen_ite
 use Rattle.vortex_expressions.specs.Calls.{bit_not_item, column_of}
 use Rattle.vortex_expressions.specs.Binding.{with_item, of_items, item_by, items_by}
 use Rattle.vortex_expressions.specs.Binding.{branches_by, tree_of}
-use Rattle.vortex_expressions.specs.Applied.{applied_item}
+use Rattle.vortex_expressions.specs.Functions.{applied_item}
 use Rattle.vortex_expressions.specs.Stacks.{run, stepped, pushed, with_last, case_count, left_as}
 use Rattle.vortex_expressions.specs.Stacks.{tree_left}
 use Rattle.vortex_expressions.proofs.Chains.{and_then-assoc, and_then-same, and_then-there}

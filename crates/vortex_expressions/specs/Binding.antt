@@ -19,7 +19,7 @@ use Rattle.vortex_expressions.specs.Calls.{not_item, joined_item, tested_item, d
 use Rattle.vortex_expressions.specs.Calls.{between_item, minus_item, listed_item, chosen_item}
 use Rattle.vortex_syntax.specs.Postfix.{has_operand, test_of}
 use Rattle.vortex_expressions.specs.Calls.{matched_item, plus_item, bit_not_item}
-use Rattle.vortex_expressions.specs.Applied.{applied_item}
+use Rattle.vortex_expressions.specs.Functions.{applied_item}
 
 -- one more item, before those that come before it
 abbrev pub with_item : Outcome (List Item) → Outcome Item → Outcome (List Item)

@@ -39,6 +39,7 @@ use Rattle.vortex_expressions.specs.Outcomes.{or_refuses}
 use Rattle.vortex_expressions.specs.Items.{Item, literal, bound, kinded, Tree, meaning, Callable, called}
 use Rattle.vortex_expressions.specs.Items.{common_type}
 use Rattle.vortex_expressions.specs.Applied.{callable, function_call}
+use Rattle.vortex_expressions.specs.Functions.{function_item}
 use Rattle.vortex_expressions.specs.Items.{constant_at}
 pub use Rattle.vortex_expressions.specs.Items.{as_item, truth_type}
 use Rattle.vortex_expressions.specs.TypeNames.{named_type}
@@ -156,6 +157,10 @@ joined_type o is = common_type is
 abbrev pub negated_if : Bool → Tree → Outcome Tree
 negated_if n t = if n then called (ours Not) None (bound t ∷ []) else answers t
 
+-- a truth value, or Not of it if the flag is true
+abbrev pub negated_item : Bool → Item → Outcome Item
+negated_item n a = if n then as_item (called (ours Not) None (a ∷ [])) else answers a
+
 abbrev pub not_item : Item → Outcome Item
 not_item a = as_item (called (ours Not) truth_type (a ∷ []))
 
@@ -179,7 +184,7 @@ tested_item test.Unknown n a = truth_test (standard.TruthTest IsUnknown) n a
 
 abbrev pub distinct_item : Bool → Item → Item → Outcome Item
 distinct_item n a b =
-    as_item (and_then (function_call standard.IsDistinct (a ∷ b ∷ [])) (negated_if n))
+    and_then (function_item standard.IsDistinct (a ∷ b ∷ [])) (negated_item n)
 
 -- a minus sign: the difference from zero
 abbrev pub minus_item : Item → Outcome Item
@@ -201,7 +206,7 @@ bit_not_item a = as_item (function_call standard.BitNot (a ∷ []))
 
 -- IN, whose operand is the first of the items
 abbrev pub listed_item : Bool → List Item → Outcome Item
-listed_item n is = as_item (and_then (function_call standard.InList is) (negated_if n))
+listed_item n is = and_then (function_item standard.InList is) (negated_item n)
 
 -- cases with an operand: each condition is that it equals the value
 abbrev pub equal_cases : Item → List Item → Outcome (List Item)
@@ -217,7 +222,7 @@ conditions_of true (a ∷ is) = equal_cases a is
 conditions_of h is = answers is
 
 abbrev pub chosen_item : Bool → List Item → Outcome Item
-chosen_item h is = and_then (conditions_of h is) (λ js. as_item (function_call standard.Case js))
+chosen_item h is = and_then (conditions_of h is) (function_item standard.Case)
 
 abbrev pub between_all : List Item → Outcome Tree
 between_all is = called (ours (Between within_bounds)) (common_type is) is

@@ -17,7 +17,7 @@ use Rattle.vortex_expressions.specs.Calls.{operand_by, column_of, column_in, neg
 use Rattle.vortex_expressions.specs.Calls.{not_item, joined_item, tested_item, distinct_item}
 use Rattle.vortex_expressions.specs.Calls.{between_item, minus_item, listed_item, chosen_item}
 use Rattle.vortex_expressions.specs.Calls.{matched_item, plus_item, bit_not_item}
-use Rattle.vortex_expressions.specs.Applied.{applied_item}
+use Rattle.vortex_expressions.specs.Functions.{applied_item}
 use Rattle.vortex_expressions.specs.Binding.{LogicalTree, ended}
 use Rattle.vortex_logical.specs.declared.kind.Kind.{Kind}
 

@@ -9,12 +9,11 @@ ghost use Rattle.vortex_expressions.specs.Binding.{ended, logical_in};
 ghost use Rattle.vortex_expressions.specs.Stacks.{stack_in, call_made, stepped, tree_left, left_as};
 ghost use Rattle.vortex_expressions.specs.Stacks.{logical_left, RunsTo};
 ghost use Rattle.vortex_expressions.specs.Stacks.{with_two, last_items, with_last, case_count};
-ghost use Rattle.vortex_expressions.specs.Applied.{applied_item};
+ghost use Rattle.vortex_expressions.specs.Functions.{applied_item};
 ghost use Rattle.vortex_expressions.specs.Outcomes.{answers};
 ghost use Rattle.vortex_expressions.specs.Calls.{matched_item, listed_item, chosen_item, column_in};
 ghost use Rattle.vortex_expressions.specs.Answering.{Gives, StopsBy};
 
-use crate::applied::applied_item;
 use crate::bounds::between_item;
 use crate::calls::{
     bit_not_item, distinct_item, joined_item, listed_item, matched_item, minus_item, negative_item,
@@ -22,6 +21,7 @@ use crate::calls::{
 };
 use crate::cases::chosen_item;
 use crate::casts::cast_item;
+use crate::functions::applied_item;
 use crate::item::{Item, LogicalTree};
 use crate::refusal::BindStop;
 use std::alloc::Global;

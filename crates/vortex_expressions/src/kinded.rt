@@ -177,7 +177,11 @@ fn literal_operand(
 }
 
 /// An item next to a value of a kind.
-fn item_operand(alloc: Global, kind: &Kind, item: Item) -> Result<Lowered<Standard>, BindStop>
+pub(crate) fn item_operand(
+    alloc: Global,
+    kind: &Kind,
+    item: Item,
+) -> Result<Lowered<Standard>, BindStop>
     ensures { Gives (λ x. lowered x.tree x.operand) result
         (specs.item_operand kind.now (item_in item)) }
 {
@@ -195,7 +199,7 @@ fn item_operand(alloc: Global, kind: &Kind, item: Item) -> Result<Lowered<Standa
 }
 
 /// A tree of stored integers; whole numbers have no kind.
-fn value_item(value: Lowered<Standard>) -> Item
+pub(crate) fn value_item(value: Lowered<Standard>) -> Item
     ensures { item_in result ≡ specs.value_item value.operand value.tree }
 {
     let Lowered { tree, operand } = value;

@@ -11,6 +11,7 @@ mod casts;
 pub mod error;
 mod failures;
 mod forms;
+mod functions;
 mod hints;
 pub mod item;
 mod item_texts;
