@@ -209,12 +209,11 @@ pub(crate) fn negated_if(
 fn negated_item(alloc: Global, negated: bool, item: Item) -> Result<Item, BindStop>
     ensures { Gives item_in result (specs.negated_item negated (item_in item)) }
 {
-    if negated {
-        let tree = called(alloc, ScalarFnRef::Not, None, vec![in alloc; item]?)?;
-        Ok(Item::Bound(tree))
-    } else {
-        Ok(item)
+    if !negated {
+        return Ok(item);
     }
+    let tree = called(alloc, ScalarFnRef::Not, None, vec![in alloc; item]?)?;
+    Ok(Item::Bound(tree))
 }
 
 pub(crate) fn not_item(alloc: Global, item: Item) -> Result<Item, BindStop>
