@@ -144,12 +144,7 @@ fn met_arguments(
 }
 
 /// A value as the integer that stores it in the common kind.
-fn aligned_item(
-    alloc: Global,
-    kind: &Kind,
-    common: &Operand,
-    item: &Item,
-) -> Result<Item, BindStop>
+fn aligned_item(alloc: Global, kind: &Kind, common: &Operand, item: &Item) -> Result<Item, BindStop>
     ensures { Gives item_in result
         (specs.aligned_item kind.now common.now (item_in item.now)) }
 {
