@@ -1,5 +1,5 @@
 -- Cases in a common kind, one case after another.
-use Rattle.std.proofs.Common.{◌≡◌, ℕ, List, [], ◌∷◌, ◌++◌, map, drop, take, length, get_or, ◌≤◌, ◌-◌}
+use Rattle.std.proofs.Common.{◌≡◌, ℕ, List, [], ◌∷◌, ◌++◌, map, drop, take, length, get_or, ◌≤◌, ◌<◌, ◌-◌}
 use Rattle.std.proofs.Common.{◌∙◌, sym, ap, refl, subst, append_assoc, arith}
 use Rattle.std.proofs.lemmas.List.{take_all, map-append}
 use Rattle.vortex_logical.specs.declared.kind.Kind.{Kind}
@@ -7,7 +7,15 @@ use Rattle.vortex_logical.specs.declared.operand.Operand.{Operand}
 use Rattle.vortex_expressions.specs.declared.item.Item as held
 use Rattle.vortex_expressions.specs.Outcomes.{Outcome, answers, refuses, missing, and_then}
 use Rattle.vortex_expressions.specs.Items.{Item, item_in}
+use Rattle.vortex_expressions.specs.Applied.{values_of}
 use Rattle.vortex_expressions.specs.Functions.{aligned_item, aligned_cases}
+
+-- what is left after the cases is a value
+pub few_values : (xs : List held.Item) → length xs < 2
+    → values_of (map item_in xs) ≡ map item_in xs
+few_values [] lt = refl
+few_values (y ∷ []) lt = refl
+few_values (y ∷ z ∷ ys) lt = absurd (omega (arith, lt))
 
 module _ (k : Kind) (a : Operand) where
   -- a condition and a value more

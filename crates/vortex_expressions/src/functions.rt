@@ -86,11 +86,13 @@ fn call_kind(function: Standard, items: &[Item]) -> Kind
 }
 
 /// The kind in which values so far and one more meet.
-fn met_with(alloc: Global, kind: &Kind, met: Operand, item: &Item) -> Result<Operand, BindStop>
-    ensures { Gives (λ a. a) result (specs.met_with kind.now met (item_in item.now)) }
+fn meet(alloc: Global, kind: &Kind, met: &mut Operand, item: &Item) -> Result<(), BindStop>
+    ensures { Gives (λ _. met.new) result
+        (specs.met_with kind.now met.old (item_in item.now)) }
 {
     let value = item_operand(alloc, kind, item.try_clone(alloc)?)?;
-    Ok(calls::meet_next(met, &value.operand)?)
+    *met = calls::meet_next(*met, &value.operand)?;
+    Ok(())
 }
 
 /// The kind in which values meet, from left to right.
@@ -104,7 +106,9 @@ fn met_values(
 {
     let mut met = found;
     for item in items {
-        met = met_with(alloc, kind, met, item)?;
+        if let Err(stop) = meet(alloc, kind, &mut met, item) {
+            return Err(stop);
+        }
     }
     Ok(met)
 }
@@ -122,7 +126,9 @@ fn met_cases(
     let mut met = found;
     let mut rest = items;
     while let [_condition, value, more @ ..] = rest {
-        met = met_with(alloc, kind, met, value)?;
+        if let Err(stop) = meet(alloc, kind, &mut met, value) {
+            return Err(stop);
+        }
         rest = more;
     }
     met_values(alloc, kind, met, rest)
