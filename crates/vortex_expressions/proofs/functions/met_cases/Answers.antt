@@ -1,4 +1,4 @@
-use Rattle.std.proofs.Common.{◌∙◌, ◌<◌, sym, ap, subst, map, length, arith, List}
+use Rattle.std.proofs.Common.{◌∙◌, ◌<◌, sym, ap, subst, length, arith, List}
 use Rattle.vortex_logical.specs.declared.operand.Operand.{Operand}
 use Rattle.vortex_expressions.specs.Outcomes.{Outcome}
 use Rattle.vortex_expressions.specs.Answering.{Gives}
