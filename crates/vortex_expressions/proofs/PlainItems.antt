@@ -1,5 +1,5 @@
 -- Items without kinds are joined as trees are, and functions take them as trees.
-use Rattle.std.proofs.Common.{◌≡◌, ◌||◌, Bool, true, false, cond, refl, ap, List, [], ◌∷◌}
+use Rattle.std.proofs.Common.{◌≡◌, ◌||◌, Bool, true, false, refl, ap, List, [], ◌∷◌}
 use Rattle.std.specs.Prelude.{if◌then◌else◌}
 use Rattle.vortex_logical.specs.declared.kind.Kind.TheVariants.{Plain}
 use Rattle.vortex_sql_rows.specs.declared.types.Takes.{Takes}
