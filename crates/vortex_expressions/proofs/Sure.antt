@@ -43,7 +43,7 @@ use Rattle.vortex_expressions.specs.Items.{Tree, Item, literal, bound, kinded, m
 use Rattle.vortex_expressions.specs.Items.{settled, all_settled}
 use Rattle.vortex_expressions.specs.Items.{call_of, called, callable, common_type, truth_type}
 use Rattle.vortex_expressions.specs.Calls as calls
-use Rattle.vortex_expressions.specs.Calls.{column_of, column_in}
+use Rattle.vortex_expressions.specs.Calls.{Names, names_of, names_in}
 use Rattle.vortex_logical.specs.declared.kind.Kind.{Kind}
 use Rattle.vortex_expressions.specs.Applied.{values_of, cases_settled, arguments_settled}
 use Rattle.vortex_expressions.specs.Applied.{function_call}
@@ -57,7 +57,7 @@ use Rattle.vortex_syntax.specs.declared.step.BetweenKind.{BetweenKind}
 use Rattle.vortex_types.specs.TypeEquality.{alike_types}
 use Rattle.vortex_expressions.specs.Binding.{with_item, item_by, item_of, items_by, branches_by}
 use Rattle.vortex_expressions.specs.Binding.{tree_of, logical_of, ended, LogicalTree}
-use Rattle.vortex_logical.specs.declared.kind.Kind.TheVariants.{Plain}
+use Rattle.vortex_logical.specs.declared.kind.Kind.TheVariants.{Plain, F64}
 use Rattle.vortex_syntax.specs.Postfix.{has_operand, test_of}
 use Rattle.vortex_expressions.specs.Literals as literals
 use Rattle.vortex_expressions.specs.Answers.{name_of, written_name, answer_of, answers_of}
@@ -68,15 +68,18 @@ use Rattle.vortex_expressions.proofs.SureCalls.{sure_null, sure_called, sure_ite
 use Rattle.vortex_expressions.proofs.SureCalls.{sure_text, sure_quoted, sure_column, sure_named}
 use Rattle.vortex_expressions.proofs.SureKinds.{sure_kinded_joined, sure_kinded_between, sure_stored}
 use Rattle.vortex_expressions.proofs.SureKinds.{Any, sure_met, sure_aligned_arguments, result_is}
+use Rattle.vortex_expressions.proofs.SureKinds.{sure_kind_item, sure_cast_to_kind}
+use Rattle.vortex_expressions.specs.KindCasts.{float_cast}
+use Rattle.vortex_types.specs.LogicalTypes.{integer_type}
 
-module _ (columns : List ℕ → Outcome Item) (sure_columns : (w : List ℕ) → Sure IsItem (columns w)) where
+module _ (columns : Names) (sure_columns : (w : List ℕ) → Sure IsItem (columns.column w)) where
   sure_sign : (s : Sign) → is_operand (sign s) ≡ true → Sure IsItem (calls.sign_item s)
   sure_sign sign.True h = tt
   sure_sign sign.False h = tt
   sure_sign sign.Null h = tt
   sure_sign s h = absurd cc
 
-  sure_operand : (t : Token) → is_operand t ≡ true → Sure IsItem (calls.operand_by columns t)
+  sure_operand : (t : Token) → is_operand t ≡ true → Sure IsItem (calls.operand_by columns.column t)
   sure_operand (name w) h =
       sure_then _ IsItem (calls.text_of w) _ (sure_text w) (λ v k. sure_columns v)
   sure_operand (nullable w) h = absurd cc
@@ -103,7 +106,7 @@ module _ (columns : List ℕ → Outcome Item) (sure_columns : (w : List ℕ) �
   literal_sign s h = absurd cc
 
   literal_token : (t : Token) → is_operand t ≡ true → 14 ≤ operand_level t
-      → Sure IsLiteral (calls.operand_by columns t)
+      → Sure IsLiteral (calls.operand_by columns.column t)
   literal_token (name w) h le = absurd (let k : ⊥ = omega (arith, le) in k)
   literal_token (nullable w) h le = absurd cc
   literal_token (function w) h le = absurd cc
@@ -146,6 +149,24 @@ module _ (columns : List ℕ → Outcome Item) (sure_columns : (w : List ℕ) �
   sure_typed w n (literal l) h =
       sure_item _ (sure_then _ IsTyped (calls.type_of_name w n) _ (sure_named w n)
       (λ t k. sure_constant l t))
+
+  sure_kind_name : (w : List ℕ) (n : Bool) → Sure (λ k. Unit {0}) (calls.kind_of_name w n)
+  sure_kind_name w n =
+      sure_if _ n _ _ tt (sure_then _ _ (calls.text_of w) _ (sure_text w) (λ v h. tt))
+
+  sure_typed_named : (w : List ℕ) (n : Bool) (i : Item) (k : Option Kind) → IsLiteral i
+      → Sure IsItem (calls.typed_named w n i k)
+  sure_typed_named w n i None h = sure_typed w n i h
+  sure_typed_named w n (literal l) (Some k) h = sure_kind_item k l
+  sure_typed_named w n (bound t) (Some k) h = absurd h
+  sure_typed_named w n (kinded j t) (Some k) h = absurd h
+
+  sure_typed_by : (b : Bool) (w : List ℕ) (n : Bool) (i : Item) → IsLiteral i
+      → Sure IsItem (calls.typed_by b w n i)
+  sure_typed_by false w n i h = sure_typed w n i h
+  sure_typed_by true w n i h =
+      sure_then {A = Option Kind} (λ k. Unit {0}) IsItem (calls.kind_of_name w n) _ (sure_kind_name w n)
+      (λ k j. sure_typed_named w n i k h)
 
   -- calls of SQL's functions
   sure_function : (f : Standard) (o : Option LogicalType) (is : List Item) → AllItems is
@@ -221,6 +242,30 @@ module _ (columns : List ℕ → Outcome Item) (sure_columns : (w : List ℕ) �
       (sure_then IsTyped IsTyped (settled (cast_hint p i t) i) _
       (sure_settled (cast_hint p i t) i h)
       (λ u j. sure_cast_tree p t u j))))
+
+  sure_float_cast : (u : LogicalType) (t : Tree) → Sure IsItem (float_cast u t)
+  sure_float_cast (integer_type p false) t =
+      sure_item _ (sure_named_call (standard.FloatToInt (record { ptype = p })) (t ∷ []))
+  sure_float_cast u t = tt
+
+  sure_cast_of_kind : (p : Bool) (w : List ℕ) (n : Bool) (i : Item) → IsItem i
+      → Sure IsItem (calls.cast_of_kind p w n i)
+  sure_cast_of_kind false w n (kinded F64 t) h =
+      sure_then (λ u. Unit {0}) IsItem (calls.type_of_name w n) _ (sure_named w n)
+      (λ u j. sure_float_cast u t)
+  sure_cast_of_kind p w n i h = sure_cast p w n i h
+
+  sure_cast_named : (p : Bool) (w : List ℕ) (n : Bool) (i : Item) (k : Option Kind) → IsItem i
+      → Sure IsItem (calls.cast_named p w n i k)
+  sure_cast_named p w n i None h = sure_cast_of_kind p w n i h
+  sure_cast_named p w n i (Some k) h = sure_if IsItem p _ _ tt (sure_cast_to_kind k i h)
+
+  sure_cast_with : (b p : Bool) (w : List ℕ) (n : Bool) (i : Item) → IsItem i
+      → Sure IsItem (calls.cast_by b p w n i)
+  sure_cast_with false p w n i h = sure_cast p w n i h
+  sure_cast_with true p w n i h =
+      sure_then {A = Option Kind} (λ k. Unit {0}) IsItem (calls.kind_of_name w n) _ (sure_kind_name w n)
+      (λ k j. sure_cast_named p w n i k h)
 
   sure_operator : (o : Operator) (u : Option LogicalType) (is : List Item) → length is ≡ 2
       → AllItems is → Sure IsTyped (called (ours (Binary o)) u is)
@@ -399,7 +444,7 @@ module _ (columns : List ℕ → Outcome Item) (sure_columns : (w : List ℕ) �
         sure_then _ IsItem (calls.text_of (45 ∷ ds)) _ (sure_text (45 ∷ ds)) (λ v k. tt)
     sure (tree.typed a w n) f =
         sure_then IsLiteral IsItem (item_by columns a) _ (sure_literal a f.1 f.0)
-        (λ i h. sure_typed w n i h)
+        (λ i h. sure_typed_by columns.has_kinds w n i h)
     sure (tree.grouped a) f = sure a f
     sure (tree.negated a) f =
         sure_then IsItem IsItem (item_by columns a) _ (sure a f.1)
@@ -426,9 +471,9 @@ module _ (columns : List ℕ → Outcome Item) (sure_columns : (w : List ℕ) �
         (λ x h. sure_then IsItem IsItem (item_by columns p) _ (sure p f.3)
         (λ y k. sure_matched l e x y h k))
     sure (tree.converted a w n) f =
-        sure_then IsItem IsItem (item_by columns a) _ (sure a f.2) (λ i h. sure_cast false w n i h)
+        sure_then IsItem IsItem (item_by columns a) _ (sure a f.2) (λ i h. sure_cast_with columns.has_kinds false w n i h)
     sure (tree.cast p a w n) f =
-        sure_then IsItem IsItem (item_by columns a) _ (sure a f) (λ i h. sure_cast p w n i h)
+        sure_then IsItem IsItem (item_by columns a) _ (sure a f) (λ i h. sure_cast_with columns.has_kinds p w n i h)
     sure (tree.minus a) f =
         sure_then IsItem IsItem (item_by columns a) _ (sure a f.2)
         (λ i h. sure_joined signs.Sub (literal (literals.number (codes "0"))) i tt h)
@@ -479,7 +524,7 @@ module _ (columns : List ℕ → Outcome Item) (sure_columns : (w : List ℕ) �
 
 pub sure_tree : (scope : Fields) (t : Syntax) → Fits t → Sure IsTyped (tree_of scope t)
 sure_tree scope t f =
-    sure_then IsItem IsTyped (item_of scope t) _ (sure (column_of scope) (sure_column scope []) t f)
+    sure_then IsItem IsTyped (item_of scope t) _ (sure (names_of scope) (sure_column scope []) t f)
     (λ i h. sure_settled None i h)
 
 sure_ended : (i : Item) → IsItem i → Sure (λ x. Unit {0}) (ended i)
@@ -495,8 +540,8 @@ sure_ended (literal l) h =
 pub sure_logical : (scope : Fields) (kinds : List Kind) (t : Syntax) → Fits t
     → Sure (λ x. Unit {0}) (logical_of scope kinds t)
 sure_logical scope kinds t f =
-    sure_then IsItem _ (item_by (column_in scope kinds) t) ended
-    (sure (column_in scope kinds) (sure_column scope kinds) t f) sure_ended
+    sure_then IsItem _ (item_by (names_in scope kinds) t) ended
+    (sure (names_in scope kinds) (sure_column scope kinds) t f) sure_ended
 
 module _ (scope : Fields) (kinds : List Kind) where
   -- names

@@ -23,11 +23,16 @@ use Rattle.vortex_standard.specs.declared.standard.Standard.{Standard}
 use Rattle.vortex_logical_calls.specs.Outcomes as calls
 use Rattle.vortex_logical_calls.specs.Calls.{Lowered, typed, call_two}
 use Rattle.vortex_logical_calls.specs.Conversions.{conversion_beside, conversion_by_two, converted, as_float, meet_in_float}
+use Rattle.vortex_logical_calls.specs.Conversions.{after, float_function}
+use Rattle.vortex_logical_calls.specs.Calls.{call_one}
+use Rattle.vortex_logical_calls.specs.Literals.{constant_of}
+use Rattle.vortex_logical.specs.Cells.{stored_of_text}
+use Rattle.std.specs.Prelude.{ℤ}
 use Rattle.vortex_logical_calls.specs.Comparison.{if_met, compared}
 use Rattle.vortex_logical_calls.specs.Bounds as bounds
 use Rattle.vortex_logical_calls.specs.Computation.{of_operand, of_result}
 use Rattle.vortex_logical_calls.specs.Computation.{float_operator}
-use Rattle.vortex_logical.specs.declared.kind.Kind.TheVariants.{F64}
+use Rattle.vortex_logical.specs.declared.kind.Kind.TheVariants.{Plain, Date, Timestamp, Decimal, F64, F32}
 use Rattle.vortex_standard.specs.declared.standard.Standard.TheVariants as standard
 use Rattle.vortex_logical_calls.specs.Computation.{computed}
 use Rattle.vortex_logical_calls.specs.Alignment.{meet_next, aligned}
@@ -43,12 +48,15 @@ use Rattle.vortex_expressions.specs.Kinded.{literal_operand, item_operand, value
 use Rattle.vortex_expressions.specs.Kinded.{KindedOperator, compares, computes, neither, operated}
 use Rattle.vortex_expressions.specs.Kinded.{kinded_operator, kinded_joined, kinded_between}
 use Rattle.vortex_expressions.specs.Kinded.{within_bounds}
+use Rattle.vortex_expressions.specs.KindCasts.{kind_literal, kind_item, becomes_float, float_item}
+use Rattle.vortex_expressions.specs.KindCasts.{kind_cast, plain_cast, cast_to_kind}
+use Rattle.vortex_expressions.specs.Kinded.{plain_operand}
 use Rattle.vortex_expressions.specs.Functions.{met_with, met_values, aligned_item, aligned_items}
 use Rattle.vortex_expressions.specs.Functions.{aligned_cases, aligned_arguments, is_choice, result_item}
 use Rattle.vortex_sql_rows.specs.declared.types.Takes.{Takes}
 use Rattle.vortex_sql_rows.specs.declared.types.Takes.TheVariants.{Alike, Each, Cases}
 use Rattle.vortex_expressions.proofs.SureCalls.{Sure, sure_then, IsTyped, IsItem, sure_constant}
-use Rattle.vortex_expressions.proofs.SureCalls.{sure_item, AllItems}
+use Rattle.vortex_expressions.proofs.SureCalls.{sure_item, sure_if, AllItems}
 
 -- P of the result, if there is one
 abbrev IfMade : {A : Type 0} → (A → Type 0) → calls.Outcome A → Type 0
@@ -256,3 +264,66 @@ result_is f a t h = by (is_choice f)
     by : (b : Bool) → IsItem (cond b (value_item a t) (bound t))
     by true = value_is a t h
     by false = h
+
+-- literals of kinds
+constant_made : (k : Kind) (z : Option ℤ) (p : Option PType) → IfMade IsValue (constant_of k z p)
+constant_made k None p = tt
+constant_made k (Some z) None = tt
+constant_made k (Some z) (Some p) = refl
+
+sure_text_value : (k : Kind) (bs : List ℕ) → Sure IsValue (text_literal k bs)
+sure_text_value k bs =
+    sure_told IsValue (literal_of k bs) (constant_made k (stored_of_text k bs) (stored_ptype k))
+
+sure_null_value : (k : Kind) (o : Option PType) → Sure IsValue (null_of k o)
+sure_null_value k None = tt
+sure_null_value k (Some p) =
+    sure_then {B = Lowered} IsTyped IsValue (constant_at null (integer_type p true))
+    (λ t. answers (lowered t (Of k))) (sure_constant null (integer_type p true)) (λ t h. h)
+
+sure_kind_literal : (k : Kind) (l : Literal) → Sure IsValue (kind_literal k l)
+sure_kind_literal k (number w) = sure_text_value k w
+sure_kind_literal k (text bs) = sure_text_value k bs
+sure_kind_literal k (truth b) = tt
+sure_kind_literal k null = sure_null_value k (stored_ptype k)
+
+pub sure_kind_item : (k : Kind) (l : Literal) → Sure IsItem (kind_item k l)
+sure_kind_item k l =
+    sure_then IsValue IsItem (kind_literal k l) _ (sure_kind_literal k l)
+    (λ x h. value_is x.operand x.tree h)
+
+-- casts to kinds
+one_made : (f : Standard) (t : Tree) → IfMade IsTyped (call_one f t)
+one_made f t =
+    if_chosen IsTyped (fits (function_arity meaning (custom f (record {}))) 1) _ _
+    (typed_made (call (custom f (record {})) (trees_of (t ∷ [])))) tt
+
+after_made : (o : Option Standard) (a : Operand) (x : Lowered) → IsValue x
+    → IfMade IsValue (after o a x)
+after_made None a x h = h
+after_made (Some f) a x h =
+    if_both IsTyped IsValue (call_one f x.tree) _ (one_made f x.tree) (λ t k. k)
+
+sure_float_item : (x : Lowered) → IsValue x → Sure IsItem (float_item x)
+sure_float_item x h =
+    sure_if IsItem (becomes_float x.operand) _ _
+    (sure_then IsValue IsItem (told (as_float x)) _
+    (sure_told IsValue (as_float x) (after_made (float_function x.operand) (Of F64) x h))
+    (λ y j. value_is y.operand y.tree j)) tt
+
+sure_kind_cast : (k j : Kind) (t : Tree) → IsTyped t → Sure IsItem (kind_cast k j t)
+sure_kind_cast Date Date t h = h
+sure_kind_cast Timestamp Timestamp t h = h
+sure_kind_cast F32 F32 t h = h
+sure_kind_cast F64 F64 t h = h
+sure_kind_cast F64 j t h = sure_float_item (lowered t (Of j)) h
+sure_kind_cast k j t h = tt
+
+sure_plain_cast : (k : Kind) (t : Tree) → IsTyped t → Sure IsItem (plain_cast k t)
+sure_plain_cast F64 t h = sure_float_item (lowered t (plain_operand (tree_type meaning t))) h
+sure_plain_cast k t h = tt
+
+pub sure_cast_to_kind : (k : Kind) (i : Item) → IsItem i → Sure IsItem (cast_to_kind k i)
+sure_cast_to_kind k (literal l) h = sure_kind_item k l
+sure_cast_to_kind k (bound t) h = sure_plain_cast k t h
+sure_cast_to_kind k (kinded j t) h = sure_kind_cast k j t h

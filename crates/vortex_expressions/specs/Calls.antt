@@ -13,7 +13,7 @@ use Rattle.vortex_interface.specs.Eval.{tree_type}
 use Rattle.vortex_interface.specs.Trees.{leaf, place}
 use Rattle.vortex_cells.specs.Escapes.{escape_of}
 use Rattle.vortex_logical.specs.declared.kind.Kind.{Kind}
-use Rattle.vortex_logical.specs.declared.kind.Kind.TheVariants.{Plain}
+use Rattle.vortex_logical.specs.declared.kind.Kind.TheVariants.{Plain, F64}
 use Rattle.vortex_lowering.specs.declared.refusal.Refusal.TheVariants.{NotStored}
 use Rattle.vortex_syntax.specs.declared.step.WrittenOperator as syntax
 use Rattle.vortex_syntax.specs.declared.step.WrittenOperator.TheVariants as written
@@ -32,6 +32,7 @@ use Rattle.vortex_syntax.specs.declared.token.Sign.TheVariants as sign
 use Rattle.vortex_syntax.specs.Tokens.{Token, name, nullable, function, quoted, number, text, sign}
 use Rattle.vortex_expressions.specs.declared.refusal.Refusal.TheVariants.{NotUtf8, UnknownType}
 use Rattle.vortex_expressions.specs.declared.refusal.Refusal.TheVariants.{NoEscape, Binding, Kinds}
+use Rattle.vortex_expressions.specs.declared.refusal.Refusal.TheVariants.{NoCast}
 use Rattle.vortex_expressions.specs.Literals as literal
 use Rattle.vortex_expressions.specs.Literals.{Literal}
 use Rattle.vortex_expressions.specs.Outcomes.{Outcome, answers, refuses, missing, and_then}
@@ -46,6 +47,7 @@ use Rattle.vortex_expressions.specs.TypeNames.{named_type}
 pub use Rattle.vortex_expressions.specs.Casts.{cast_to}
 pub use Rattle.vortex_expressions.specs.Kinded.{is_kinded, kinded_joined, kinded_between, within_bounds}
 pub use Rattle.vortex_expressions.specs.Kinded.{stored_item, is_plain, stores}
+use Rattle.vortex_expressions.specs.KindCasts.{word_kind, kind_item, cast_to_kind, float_cast}
 
 -- In quotes each quote is doubled, and the second of two is skipped: the mark is true after the
 -- first.
@@ -88,6 +90,22 @@ column_in scope ks w = field_found ks w (find_field w scope)
 abbrev pub column_of : Fields → List ℕ → Outcome Item
 column_of scope = column_in scope []
 
+-- what names of columns mean, and whether kinds have names
+pub record Names : Type 0 where
+  pub column : List ℕ → Outcome Item
+  pub has_kinds : Bool
+
+abbrev pub are_given : List Kind → Bool
+are_given [] = false
+are_given (k ∷ ks) = true
+
+-- kinds have names where columns have kinds
+abbrev pub names_in : Fields → List Kind → Names
+names_in scope ks = record { column = column_in scope ks; has_kinds = are_given ks }
+
+abbrev pub names_of : Fields → Names
+names_of scope = record { column = column_of scope; has_kinds = false }
+
 abbrev pub sign_item : Sign → Outcome Item
 sign_item sign.True = answers (literal (literal.truth true))
 sign_item sign.False = answers (literal (literal.truth false))
@@ -125,6 +143,35 @@ typed_item w n (literal l) = as_item (and_then (type_of_name w n) (constant_at l
 
 abbrev pub cast_item : Bool → List ℕ → Bool → Item → Outcome Item
 cast_item p w n i = as_item (and_then (type_of_name w n) (cast_to p i))
+
+-- the kind of that name; no kind is named with a question mark
+abbrev pub kind_of_name : List ℕ → Bool → Outcome (Option Kind)
+kind_of_name w n =
+    if n then answers None else and_then (text_of w) (λ v. answers (word_kind v))
+
+-- a literal of the kind or the type of that name
+abbrev pub typed_named : List ℕ → Bool → Item → Option Kind → Outcome Item
+typed_named w n i None = typed_item w n i
+typed_named w n (literal l) (Some k) = kind_item k l
+typed_named w n i (Some k) = missing
+
+abbrev pub typed_by : Bool → List ℕ → Bool → Item → Outcome Item
+typed_by false w n i = typed_item w n i
+typed_by true w n i = and_then (kind_of_name w n) (typed_named w n i)
+
+-- a cast to the type of that name; floats are rounded, but by `try_cast`
+abbrev pub cast_of_kind : Bool → List ℕ → Bool → Item → Outcome Item
+cast_of_kind false w n (kinded F64 t) = and_then (type_of_name w n) (λ u. float_cast u t)
+cast_of_kind p w n i = cast_item p w n i
+
+-- a cast to the kind or the type of that name
+abbrev pub cast_named : Bool → List ℕ → Bool → Item → Option Kind → Outcome Item
+cast_named p w n i None = cast_of_kind p w n i
+cast_named p w n i (Some k) = if p then refuses NoCast else cast_to_kind k i
+
+abbrev pub cast_by : Bool → Bool → List ℕ → Bool → Item → Outcome Item
+cast_by false p w n i = cast_item p w n i
+cast_by true p w n i = and_then (kind_of_name w n) (cast_named p w n i)
 
 -- the function that an operator is
 abbrev pub written_function : syntax.WrittenOperator → Callable

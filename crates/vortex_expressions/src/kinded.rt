@@ -84,7 +84,7 @@ fn kind_or(item: &Item, kind: Kind) -> Kind
 }
 
 /// What a tree without a kind is.
-fn plain_operand(dtype: &DType) -> Operand
+pub(crate) fn plain_operand(dtype: &DType) -> Operand
     ensures { result ≡ specs.plain_operand (Some (type_of dtype.now)) }
 {
     match dtype {
@@ -118,7 +118,7 @@ fn whole_literal(
 }
 
 /// The value of a text of a kind.
-fn text_literal(alloc: Global, kind: Kind, text: &[u8]) -> Result<Lowered<Standard>, BindStop>
+pub(crate) fn text_literal(alloc: Global, kind: Kind, text: &[u8]) -> Result<Lowered<Standard>, BindStop>
     ensures { Gives (λ x. lowered x.tree x.operand) result (specs.text_literal kind text.now) }
 {
     Ok(calls::literal(alloc, kind, text)?)
@@ -145,7 +145,7 @@ fn number_literal(
 }
 
 /// Null next to a value of a kind.
-fn null_literal(alloc: Global, kind: Kind) -> Result<Lowered<Standard>, BindStop>
+pub(crate) fn null_literal(alloc: Global, kind: Kind) -> Result<Lowered<Standard>, BindStop>
     ensures { Gives (λ x. lowered x.tree x.operand) result (specs.null_literal kind) }
 {
     match kind.stored_ptype() {

@@ -15,6 +15,7 @@ mod functions;
 mod hints;
 pub mod item;
 mod item_texts;
+mod kind_casts;
 mod kinded;
 pub mod laws;
 mod like_tasks;
