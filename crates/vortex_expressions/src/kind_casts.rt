@@ -72,11 +72,7 @@ fn kind_of_name(alloc: Global, name: &[u8], is_nullable: bool) -> Result<Option<
 }
 
 /// A literal of a kind.
-fn kind_literal(
-    alloc: Global,
-    kind: Kind,
-    literal: &Literal,
-) -> Result<Lowered<Standard>, BindStop>
+fn kind_literal(alloc: Global, kind: Kind, literal: &Literal) -> Result<Lowered<Standard>, BindStop>
     ensures { Gives (λ x. lowered x.tree x.operand) result
         (specs.kind_literal kind (literal_in literal.now)) }
 {

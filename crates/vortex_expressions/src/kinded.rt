@@ -118,7 +118,11 @@ fn whole_literal(
 }
 
 /// The value of a text of a kind.
-pub(crate) fn text_literal(alloc: Global, kind: Kind, text: &[u8]) -> Result<Lowered<Standard>, BindStop>
+pub(crate) fn text_literal(
+    alloc: Global,
+    kind: Kind,
+    text: &[u8],
+) -> Result<Lowered<Standard>, BindStop>
     ensures { Gives (λ x. lowered x.tree x.operand) result (specs.text_literal kind text.now) }
 {
     Ok(calls::literal(alloc, kind, text)?)
