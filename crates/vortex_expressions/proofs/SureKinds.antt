@@ -32,7 +32,7 @@ use Rattle.vortex_logical_calls.specs.Comparison.{if_met, compared}
 use Rattle.vortex_logical_calls.specs.Bounds as bounds
 use Rattle.vortex_logical_calls.specs.Computation.{of_operand, of_result}
 use Rattle.vortex_logical_calls.specs.Computation.{float_operator}
-use Rattle.vortex_logical.specs.declared.kind.Kind.TheVariants.{Plain, Date, Timestamp, Decimal, F64, F32}
+use Rattle.vortex_logical.specs.declared.kind.Kind.TheVariants.{Date, Timestamp, F64, F32}
 use Rattle.vortex_standard.specs.declared.standard.Standard.TheVariants as standard
 use Rattle.vortex_logical_calls.specs.Computation.{computed}
 use Rattle.vortex_logical_calls.specs.Alignment.{meet_next, aligned}

@@ -1,12 +1,11 @@
 -- Literals of kinds by name, and casts from and to kinds.
-use Rattle.std.specs.Prelude.{ℕ, List, [], ◌∷◌, Bool, true, false, not, ◌&&◌, ◌||◌, Option, Some, None}
+use Rattle.std.specs.Prelude.{ℕ, List, [], ◌∷◌, Bool, true, false, ◌||◌, Option, Some, None}
 use Rattle.std.specs.Prelude.{codes, if◌then◌else◌}
-use Rattle.vortex_types.specs.declared.dtype.PType.{PType}
 use Rattle.vortex_types.specs.LogicalTypes.{LogicalType, integer_type}
 use Rattle.vortex_interface.specs.Eval.{tree_type}
 use Rattle.vortex_syntax.specs.Keywords.{same_word}
 use Rattle.vortex_logical.specs.declared.kind.Kind.{Kind}
-use Rattle.vortex_logical.specs.declared.kind.Kind.TheVariants.{Plain, Date, Timestamp, Decimal}
+use Rattle.vortex_logical.specs.declared.kind.Kind.TheVariants.{Date, Timestamp, Decimal}
 use Rattle.vortex_logical.specs.declared.kind.Kind.TheVariants.{F64, F32}
 use Rattle.vortex_logical.specs.declared.operand.Operand.{Operand}
 use Rattle.vortex_logical.specs.declared.operand.Operand.TheVariants.{Whole, Of}
@@ -16,7 +15,7 @@ use Rattle.vortex_logical_calls.specs.Conversions.{as_float}
 use Rattle.vortex_standard.specs.declared.standard.Standard.TheVariants as standard
 use Rattle.vortex_expressions.specs.declared.refusal.Refusal.TheVariants.{NoCast, NotHeld, OfKind}
 use Rattle.vortex_expressions.specs.Literals.{Literal, number, text, truth, null}
-use Rattle.vortex_expressions.specs.Outcomes.{Outcome, answers, refuses, missing, and_then}
+use Rattle.vortex_expressions.specs.Outcomes.{Outcome, answers, refuses, and_then}
 use Rattle.vortex_expressions.specs.Items.{Item, literal, bound, kinded, Tree, meaning, as_item}
 use Rattle.vortex_expressions.specs.Items.{callable, call_of}
 use Rattle.vortex_expressions.specs.Kinded.{told, text_literal, null_literal, plain_operand}
