@@ -1,6 +1,6 @@
 -- The last items, which a call takes.
 use Rattle.std.proofs.Common.{◌≡◌, ℕ, ◌+◌, ◌<◌, true, false, List, [], ◌∷◌, ◌++◌, length, map, take, drop}
-use Rattle.std.proofs.Common.{reverse, refl, ap, sym, ◌∙◌, arith}
+use Rattle.std.proofs.Common.{reverse, refl, ap, sym, subst, ◌∙◌, arith}
 use Rattle.std.specs.Prelude.{nat_le}
 use Rattle.std.proofs.lemmas.Bool.{le-leb, lt-leb}
 use Rattle.std.proofs.lemmas.List.{length-append, length-map, length-drop, length-reverse}
@@ -9,6 +9,9 @@ use Rattle.vortex_expressions.specs.declared.item.Item as held
 use Rattle.vortex_expressions.specs.Outcomes.{Outcome, answers, missing, and_then}
 use Rattle.vortex_expressions.specs.Items.{Item, item_in}
 use Rattle.vortex_expressions.specs.Stacks.{stack_in, pushed, last_items, with_last}
+use Rattle.vortex_expressions.specs.Answering.{StopsBy}
+use Rattle.vortex_expressions.specs.declared.refusal.BindStop.{BindStop}
+use Rattle.vortex_expressions.proofs.Stopping.{stops_first}
 
 front_is : {A : Type 0} (xs ys : List A) → take (length xs) (xs ++ ys) ≡ xs
 front_is [] ys = refl
@@ -29,6 +32,21 @@ last_split is st =
 pub last_taken : (f : List Item → Outcome Item) (is st : List Item)
     → with_last f (length is) (is ++ st) ≡ pushed st (f (reverse is))
 last_taken f is st = ap (λ o. and_then o (λ p. pushed p.1 (f p.0))) (last_split is st)
+
+-- a call on the last items, and what it returns
+module _ (f : List Item → Outcome Item) (n m : ℕ) (st is rest : List Item) (same : m ≡ n)
+    (taken : last_items n st ≡ answers (is, rest)) where
+  last_call : with_last f m st ≡ pushed rest (f is)
+  last_call =
+      ap (λ k. with_last f k st) same ∙ ap (λ o. and_then o (λ p. pushed p.1 (f p.0))) taken
+
+  pub last_made : (i : Item) → f is ≡ answers i → with_last f m st ≡ answers (i ∷ rest)
+  last_made i h = last_call ∙ ap (pushed rest) h
+
+  pub last_stopped : (s : BindStop) → StopsBy (f is) s → StopsBy (with_last f m st) s
+  last_stopped s h =
+      subst (λ (o : Outcome (List Item)). StopsBy o s) (sym last_call)
+      (stops_first (f is) (λ i. answers (i ∷ rest)) s h)
 
 -- of a stack, whose last item is at the end
 module _ (items : List held.Item) where

@@ -24,6 +24,7 @@ pub mod JoinedTokens
 pub mod NamedTokens
 pub mod PartTokens
 pub mod Walked
+mod AlignedCases
 pub mod Answered
 pub mod ReadBack
 pub mod LiteralsOver

@@ -22,7 +22,7 @@ use Rattle.vortex_expressions.specs.Reading.{TellsWhy}
 use Rattle.vortex_expressions.proofs.Finding.{told_first}
 use Rattle.vortex_expressions.proofs.Whole.{left-is}
 use Rattle.vortex_expressions.specs.Binding.{ended}
-use Rattle.vortex_expressions.specs.Calls.{column_in}
+use Rattle.vortex_expressions.specs.Calls.{names_in}
 use Rattle.vortex_logical.specs.declared.kind.Kind.{Kind}
 use Rattle.vortex_expressions.proofs.Sure.{sure_answers}
 use Rattle.vortex_expressions.proofs.Why.{why}
@@ -32,7 +32,7 @@ module _ (scope : Fields) (kinds : List Kind) where
       → answers_left scope kinds (map told bs) ≡ answers_of scope kinds bs
   answers_left-is [] = refl
   answers_left-is (a ∷ bs) =
-      (λ i. with_first (and_then (left-is (column_in scope kinds) ended a.tree i) (with_name a.name))
+      (λ i. with_first (and_then (left-is (names_in scope kinds) ended a.tree i) (with_name a.name))
       (answers_left-is bs i))
 
   module _ {A : Type 0} (view : A → List Answer) (text : List ℕ) (bs : List syntax.Answer)

@@ -31,7 +31,9 @@ use Rattle.vortex_expressions.specs.Outcomes.{answers, and_then, or_refuses}
 use Rattle.vortex_expressions.specs.Items.{Item, Tree, meaning, callable, common_type, truth_type}
 use Rattle.vortex_expressions.specs.Items.{settled, all_settled, call_of, as_item}
 use Rattle.vortex_expressions.specs.Applied.{values_of, cases_settled, arguments_settled}
-use Rattle.vortex_expressions.specs.Applied.{function_call, applied_item}
+use Rattle.vortex_expressions.specs.Applied.{function_call}
+use Rattle.vortex_expressions.specs.Functions.{function_item, applied_item}
+use Rattle.vortex_expressions.proofs.PlainItems.{AllPlain, function_plain}
 use Rattle.vortex_expressions.specs.Binding.{with_item, of_items, item_of, items_of}
 use Rattle.vortex_expressions.specs.Writing.{syntax_of, syntaxes_of, all_present, applied_from}
 use Rattle.vortex_expressions.specs.Writing.{named_syntax}
@@ -39,6 +41,7 @@ use Rattle.vortex_expressions.proofs.Options.{some_is, mapped_is}
 use Rattle.vortex_expressions.proofs.LiteralsBack.{Stands, Standing, tree_standing}
 use Rattle.vortex_expressions.proofs.MetTypes.{alike}
 use Rattle.vortex_expressions.proofs.Beside.{Beside, AreOfTypes, EachAlike, common_alike, settles}
+use Rattle.vortex_expressions.proofs.Beside.{stands_plain}
 use Rattle.vortex_expressions.proofs.Beside.{none_beside, other_beside, same_alike}
 use Rattle.vortex_expressions.proofs.TypedCalls.{typed_call, head_is, arity_is}
 
@@ -201,6 +204,12 @@ called_back f is ts s h =
     (arguments_back (row_of f).types.takes is ts t.types s t.typed taken)
     ∙ applied_made f ts h
 
+-- they have no kinds
+all_plain : (is : List Item) (ts : Trees) → EachStands is ts → AllPlain is
+all_plain [] ts s = tt
+all_plain (i ∷ is) (trees.tree t ts) s = (stands_plain i t s.0, all_plain is ts s.1)
+all_plain (i ∷ is) no_trees s = absurd s
+
 module _ (scope : Fields) where
   abbrev EachItem : List Syntax → List Item → Type 0
   EachItem [] [] = Unit {0}
@@ -278,6 +287,7 @@ module _ (scope : Fields) where
       let b = bound_there ts m.a k m.there in
       tree_standing scope a (call (custom f c) ts)
       (ap (item_of scope) (sym m.made) ∙ named_item (name_of f) m.a b.items b.bound
-      ∙ ap (λ o. and_then (or_refuses NoFunction o) (λ f. as_item (function_call f b.items)))
+      ∙ ap (λ o. and_then (or_refuses NoFunction o) (λ f. function_item f b.items))
       (named_back f)
+      ∙ function_plain f b.items (all_plain b.items ts b.stands)
       ∙ ap as_item (called_back f b.items ts b.stands h))

@@ -58,19 +58,22 @@ use Rattle.vortex_expressions.specs.Items.{meeting}
 use Rattle.vortex_expressions.specs.Calls.{unquoted, text_of, between_quotes, as_item, field_found}
 use Rattle.vortex_expressions.specs.Calls.{column_of, sign_item, text_item, operand_item}
 use Rattle.vortex_expressions.specs.Calls.{type_of_name, typed_item, cast_to, cast_item, truth_type}
-use Rattle.vortex_expressions.specs.Calls.{written_function, joined_type, negated_if, not_item}
+use Rattle.vortex_expressions.specs.Calls.{written_function, joined_type, negated_if, negated_item}
+use Rattle.vortex_expressions.specs.Calls.{not_item}
 use Rattle.vortex_expressions.specs.Calls.{joined_item, tested_item, distinct_item, within_bounds}
 use Rattle.vortex_expressions.specs.Calls.{between_item, like_options, escape_said, escape_in}
 use Rattle.vortex_expressions.specs.Calls.{liked_item, matched_item, minus_item, listed_item}
 use Rattle.vortex_expressions.specs.Calls.{plus_item, bit_not_item, is_number}
 use Rattle.vortex_expressions.specs.Calls.{equal_cases, conditions_of, chosen_item, truth_test}
 use Rattle.vortex_expressions.specs.Applied.{values_of, cases_settled, arguments_settled}
-use Rattle.vortex_expressions.specs.Applied.{function_call, applied_item}
+use Rattle.vortex_expressions.specs.Applied.{function_call}
+use Rattle.vortex_expressions.specs.Functions.{function_item, applied_item}
 use Rattle.vortex_expressions.specs.Meeting.{widened_to}
 use Rattle.vortex_expressions.specs.Casts.{cast_function, cast_by, cast_from, cast_tree, cast_hint}
 use Rattle.vortex_expressions.specs.Casts.{tried_if}
 use Rattle.vortex_expressions.specs.Calls.{between_tree, between_three, stored_item, is_kinded}
-use Rattle.vortex_expressions.proofs.PlainItems.{joined_plain, between_plain}
+use Rattle.vortex_expressions.proofs.PlainItems.{joined_plain, between_plain, AllPlain}
+use Rattle.vortex_expressions.proofs.PlainItems.{function_plain}
 use Rattle.vortex_operators.specs.declared.operators.Operator.TheVariants as operator
 use Rattle.std.specs.Option.{option_map}
 use Rattle.vortex_syntax.specs.declared.step.BetweenKind.{BetweenKind}
@@ -335,7 +338,30 @@ module _ (scope : Fields) where
       let m = then_is (arguments_settled s is) (call_of (callable f)) t e in
       made_over (callable f) m.a t tt (arguments_over s is m.a h m.first) m.second
 
+  all_plain : (is : List Item) → AllItems is → AllPlain is
+  all_plain [] h = tt
+  all_plain (i ∷ is) h = (over_plain i h.0, all_plain is h.1)
+
+  function_over : (f : Standard) (is : List Item) (i : Item) → AllItems is
+      → function_item f is ≡ answers i → ItemOver i
+  function_over f is i h e =
+      as_item_over (function_call f is) i (λ t g. call_over f is t h g)
+      (sym (function_plain f is (all_plain is h)) ∙ e)
+
   -- negated where the flag is true
+  truth_item_over : (n : Bool) (j i : Item) → ItemOver j → negated_item n j ≡ answers i
+      → ItemOver i
+  truth_item_over true j i h e =
+      as_item_over (called (ours Not) None (j ∷ [])) i
+      (λ t g. called_over (ours Not) None (j ∷ []) t tt (h, tt) g) e
+  truth_item_over false j i h e = subst ItemOver (answers_is j i e) h
+
+  tests_over : (f : Standard) (is : List Item) (n : Bool) (i : Item) → AllItems is
+      → and_then (function_item f is) (negated_item n) ≡ answers i → ItemOver i
+  tests_over f is n i h e =
+      let m = then_is (function_item f is) (negated_item n) i e in
+      truth_item_over n m.a i (function_over f is m.a h m.first) m.second
+
   negated_item_over : (o : Outcome Tree) (n : Bool) (i : Item)
       → ((t : Tree) → o ≡ answers t → IsOver scope t)
       → as_item (and_then o (negated_if n)) ≡ answers i → ItemOver i
@@ -462,15 +488,14 @@ module _ (scope : Fields) where
   chosen_over : (b : Bool) (is : List Item) (i : Item) → AllItems is
       → chosen_item b is ≡ answers i → ItemOver i
   chosen_over b is i h e =
-      let m = then_is (conditions_of b is) (λ js. as_item (function_call standard.Case js)) i e in
-      as_item_over (function_call standard.Case m.a) i
-      (λ t g. call_over standard.Case m.a t (conditions_over b is h m.a m.first) g) m.second
+      let m = then_is (conditions_of b is) (function_item standard.Case) i e in
+      function_over standard.Case m.a i (conditions_over b is h m.a m.first) m.second
 
   applied_over : (w : List ℕ) (is : List Item) (i : Item) → AllItems is
       → applied_item w is ≡ answers i → ItemOver i
   applied_over w is i h e =
-      let m = then_is (or_refuses NoFunction (standard_named w)) (λ f. as_item (function_call f is)) i e in
-      as_item_over (function_call m.a is) i (λ t g. call_over m.a is t h g) m.second
+      let m = then_is (or_refuses NoFunction (standard_named w)) (λ f. function_item f is) i e in
+      function_over m.a is i h m.second
 
   item_is : (j i : Item) → answers j ≡ answers i → j ≡ i
   item_is j i e = cc
@@ -485,10 +510,10 @@ module _ (scope : Fields) where
       by true g = subst ItemOver (item_is j i g) h
       by false g = joined_over written.Add (literal (literal.number (codes "0"))) j i tt h g
 
-  function_over : (f : Standard) (is : List Item) (i : Item) → AllItems is
-      → as_item (function_call f is) ≡ answers i → ItemOver i
-  function_over f is i h e =
-      as_item_over (function_call f is) i (λ t g. call_over f is t h g) e
+  bit_not_over : (j i : Item) → ItemOver j → bit_not_item j ≡ answers i → ItemOver i
+  bit_not_over j i h e =
+      as_item_over (function_call standard.BitNot (j ∷ [])) i
+      (λ t g. call_over standard.BitNot (j ∷ []) t (h, tt) g) e
 
   mutual
     item_over : (a : Syntax) (i : Item) → item_of scope a ≡ answers i → ItemOver i
@@ -512,14 +537,12 @@ module _ (scope : Fields) where
     item_over (plus a) i e = let m = then_is (item_of scope a) plus_item i e in
         plus_over m.a i (item_over a m.a m.first) m.second
     item_over (bit_not a) i e = let m = then_is (item_of scope a) bit_not_item i e in
-        function_over standard.BitNot (m.a ∷ []) i (item_over a m.a m.first, tt) m.second
+        bit_not_over m.a i (item_over a m.a m.first) m.second
     item_over (distinct n a b) i e =
         let m = then_is (item_of scope a) (λ x. and_then (item_of scope b) (distinct_item n x)) i e in
         let k = then_is (item_of scope b) (distinct_item n m.a) i m.second in
-        let is = m.a ∷ k.a ∷ [] in
-        negated_item_over (function_call standard.IsDistinct is) n i
-        (λ t g. call_over standard.IsDistinct is t
-        (item_over a m.a m.first, (item_over b k.a k.first, tt)) g) k.second
+        tests_over standard.IsDistinct (m.a ∷ k.a ∷ []) n i
+        (item_over a m.a m.first, (item_over b k.a k.first, tt)) k.second
     item_over (between n a low high) i e =
         let m = then_is (item_of scope a)
         (λ x. and_then (item_of scope low)
@@ -546,12 +569,11 @@ module _ (scope : Fields) where
         let first = with_item (answers []) (item_of scope a) in
         let m = then_is (with_item (items_after scope first args) (item_of scope b))
         (λ is. listed_item n (reverse is)) i e in
-        negated_item_over (function_call standard.InList (reverse m.a)) n i
-        (λ t g. call_over standard.InList (reverse m.a) t
+        tests_over standard.InList (reverse m.a) n i
         (all_reversed m.a
         (more_over (items_after scope first args) (item_of scope b)
         (items_over args first (more_over (answers []) (item_of scope a) none_over (item_over a)))
-        (item_over b) m.a m.first)) g) m.second
+        (item_over b) m.a m.first)) m.second
     item_over (chosen bs c v) i e =
         let o = with_item (with_item (branch_items scope bs) (item_of scope c)) (item_of scope v) in
         let m = then_is o (λ is. chosen_item (has_operand bs) (reverse is)) i e in

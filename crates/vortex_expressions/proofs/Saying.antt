@@ -14,7 +14,7 @@ use Rattle.vortex_expressions.specs.declared.item.LogicalTree as held
 use Rattle.vortex_expressions.specs.declared.refusal.Refusal.{Refusal}
 use Rattle.vortex_expressions.specs.Outcomes.{Outcome, answers, refuses, and_then}
 use Rattle.vortex_expressions.specs.Items.{Item, Tree, settled}
-use Rattle.vortex_expressions.specs.Calls.{column_of, column_in}
+use Rattle.vortex_expressions.specs.Calls.{Names, names_of, names_in}
 use Rattle.vortex_expressions.specs.Binding.{item_by, Expresses, IsRefused, LogicalTree}
 use Rattle.vortex_expressions.specs.Binding.{logical_in, ended, ExpressesLogical}
 use Rattle.vortex_expressions.specs.Binding.{IsRefusedLogical}
@@ -29,7 +29,7 @@ use Rattle.vortex_expressions.proofs.Why.{why}
 module _ (text : List ℕ) (t : Syntax) (steps : List written.Step) (read : Reads text t)
     (is : map step_in steps ≡ postfix t) where
   -- of any binder
-  module _ {A B : Type 0} (columns : List ℕ → Outcome Item) (final : Item → Outcome B)
+  module _ {A B : Type 0} (columns : Names) (final : Item → Outcome B)
       (view : A → B) where
     abbrev Left : Outcome B
     Left = and_then (run columns (map step_in steps) []) (left_as final)
@@ -73,26 +73,26 @@ module _ (text : List ℕ) (t : Syntax) (steps : List written.Step) (read : Read
         record {
           syntax = t;
           read = read;
-          bound = meant (column_of scope) (settled None) (λ (x : Tree). x) tree h;
+          bound = meant (names_of scope) (settled None) (λ (x : Tree). x) tree h;
         }
     found (Err e) h = tt
 
     pub only : (r : Result Tree TextError) → Bound scope steps r → (tree : Tree)
         → Expresses scope text tree → ReadUnlessMemory r (λ x. x ≡ tree)
     only r h tree s =
-        only_one (column_of scope) (settled None) (λ (x : Tree). x) r h s.syntax s.read tree s.bound
+        only_one (names_of scope) (settled None) (λ (x : Tree). x) r h s.syntax s.read tree s.bound
 
     pub told : (r : Result Tree TextError) → Bound scope steps r
         → IfErr r (TellsWhy TreeStopsAt (IsRefused scope text) text)
     told r h =
-        told_why (column_of scope) (settled None) (λ (x : Tree). x) r h (IsRefused scope text)
+        told_why (names_of scope) (settled None) (λ (x : Tree). x) r h (IsRefused scope text)
         (λ x e. record { syntax = t; read = read; refused = e }) IsTyped
         (sure_tree scope t read.spelled.levels)
 
     pub refused : (r : Result Tree TextError) → Bound scope steps r → (why : Refusal)
         → IsRefused scope text why → RefusesAs why r
     refused r h why s =
-        refused_as (column_of scope) (settled None) (λ (x : Tree). x) r h s.syntax s.read why s.refused
+        refused_as (names_of scope) (settled None) (λ (x : Tree). x) r h s.syntax s.read why s.refused
 
   -- over columns with kinds
   module _ (scope : Fields) (kinds : List Kind) where
@@ -102,7 +102,7 @@ module _ (text : List ℕ) (t : Syntax) (steps : List written.Step) (read : Read
         record {
           syntax = t;
           read = read;
-          bound = meant (column_in scope kinds) ended logical_in x h;
+          bound = meant (names_in scope kinds) ended logical_in x h;
         }
     found_logical (Err e) h = tt
 
@@ -110,16 +110,16 @@ module _ (text : List ℕ) (t : Syntax) (steps : List written.Step) (read : Read
         → (x : LogicalTree) → ExpressesLogical scope kinds text x
         → ReadUnlessMemory r (λ y. logical_in y ≡ x)
     only_logical r h x s =
-        only_one (column_in scope kinds) ended logical_in r h s.syntax s.read x s.bound
+        only_one (names_in scope kinds) ended logical_in r h s.syntax s.read x s.bound
 
     pub told_logical : (r : Result held.LogicalTree TextError) → BoundLogical scope kinds steps r
         → IfErr r (TellsWhy TreeStopsAt (IsRefusedLogical scope kinds text) text)
     told_logical r h =
-        told_why (column_in scope kinds) ended logical_in r h (IsRefusedLogical scope kinds text)
+        told_why (names_in scope kinds) ended logical_in r h (IsRefusedLogical scope kinds text)
         (λ x e. record { syntax = t; read = read; refused = e }) (λ x. Unit {0})
         (sure_logical scope kinds t read.spelled.levels)
 
     pub refused_logical : (r : Result held.LogicalTree TextError) → BoundLogical scope kinds steps r
         → (why : Refusal) → IsRefusedLogical scope kinds text why → RefusesAs why r
     refused_logical r h why s =
-        refused_as (column_in scope kinds) ended logical_in r h s.syntax s.read why s.refused
+        refused_as (names_in scope kinds) ended logical_in r h s.syntax s.read why s.refused

@@ -1,5 +1,5 @@
 -- Why calls stop, from the calls that they consist of.
-use Rattle.std.proofs.Common.{◌≡◌, ap, Result}
+use Rattle.std.proofs.Common.{◌≡◌, ap, sym, subst, Result}
 use Rattle.std.specs.Result.{IsErrAnd}
 use Rattle.std.proofs.lemmas.Result.{err_from_is_err_and}
 use Rattle.vortex_errors.proofs.Answering.{UnlessMemory-weaker}
@@ -35,3 +35,8 @@ pub handed_on : {A B : Type 0} (view : A → B) (o : Outcome B) (r : Result A Bi
     (s : BindStop)
     → IsErrAnd r (λ e. e ≡ s) → StopsBy o s → Gives view r o
 handed_on view o r s h k = let p = err_from_is_err_and r h in rw (p.1, p.2) k
+
+-- a call that gives what another outcome is
+pub given_as : {A B : Type 0} (view : A → B) (o p : Outcome B) (r : Result A BindStop) → p ≡ o
+    → Gives view r o → Gives view r p
+given_as {B = B} view o p r e h = subst (λ (x : Outcome B). Gives view r x) (sym e) h

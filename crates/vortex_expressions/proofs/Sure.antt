@@ -43,10 +43,13 @@ use Rattle.vortex_expressions.specs.Items.{Tree, Item, literal, bound, kinded, m
 use Rattle.vortex_expressions.specs.Items.{settled, all_settled}
 use Rattle.vortex_expressions.specs.Items.{call_of, called, callable, common_type, truth_type}
 use Rattle.vortex_expressions.specs.Calls as calls
-use Rattle.vortex_expressions.specs.Calls.{column_of, column_in}
+use Rattle.vortex_expressions.specs.Calls.{Names, names_of, names_in}
 use Rattle.vortex_logical.specs.declared.kind.Kind.{Kind}
 use Rattle.vortex_expressions.specs.Applied.{values_of, cases_settled, arguments_settled}
-use Rattle.vortex_expressions.specs.Applied.{function_call, applied_item}
+use Rattle.vortex_expressions.specs.Applied.{function_call}
+use Rattle.vortex_expressions.specs.Functions.{values_in, call_kind, met_values, aligned_arguments}
+use Rattle.vortex_expressions.specs.Functions.{kinded_call, function_item, applied_item}
+use Rattle.vortex_logical.specs.declared.operand.Operand.TheVariants.{Of}
 use Rattle.vortex_expressions.specs.Casts.{cast_function, cast_by, cast_from, cast_tree, cast_hint}
 use Rattle.std.specs.Option.{option_map}
 use Rattle.vortex_expressions.specs.Casts.{tried_if}
@@ -54,7 +57,7 @@ use Rattle.vortex_syntax.specs.declared.step.BetweenKind.{BetweenKind}
 use Rattle.vortex_types.specs.TypeEquality.{alike_types}
 use Rattle.vortex_expressions.specs.Binding.{with_item, item_by, item_of, items_by, branches_by}
 use Rattle.vortex_expressions.specs.Binding.{tree_of, logical_of, ended, LogicalTree}
-use Rattle.vortex_logical.specs.declared.kind.Kind.TheVariants.{Plain}
+use Rattle.vortex_logical.specs.declared.kind.Kind.TheVariants.{Plain, F64}
 use Rattle.vortex_syntax.specs.Postfix.{has_operand, test_of}
 use Rattle.vortex_expressions.specs.Literals as literals
 use Rattle.vortex_expressions.specs.Answers.{name_of, written_name, answer_of, answers_of}
@@ -64,15 +67,19 @@ use Rattle.vortex_expressions.proofs.SureCalls.{sure_all, sure_less, sure_named_
 use Rattle.vortex_expressions.proofs.SureCalls.{sure_null, sure_called, sure_item}
 use Rattle.vortex_expressions.proofs.SureCalls.{sure_text, sure_quoted, sure_column, sure_named}
 use Rattle.vortex_expressions.proofs.SureKinds.{sure_kinded_joined, sure_kinded_between, sure_stored}
+use Rattle.vortex_expressions.proofs.SureKinds.{Any, sure_met, sure_aligned_arguments, result_is}
+use Rattle.vortex_expressions.proofs.SureKinds.{sure_kind_item, sure_cast_to_kind}
+use Rattle.vortex_expressions.specs.KindCasts.{float_cast}
+use Rattle.vortex_types.specs.LogicalTypes.{integer_type}
 
-module _ (columns : List ℕ → Outcome Item) (sure_columns : (w : List ℕ) → Sure IsItem (columns w)) where
+module _ (columns : Names) (sure_columns : (w : List ℕ) → Sure IsItem (columns.column w)) where
   sure_sign : (s : Sign) → is_operand (sign s) ≡ true → Sure IsItem (calls.sign_item s)
   sure_sign sign.True h = tt
   sure_sign sign.False h = tt
   sure_sign sign.Null h = tt
   sure_sign s h = absurd cc
 
-  sure_operand : (t : Token) → is_operand t ≡ true → Sure IsItem (calls.operand_by columns t)
+  sure_operand : (t : Token) → is_operand t ≡ true → Sure IsItem (calls.operand_by columns.column t)
   sure_operand (name w) h =
       sure_then _ IsItem (calls.text_of w) _ (sure_text w) (λ v k. sure_columns v)
   sure_operand (nullable w) h = absurd cc
@@ -99,7 +106,7 @@ module _ (columns : List ℕ → Outcome Item) (sure_columns : (w : List ℕ) �
   literal_sign s h = absurd cc
 
   literal_token : (t : Token) → is_operand t ≡ true → 14 ≤ operand_level t
-      → Sure IsLiteral (calls.operand_by columns t)
+      → Sure IsLiteral (calls.operand_by columns.column t)
   literal_token (name w) h le = absurd (let k : ⊥ = omega (arith, le) in k)
   literal_token (nullable w) h le = absurd cc
   literal_token (function w) h le = absurd cc
@@ -143,6 +150,24 @@ module _ (columns : List ℕ → Outcome Item) (sure_columns : (w : List ℕ) �
       sure_item _ (sure_then _ IsTyped (calls.type_of_name w n) _ (sure_named w n)
       (λ t k. sure_constant l t))
 
+  sure_kind_name : (w : List ℕ) (n : Bool) → Sure (λ k. Unit {0}) (calls.kind_of_name w n)
+  sure_kind_name w n =
+      sure_if _ n _ _ tt (sure_then _ _ (calls.text_of w) _ (sure_text w) (λ v h. tt))
+
+  sure_typed_named : (w : List ℕ) (n : Bool) (i : Item) (k : Option Kind) → IsLiteral i
+      → Sure IsItem (calls.typed_named w n i k)
+  sure_typed_named w n i None h = sure_typed w n i h
+  sure_typed_named w n (literal l) (Some k) h = sure_kind_item k l
+  sure_typed_named w n (bound t) (Some k) h = absurd h
+  sure_typed_named w n (kinded j t) (Some k) h = absurd h
+
+  sure_typed_by : (b : Bool) (w : List ℕ) (n : Bool) (i : Item) → IsLiteral i
+      → Sure IsItem (calls.typed_by b w n i)
+  sure_typed_by false w n i h = sure_typed w n i h
+  sure_typed_by true w n i h =
+      sure_then {A = Option Kind} (λ k. Unit {0}) IsItem (calls.kind_of_name w n) _ (sure_kind_name w n)
+      (λ k j. sure_typed_named w n i k h)
+
   -- calls of SQL's functions
   sure_function : (f : Standard) (o : Option LogicalType) (is : List Item) → AllItems is
       → Sure IsTyped (called (callable f) o is)
@@ -176,6 +201,22 @@ module _ (columns : List ℕ → Outcome Item) (sure_columns : (w : List ℕ) �
       sure_then AllTyped IsTyped (arguments_settled s is) (call_of (callable f))
       (sure_arguments s is h) (λ ts j. sure_named_call f ts)
 
+  sure_kinded_call : (f : Standard) (k : Kind) (is : List Item) → AllItems is
+      → Sure IsItem (kinded_call f k is)
+  sure_kinded_call f k is h =
+      let s = (row_of f).types.takes in
+      sure_then Any IsItem (met_values k (Of k) (values_in s is)) _
+      (sure_met k (Of k) (values_in s is))
+      (λ a j. sure_then AllItems IsItem (aligned_arguments s k a is) _
+      (sure_aligned_arguments s k a is h)
+      (λ js l. sure_then IsTyped IsItem (function_call f js) _ (sure_call_on f js l)
+      (λ t q. result_is f a t q)))
+
+  sure_item_call : (f : Standard) (is : List Item) → AllItems is → Sure IsItem (function_item f is)
+  sure_item_call f is h =
+      sure_if IsItem (calls.is_plain (call_kind f is)) _ _ (sure_item _ (sure_call_on f is h))
+      (sure_kinded_call f (call_kind f is) is h)
+
   sure_cast_by : (o : Option Standard) (u : Tree) → Sure IsTyped (cast_by o u)
   sure_cast_by None u = tt
   sure_cast_by (Some f) u = sure_named_call f (u ∷ [])
@@ -201,6 +242,30 @@ module _ (columns : List ℕ → Outcome Item) (sure_columns : (w : List ℕ) �
       (sure_then IsTyped IsTyped (settled (cast_hint p i t) i) _
       (sure_settled (cast_hint p i t) i h)
       (λ u j. sure_cast_tree p t u j))))
+
+  sure_float_cast : (u : LogicalType) (t : Tree) → Sure IsItem (float_cast u t)
+  sure_float_cast (integer_type p false) t =
+      sure_item _ (sure_named_call (standard.FloatToInt (record { ptype = p })) (t ∷ []))
+  sure_float_cast u t = tt
+
+  sure_cast_of_kind : (p : Bool) (w : List ℕ) (n : Bool) (i : Item) → IsItem i
+      → Sure IsItem (calls.cast_of_kind p w n i)
+  sure_cast_of_kind false w n (kinded F64 t) h =
+      sure_then (λ u. Unit {0}) IsItem (calls.type_of_name w n) _ (sure_named w n)
+      (λ u j. sure_float_cast u t)
+  sure_cast_of_kind p w n i h = sure_cast p w n i h
+
+  sure_cast_named : (p : Bool) (w : List ℕ) (n : Bool) (i : Item) (k : Option Kind) → IsItem i
+      → Sure IsItem (calls.cast_named p w n i k)
+  sure_cast_named p w n i None h = sure_cast_of_kind p w n i h
+  sure_cast_named p w n i (Some k) h = sure_if IsItem p _ _ tt (sure_cast_to_kind k i h)
+
+  sure_cast_with : (b p : Bool) (w : List ℕ) (n : Bool) (i : Item) → IsItem i
+      → Sure IsItem (calls.cast_by b p w n i)
+  sure_cast_with false p w n i h = sure_cast p w n i h
+  sure_cast_with true p w n i h =
+      sure_then {A = Option Kind} (λ k. Unit {0}) IsItem (calls.kind_of_name w n) _ (sure_kind_name w n)
+      (λ k j. sure_cast_named p w n i k h)
 
   sure_operator : (o : Operator) (u : Option LogicalType) (is : List Item) → length is ≡ 2
       → AllItems is → Sure IsTyped (called (ours (Binary o)) u is)
@@ -243,6 +308,10 @@ module _ (columns : List ℕ → Outcome Item) (sure_columns : (w : List ℕ) �
   sure_negated : (n : Bool) (t : Tree) → IsTyped t → Sure IsTyped (calls.negated_if n t)
   sure_negated true t h = sure_not None (bound t) h
   sure_negated false t h = h
+
+  sure_negated_item : (n : Bool) (i : Item) → IsItem i → Sure IsItem (calls.negated_item n i)
+  sure_negated_item true i h = sure_item _ (sure_not None i h)
+  sure_negated_item false i h = h
 
   sure_within : (a b c : Item) → IsItem a → IsItem b → IsItem c
       → Sure IsTyped (calls.between_three a b c)
@@ -304,8 +373,8 @@ module _ (columns : List ℕ → Outcome Item) (sure_columns : (w : List ℕ) �
   sure_distinct : (n : Bool) (a b : Item) → IsItem a → IsItem b
       → Sure IsItem (calls.distinct_item n a b)
   sure_distinct n a b h k =
-      sure_item _ (sure_then IsTyped IsTyped (function_call standard.IsDistinct (a ∷ b ∷ [])) _
-      (sure_call_on standard.IsDistinct (a ∷ b ∷ []) (h, (k, tt))) (sure_negated n))
+      sure_then IsItem IsItem (function_item standard.IsDistinct (a ∷ b ∷ [])) _
+      (sure_item_call standard.IsDistinct (a ∷ b ∷ []) (h, (k, tt))) (sure_negated_item n)
 
   sure_plus : (i : Item) → IsItem i → Sure IsItem (calls.plus_item i)
   sure_plus i h =
@@ -338,8 +407,8 @@ module _ (columns : List ℕ → Outcome Item) (sure_columns : (w : List ℕ) �
 
   sure_listed : (n : Bool) (is : List Item) → AllItems is → Sure IsItem (calls.listed_item n is)
   sure_listed n is h =
-      sure_item _ (sure_then IsTyped IsTyped (function_call standard.InList is) _
-      (sure_call_on standard.InList is h) (sure_negated n))
+      sure_then IsItem IsItem (function_item standard.InList is) _
+      (sure_item_call standard.InList is h) (sure_negated_item n)
 
   sure_equal : (a : Item) (is : List Item) → IsItem a → AllItems is
       → Sure AllItems (calls.equal_cases a is)
@@ -360,13 +429,13 @@ module _ (columns : List ℕ → Outcome Item) (sure_columns : (w : List ℕ) �
   sure_chosen : (b : Bool) (is : List Item) → AllItems is → Sure IsItem (calls.chosen_item b is)
   sure_chosen b is h =
       sure_then AllItems IsItem (calls.conditions_of b is) _ (sure_conditions b is h)
-      (λ js k. sure_item _ (sure_call_on standard.Case js k))
+      (λ js k. sure_item_call standard.Case js k)
 
   sure_applied : (w : List ℕ) (is : List Item) → AllItems is → Sure IsItem (applied_item w is)
   sure_applied w is h =
       sure_then _ IsItem (or_refuses NoFunction (standard_named w)) _
       (sure_or NoFunction (standard_named w))
-      (λ f k. sure_item _ (sure_call_on f is h))
+      (λ f k. sure_item_call f is h)
 
   mutual
     pub sure : (t : Syntax) → Fits t → Sure IsItem (item_by columns t)
@@ -375,7 +444,7 @@ module _ (columns : List ℕ → Outcome Item) (sure_columns : (w : List ℕ) �
         sure_then _ IsItem (calls.text_of (45 ∷ ds)) _ (sure_text (45 ∷ ds)) (λ v k. tt)
     sure (tree.typed a w n) f =
         sure_then IsLiteral IsItem (item_by columns a) _ (sure_literal a f.1 f.0)
-        (λ i h. sure_typed w n i h)
+        (λ i h. sure_typed_by columns.has_kinds w n i h)
     sure (tree.grouped a) f = sure a f
     sure (tree.negated a) f =
         sure_then IsItem IsItem (item_by columns a) _ (sure a f.1)
@@ -402,9 +471,9 @@ module _ (columns : List ℕ → Outcome Item) (sure_columns : (w : List ℕ) �
         (λ x h. sure_then IsItem IsItem (item_by columns p) _ (sure p f.3)
         (λ y k. sure_matched l e x y h k))
     sure (tree.converted a w n) f =
-        sure_then IsItem IsItem (item_by columns a) _ (sure a f.2) (λ i h. sure_cast false w n i h)
+        sure_then IsItem IsItem (item_by columns a) _ (sure a f.2) (λ i h. sure_cast_with columns.has_kinds false w n i h)
     sure (tree.cast p a w n) f =
-        sure_then IsItem IsItem (item_by columns a) _ (sure a f) (λ i h. sure_cast p w n i h)
+        sure_then IsItem IsItem (item_by columns a) _ (sure a f) (λ i h. sure_cast_with columns.has_kinds p w n i h)
     sure (tree.minus a) f =
         sure_then IsItem IsItem (item_by columns a) _ (sure a f.2)
         (λ i h. sure_joined signs.Sub (literal (literals.number (codes "0"))) i tt h)
@@ -455,7 +524,7 @@ module _ (columns : List ℕ → Outcome Item) (sure_columns : (w : List ℕ) �
 
 pub sure_tree : (scope : Fields) (t : Syntax) → Fits t → Sure IsTyped (tree_of scope t)
 sure_tree scope t f =
-    sure_then IsItem IsTyped (item_of scope t) _ (sure (column_of scope) (sure_column scope []) t f)
+    sure_then IsItem IsTyped (item_of scope t) _ (sure (names_of scope) (sure_column scope []) t f)
     (λ i h. sure_settled None i h)
 
 sure_ended : (i : Item) → IsItem i → Sure (λ x. Unit {0}) (ended i)
@@ -471,8 +540,8 @@ sure_ended (literal l) h =
 pub sure_logical : (scope : Fields) (kinds : List Kind) (t : Syntax) → Fits t
     → Sure (λ x. Unit {0}) (logical_of scope kinds t)
 sure_logical scope kinds t f =
-    sure_then IsItem _ (item_by (column_in scope kinds) t) ended
-    (sure (column_in scope kinds) (sure_column scope kinds) t f) sure_ended
+    sure_then IsItem _ (item_by (names_in scope kinds) t) ended
+    (sure (names_in scope kinds) (sure_column scope kinds) t f) sure_ended
 
 module _ (scope : Fields) (kinds : List Kind) where
   -- names

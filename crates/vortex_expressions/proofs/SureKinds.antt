@@ -18,18 +18,25 @@ use Rattle.vortex_logical.specs.declared.operand.Operand.TheVariants.{Whole, Of}
 use Rattle.vortex_logical.specs.CommonKinds.{common_operand}
 use Rattle.vortex_lowering.specs.Operands.{are_shipped}
 use Rattle.vortex_lowering.specs.Results.{result_operand, are_computed}
-use Rattle.vortex_lowering.specs.LoweredTrees.{compared_tree, bounded_tree, computed_tree}
+use Rattle.vortex_lowering.specs.LoweredTrees.{compared_tree, bounded_tree, computed_tree, tree_at_scale}
 use Rattle.vortex_standard.specs.declared.standard.Standard.{Standard}
 use Rattle.vortex_logical_calls.specs.Outcomes as calls
 use Rattle.vortex_logical_calls.specs.Calls.{Lowered, typed, call_two}
 use Rattle.vortex_logical_calls.specs.Conversions.{conversion_beside, conversion_by_two, converted, as_float, meet_in_float}
+use Rattle.vortex_logical_calls.specs.Conversions.{after, float_function}
+use Rattle.vortex_logical_calls.specs.Calls.{call_one}
+use Rattle.vortex_logical_calls.specs.Literals.{constant_of}
+use Rattle.vortex_logical.specs.Cells.{stored_of_text}
+use Rattle.std.specs.Prelude.{ℤ}
 use Rattle.vortex_logical_calls.specs.Comparison.{if_met, compared}
 use Rattle.vortex_logical_calls.specs.Bounds as bounds
 use Rattle.vortex_logical_calls.specs.Computation.{of_operand, of_result}
 use Rattle.vortex_logical_calls.specs.Computation.{float_operator}
-use Rattle.vortex_logical.specs.declared.kind.Kind.TheVariants.{F64}
+use Rattle.vortex_logical.specs.declared.kind.Kind.TheVariants.{Date, Timestamp, F64, F32}
 use Rattle.vortex_standard.specs.declared.standard.Standard.TheVariants as standard
 use Rattle.vortex_logical_calls.specs.Computation.{computed}
+use Rattle.vortex_logical_calls.specs.Alignment.{meet_next, aligned}
+use Rattle.vortex_lowering.specs.Operands.{scale_of}
 use Rattle.vortex_logical_calls.specs.Literals.{kind_beside, literal_of}
 use Rattle.vortex_syntax.specs.declared.step.WrittenOperator as written
 use Rattle.vortex_expressions.specs.Literals.{Literal, number, text, truth, null}
@@ -41,8 +48,15 @@ use Rattle.vortex_expressions.specs.Kinded.{literal_operand, item_operand, value
 use Rattle.vortex_expressions.specs.Kinded.{KindedOperator, compares, computes, neither, operated}
 use Rattle.vortex_expressions.specs.Kinded.{kinded_operator, kinded_joined, kinded_between}
 use Rattle.vortex_expressions.specs.Kinded.{within_bounds}
+use Rattle.vortex_expressions.specs.KindCasts.{kind_literal, kind_item, becomes_float, float_item}
+use Rattle.vortex_expressions.specs.KindCasts.{kind_cast, plain_cast, cast_to_kind}
+use Rattle.vortex_expressions.specs.Kinded.{plain_operand}
+use Rattle.vortex_expressions.specs.Functions.{met_with, met_values, aligned_item, aligned_items}
+use Rattle.vortex_expressions.specs.Functions.{aligned_cases, aligned_arguments, is_choice, result_item}
+use Rattle.vortex_sql_rows.specs.declared.types.Takes.{Takes}
+use Rattle.vortex_sql_rows.specs.declared.types.Takes.TheVariants.{Alike, Each, Cases}
 use Rattle.vortex_expressions.proofs.SureCalls.{Sure, sure_then, IsTyped, IsItem, sure_constant}
-use Rattle.vortex_expressions.proofs.SureCalls.{sure_item}
+use Rattle.vortex_expressions.proofs.SureCalls.{sure_item, sure_if, AllItems}
 
 -- P of the result, if there is one
 abbrev IfMade : {A : Type 0} → (A → Type 0) → calls.Outcome A → Type 0
@@ -136,7 +150,7 @@ computed_made o x y =
     (result_operand o a.operand b.operand) _ (typed_made (computed_tree o a b)))))
 
 -- items next to a value of a kind
-abbrev Any : {A : Type 0} → A → Type 0
+abbrev pub Any : {A : Type 0} → A → Type 0
 Any a = Unit {0}
 
 sure_whole : (p : PType) (l : Literal) → Sure Any (whole_literal p l)
@@ -201,3 +215,115 @@ pub sure_stored : (i : Item) → IsItem i → IsItem (stored_item i)
 sure_stored (literal l) h = h
 sure_stored (bound t) h = h
 sure_stored (kinded k t) h = h
+
+-- functions on values of kinds
+aligned_made : (a : Operand) (x : Lowered) → IfMade IsTyped (aligned a x)
+aligned_made a x =
+    if_then IsTyped (converted (conversion_beside x.operand a) x) _
+    (λ y. typed_made (tree_at_scale (scale_of a) y))
+
+pub sure_met : (k : Kind) (a : Operand) (is : List Item) → Sure Any (met_values k a is)
+sure_met k a [] = tt
+sure_met k a (i ∷ is) =
+    sure_then {A = Operand} Any Any (met_with k a i) _
+    (sure_then {A = Lowered} {B = Operand} Any Any (item_operand k i) _ (sure_operand k i)
+    (λ x h. sure_told Any (meet_next a x.operand) (any_made (meet_next a x.operand))))
+    (λ b h. sure_met k b is)
+
+sure_aligned : (k : Kind) (a : Operand) (i : Item) → Sure IsItem (aligned_item k a i)
+sure_aligned k a i =
+    sure_then {A = Lowered} Any IsItem (item_operand k i) _ (sure_operand k i)
+    (λ x h. sure_item _ (sure_told IsTyped (aligned a x) (aligned_made a x)))
+
+sure_aligned_items : (k : Kind) (a : Operand) (is : List Item) → Sure AllItems (aligned_items k a is)
+sure_aligned_items k a [] = tt
+sure_aligned_items k a (i ∷ is) =
+    sure_then IsItem AllItems (aligned_item k a i) _ (sure_aligned k a i)
+    (λ j h. sure_then AllItems AllItems (aligned_items k a is) _ (sure_aligned_items k a is)
+    (λ js g. (h, g)))
+
+sure_aligned_cases : (k : Kind) (a : Operand) (is : List Item) → AllItems is
+    → Sure AllItems (aligned_cases k a is)
+sure_aligned_cases k a [] h = tt
+sure_aligned_cases k a (v ∷ []) h =
+    sure_then IsItem AllItems (aligned_item k a v) _ (sure_aligned k a v) (λ j g. (g, tt))
+sure_aligned_cases k a (c ∷ v ∷ is) h =
+    sure_then IsItem AllItems (aligned_item k a v) _ (sure_aligned k a v)
+    (λ j g. sure_then AllItems AllItems (aligned_cases k a is) _ (sure_aligned_cases k a is h.1.1)
+    (λ js l. (h.0, (g, l))))
+
+pub sure_aligned_arguments : (s : Takes) (k : Kind) (a : Operand) (is : List Item) → AllItems is
+    → Sure AllItems (aligned_arguments s k a is)
+sure_aligned_arguments (Alike q) k a is h = sure_aligned_items k a is
+sure_aligned_arguments (Each x y z) k a is h = sure_aligned_items k a is
+sure_aligned_arguments Cases k a is h = sure_aligned_cases k a is h
+
+pub result_is : (f : Standard) (a : Operand) (t : Tree) → IsTyped t → IsItem (result_item f a t)
+result_is f a t h = by (is_choice f)
+  where
+    by : (b : Bool) → IsItem (cond b (value_item a t) (bound t))
+    by true = value_is a t h
+    by false = h
+
+-- literals of kinds
+constant_made : (k : Kind) (z : Option ℤ) (p : Option PType) → IfMade IsValue (constant_of k z p)
+constant_made k None p = tt
+constant_made k (Some z) None = tt
+constant_made k (Some z) (Some p) = refl
+
+sure_text_value : (k : Kind) (bs : List ℕ) → Sure IsValue (text_literal k bs)
+sure_text_value k bs =
+    sure_told IsValue (literal_of k bs) (constant_made k (stored_of_text k bs) (stored_ptype k))
+
+sure_null_value : (k : Kind) (o : Option PType) → Sure IsValue (null_of k o)
+sure_null_value k None = tt
+sure_null_value k (Some p) =
+    sure_then {B = Lowered} IsTyped IsValue (constant_at null (integer_type p true))
+    (λ t. answers (lowered t (Of k))) (sure_constant null (integer_type p true)) (λ t h. h)
+
+sure_kind_literal : (k : Kind) (l : Literal) → Sure IsValue (kind_literal k l)
+sure_kind_literal k (number w) = sure_text_value k w
+sure_kind_literal k (text bs) = sure_text_value k bs
+sure_kind_literal k (truth b) = tt
+sure_kind_literal k null = sure_null_value k (stored_ptype k)
+
+pub sure_kind_item : (k : Kind) (l : Literal) → Sure IsItem (kind_item k l)
+sure_kind_item k l =
+    sure_then IsValue IsItem (kind_literal k l) _ (sure_kind_literal k l)
+    (λ x h. value_is x.operand x.tree h)
+
+-- casts to kinds
+one_made : (f : Standard) (t : Tree) → IfMade IsTyped (call_one f t)
+one_made f t =
+    if_chosen IsTyped (fits (function_arity meaning (custom f (record {}))) 1) _ _
+    (typed_made (call (custom f (record {})) (trees_of (t ∷ [])))) tt
+
+after_made : (o : Option Standard) (a : Operand) (x : Lowered) → IsValue x
+    → IfMade IsValue (after o a x)
+after_made None a x h = h
+after_made (Some f) a x h =
+    if_both IsTyped IsValue (call_one f x.tree) _ (one_made f x.tree) (λ t k. k)
+
+sure_float_item : (x : Lowered) → IsValue x → Sure IsItem (float_item x)
+sure_float_item x h =
+    sure_if IsItem (becomes_float x.operand) _ _
+    (sure_then IsValue IsItem (told (as_float x)) _
+    (sure_told IsValue (as_float x) (after_made (float_function x.operand) (Of F64) x h))
+    (λ y j. value_is y.operand y.tree j)) tt
+
+sure_kind_cast : (k j : Kind) (t : Tree) → IsTyped t → Sure IsItem (kind_cast k j t)
+sure_kind_cast Date Date t h = h
+sure_kind_cast Timestamp Timestamp t h = h
+sure_kind_cast F32 F32 t h = h
+sure_kind_cast F64 F64 t h = h
+sure_kind_cast F64 j t h = sure_float_item (lowered t (Of j)) h
+sure_kind_cast k j t h = tt
+
+sure_plain_cast : (k : Kind) (t : Tree) → IsTyped t → Sure IsItem (plain_cast k t)
+sure_plain_cast F64 t h = sure_float_item (lowered t (plain_operand (tree_type meaning t))) h
+sure_plain_cast k t h = tt
+
+pub sure_cast_to_kind : (k : Kind) (i : Item) → IsItem i → Sure IsItem (cast_to_kind k i)
+sure_cast_to_kind k (literal l) h = sure_kind_item k l
+sure_cast_to_kind k (bound t) h = sure_plain_cast k t h
+sure_cast_to_kind k (kinded j t) h = sure_kind_cast k j t h

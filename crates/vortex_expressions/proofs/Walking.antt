@@ -8,11 +8,12 @@ use Rattle.vortex_syntax.specs.Postfix.{step_in}
 use Rattle.vortex_expressions.specs.declared.refusal.BindStop.{BindStop}
 use Rattle.vortex_expressions.specs.Outcomes.{Outcome, answers, and_then}
 use Rattle.vortex_expressions.specs.Items.{Item}
+use Rattle.vortex_expressions.specs.Calls.{Names}
 use Rattle.vortex_expressions.specs.Stacks.{run, stepped}
 use Rattle.vortex_expressions.specs.Answering.{StopsBy}
 use Rattle.vortex_expressions.proofs.Stopping.{stops_first}
 
-module _ (columns : List ℕ → Outcome Item) (steps : List written.Step) where
+module _ (columns : Names) (steps : List written.Step) where
   abbrev Behind : ℕ → List Item → Outcome (List Item)
   Behind n st = run columns (map step_in (drop n steps)) st
 

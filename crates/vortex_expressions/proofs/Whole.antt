@@ -15,19 +15,19 @@ use Rattle.vortex_syntax.specs.Postfix.{Step, postfix, all_postfix, argument_cou
 use Rattle.vortex_syntax.specs.Postfix.{branches_postfix, has_operand, branch_count, test_of}
 use Rattle.vortex_expressions.specs.Outcomes.{Outcome, answers, refuses, missing, and_then}
 use Rattle.vortex_expressions.specs.Items.{Item, settled}
-use Rattle.vortex_expressions.specs.Calls.{typed_item, cast_item, not_item, joined_item}
+use Rattle.vortex_expressions.specs.Calls.{not_item, joined_item}
 use Rattle.vortex_expressions.specs.Calls.{minus_item, tested_item, distinct_item, between_item}
 use Rattle.vortex_expressions.specs.Calls.{matched_item, listed_item, chosen_item, plus_item}
-use Rattle.vortex_expressions.specs.Calls.{bit_not_item, column_of}
+use Rattle.vortex_expressions.specs.Calls.{bit_not_item, Names, names_of, typed_by, cast_by}
 use Rattle.vortex_expressions.specs.Binding.{with_item, of_items, item_by, items_by}
 use Rattle.vortex_expressions.specs.Binding.{branches_by, tree_of}
-use Rattle.vortex_expressions.specs.Applied.{applied_item}
+use Rattle.vortex_expressions.specs.Functions.{applied_item}
 use Rattle.vortex_expressions.specs.Stacks.{run, stepped, pushed, with_last, case_count, left_as}
 use Rattle.vortex_expressions.specs.Stacks.{tree_left}
 use Rattle.vortex_expressions.proofs.Chains.{and_then-assoc, and_then-same, and_then-there}
 use Rattle.vortex_expressions.proofs.Lasts.{last_taken}
 
-module _ (columns : List ℕ → Outcome Item) where
+module _ (columns : Names) where
   -- over these items the steps leave one item in their place
   abbrev Leaves : List Item → List Step → Outcome Item → Type 0
   Leaves below ps o =
@@ -153,7 +153,7 @@ module _ (columns : List ℕ → Outcome Item) where
     leaves (operand t) = last [] _ _ (λ st. refl)
     leaves (negative ds) = last [] _ _ (λ st. refl)
     leaves (typed a w n) =
-        next [] (postfix a) _ _ (typed_item w n) (leaves a) (λ i. last (i ∷ []) _ _ (λ st. refl))
+        next [] (postfix a) _ _ (typed_by columns.has_kinds w n) (leaves a) (λ i. last (i ∷ []) _ _ (λ st. refl))
     leaves (grouped a) = leaves a
     leaves (negated a) =
         next [] (postfix a) _ _ not_item (leaves a) (λ i. last (i ∷ []) _ _ (λ st. refl))
@@ -193,10 +193,10 @@ module _ (columns : List ℕ → Outcome Item) where
         (λ x. next (x ∷ []) (postfix p) _ _ (matched_item k (Some e) x) (leaves p)
         (λ y. last (y ∷ x ∷ []) _ _ (λ st. refl)))
     leaves (converted a w n) =
-        next [] (postfix a) _ _ (cast_item false w n) (leaves a)
+        next [] (postfix a) _ _ (cast_by columns.has_kinds false w n) (leaves a)
         (λ i. last (i ∷ []) _ _ (λ st. refl))
     leaves (cast p a w n) =
-        next [] (postfix a) _ _ (cast_item p w n) (leaves a) (λ i. last (i ∷ []) _ _ (λ st. refl))
+        next [] (postfix a) _ _ (cast_by columns.has_kinds p w n) (leaves a) (λ i. last (i ∷ []) _ _ (λ st. refl))
     leaves (minus a) =
         next [] (postfix a) _ _ minus_item (leaves a) (λ i. last (i ∷ []) _ _ (λ st. refl))
     leaves (nullary p w) =
@@ -282,4 +282,4 @@ module _ (columns : List ℕ → Outcome Item) where
       ∙ and_then-assoc (item_by columns t) (λ i. answers (i ∷ [])) (left_as final)
 
 pub tree_left-is : (scope : Fields) (t : Syntax) → tree_left scope (postfix t) ≡ tree_of scope t
-tree_left-is scope t = left-is (column_of scope) (settled None) t
+tree_left-is scope t = left-is (names_of scope) (settled None) t

@@ -1,15 +1,13 @@
--- Calls of SQL's functions by their names.
-use Rattle.std.specs.Prelude.{ℕ, List, [], ◌∷◌, Option, None}
+-- Calls of SQL's functions.
+use Rattle.std.specs.Prelude.{List, [], ◌∷◌, Option, None}
 use Rattle.vortex_types.specs.LogicalTypes.{LogicalType}
 use Rattle.vortex_standard.specs.declared.standard.Standard.{Standard}
 use Rattle.vortex_sql_rows.specs.declared.types.Takes.{Takes}
 use Rattle.vortex_sql_rows.specs.declared.types.Takes.TheVariants.{Alike, Each, Cases}
 use Rattle.vortex_standard.specs.Standard.{row_of}
-use Rattle.vortex_standard.specs.Names.{standard_named}
-use Rattle.vortex_expressions.specs.declared.refusal.Refusal.TheVariants.{NoFunction}
-use Rattle.vortex_expressions.specs.Outcomes.{Outcome, answers, and_then, or_refuses}
+use Rattle.vortex_expressions.specs.Outcomes.{Outcome, answers, and_then}
 use Rattle.vortex_expressions.specs.Items.{Item, Tree, common_type, truth_type, settled}
-use Rattle.vortex_expressions.specs.Items.{all_settled, call_of, as_item}
+use Rattle.vortex_expressions.specs.Items.{all_settled, call_of}
 pub use Rattle.vortex_expressions.specs.Items.{callable}
 
 -- the values of cases: each after its condition, and a last value alone
@@ -35,8 +33,3 @@ arguments_settled Cases is = cases_settled (common_type (values_of is)) is
 -- the call on items
 abbrev pub function_call : Standard → List Item → Outcome Tree
 function_call f is = and_then (arguments_settled (row_of f).types.takes is) (call_of (callable f))
-
--- the call of the function of that name
-abbrev pub applied_item : List ℕ → List Item → Outcome Item
-applied_item w is =
-    and_then (or_refuses NoFunction (standard_named w)) (λ f. as_item (function_call f is))

@@ -14,12 +14,13 @@ use Rattle.vortex_expressions.specs.declared.item.LogicalTree as held
 use Rattle.vortex_expressions.specs.declared.refusal.Refusal.{Refusal}
 use Rattle.vortex_expressions.specs.Outcomes.{Outcome, answers, refuses, and_then}
 use Rattle.vortex_expressions.specs.Items.{Item, kinded, Tree, settled}
-use Rattle.vortex_expressions.specs.Calls.{operand_by, column_of, column_in, negative_item, typed_item, cast_item}
+use Rattle.vortex_expressions.specs.Calls.{Names, names_of, names_in, operand_by, negative_item}
+use Rattle.vortex_expressions.specs.Calls.{typed_by, cast_by}
 use Rattle.vortex_expressions.specs.Calls.{not_item, joined_item, tested_item, distinct_item}
 use Rattle.vortex_expressions.specs.Calls.{between_item, minus_item, listed_item, chosen_item}
 use Rattle.vortex_syntax.specs.Postfix.{has_operand, test_of}
 use Rattle.vortex_expressions.specs.Calls.{matched_item, plus_item, bit_not_item}
-use Rattle.vortex_expressions.specs.Applied.{applied_item}
+use Rattle.vortex_expressions.specs.Functions.{applied_item}
 
 -- one more item, before those that come before it
 abbrev pub with_item : Outcome (List Item) → Outcome Item → Outcome (List Item)
@@ -29,17 +30,17 @@ with_item o p = and_then o (λ is. and_then p (λ i. answers (i ∷ is)))
 abbrev pub of_items : (List Item → Outcome Item) → Outcome (List Item) → Outcome Item
 of_items f o = and_then o (λ is. f (reverse is))
 
-module _ (columns : List ℕ → Outcome Item) where
+module _ (columns : Names) where
   -- the meaning of a syntax tree, from left to right, by what names of columns mean; literals have
   -- no types yet
   abbrev mutual
     pub item_by : Syntax → Outcome Item
-    item_by (operand t) = operand_by columns t
+    item_by (operand t) = operand_by columns.column t
     item_by (negative ds) = negative_item ds
     item_by (minus a) = and_then (item_by a) minus_item
     item_by (plus a) = and_then (item_by a) plus_item
     item_by (bit_not a) = and_then (item_by a) bit_not_item
-    item_by (typed a w n) = and_then (item_by a) (typed_item w n)
+    item_by (typed a w n) = and_then (item_by a) (typed_by columns.has_kinds w n)
     item_by (grouped a) = item_by a
     item_by (negated a) = and_then (item_by a) not_item
     item_by (joined o a b) = and_then (item_by a) (λ x. and_then (item_by b) (joined_item o x))
@@ -52,8 +53,8 @@ module _ (columns : List ℕ → Outcome Item) where
         (between_item k x y)))
     item_by (matched k a p e) =
         and_then (item_by a) (λ x. and_then (item_by p) (matched_item k e x))
-    item_by (cast p a w n) = and_then (item_by a) (cast_item p w n)
-    item_by (converted a w n) = and_then (item_by a) (cast_item false w n)
+    item_by (cast p a w n) = and_then (item_by a) (cast_by columns.has_kinds p w n)
+    item_by (converted a w n) = and_then (item_by a) (cast_by columns.has_kinds false w n)
     item_by (listed n a args b) =
         of_items (listed_item n)
         (with_item (items_by (with_item (answers []) (item_by a)) args) (item_by b))
@@ -80,13 +81,13 @@ module _ (columns : List ℕ → Outcome Item) where
 module _ (scope : Fields) where
   -- over columns without kinds
   abbrev pub item_of : Syntax → Outcome Item
-  item_of = item_by (column_of scope)
+  item_of = item_by (names_of scope)
 
   abbrev pub items_after : Outcome (List Item) → Arguments → Outcome (List Item)
-  items_after = items_by (column_of scope)
+  items_after = items_by (names_of scope)
 
   abbrev pub branch_items : Branches → Outcome (List Item)
-  branch_items = branches_by (column_of scope)
+  branch_items = branches_by (names_of scope)
 
   abbrev pub items_of : Arguments → Outcome (List Item)
   items_of args = items_after (answers []) args
@@ -123,7 +124,7 @@ ended i = and_then (settled None i) (λ t. answers (record { tree = t; kind = Pl
 module _ (scope : Fields) (kinds : List Kind) where
   -- over columns with kinds
   abbrev pub logical_of : Syntax → Outcome LogicalTree
-  logical_of t = and_then (item_by (column_in scope kinds) t) ended
+  logical_of t = and_then (item_by (names_in scope kinds) t) ended
 
   -- the text means the tree, whose values are of that kind
   pub record ExpressesLogical (text : List ℕ) (t : LogicalTree) : Type 0 where

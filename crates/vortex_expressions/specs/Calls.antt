@@ -13,7 +13,7 @@ use Rattle.vortex_interface.specs.Eval.{tree_type}
 use Rattle.vortex_interface.specs.Trees.{leaf, place}
 use Rattle.vortex_cells.specs.Escapes.{escape_of}
 use Rattle.vortex_logical.specs.declared.kind.Kind.{Kind}
-use Rattle.vortex_logical.specs.declared.kind.Kind.TheVariants.{Plain}
+use Rattle.vortex_logical.specs.declared.kind.Kind.TheVariants.{Plain, F64}
 use Rattle.vortex_lowering.specs.declared.refusal.Refusal.TheVariants.{NotStored}
 use Rattle.vortex_syntax.specs.declared.step.WrittenOperator as syntax
 use Rattle.vortex_syntax.specs.declared.step.WrittenOperator.TheVariants as written
@@ -32,6 +32,7 @@ use Rattle.vortex_syntax.specs.declared.token.Sign.TheVariants as sign
 use Rattle.vortex_syntax.specs.Tokens.{Token, name, nullable, function, quoted, number, text, sign}
 use Rattle.vortex_expressions.specs.declared.refusal.Refusal.TheVariants.{NotUtf8, UnknownType}
 use Rattle.vortex_expressions.specs.declared.refusal.Refusal.TheVariants.{NoEscape, Binding, Kinds}
+use Rattle.vortex_expressions.specs.declared.refusal.Refusal.TheVariants.{NoCast}
 use Rattle.vortex_expressions.specs.Literals as literal
 use Rattle.vortex_expressions.specs.Literals.{Literal}
 use Rattle.vortex_expressions.specs.Outcomes.{Outcome, answers, refuses, missing, and_then}
@@ -39,12 +40,14 @@ use Rattle.vortex_expressions.specs.Outcomes.{or_refuses}
 use Rattle.vortex_expressions.specs.Items.{Item, literal, bound, kinded, Tree, meaning, Callable, called}
 use Rattle.vortex_expressions.specs.Items.{common_type}
 use Rattle.vortex_expressions.specs.Applied.{callable, function_call}
+use Rattle.vortex_expressions.specs.Functions.{function_item}
 use Rattle.vortex_expressions.specs.Items.{constant_at}
 pub use Rattle.vortex_expressions.specs.Items.{as_item, truth_type}
 use Rattle.vortex_expressions.specs.TypeNames.{named_type}
 pub use Rattle.vortex_expressions.specs.Casts.{cast_to}
 pub use Rattle.vortex_expressions.specs.Kinded.{is_kinded, kinded_joined, kinded_between, within_bounds}
 pub use Rattle.vortex_expressions.specs.Kinded.{stored_item, is_plain, stores}
+use Rattle.vortex_expressions.specs.KindCasts.{word_kind, kind_item, cast_to_kind, float_cast}
 
 -- In quotes each quote is doubled, and the second of two is skipped: the mark is true after the
 -- first.
@@ -87,6 +90,22 @@ column_in scope ks w = field_found ks w (find_field w scope)
 abbrev pub column_of : Fields → List ℕ → Outcome Item
 column_of scope = column_in scope []
 
+-- what names of columns mean, and whether kinds have names
+pub record Names : Type 0 where
+  pub column : List ℕ → Outcome Item
+  pub has_kinds : Bool
+
+abbrev pub are_given : List Kind → Bool
+are_given [] = false
+are_given (k ∷ ks) = true
+
+-- kinds have names where columns have kinds
+abbrev pub names_in : Fields → List Kind → Names
+names_in scope ks = record { column = column_in scope ks; has_kinds = are_given ks }
+
+abbrev pub names_of : Fields → Names
+names_of scope = record { column = column_of scope; has_kinds = false }
+
 abbrev pub sign_item : Sign → Outcome Item
 sign_item sign.True = answers (literal (literal.truth true))
 sign_item sign.False = answers (literal (literal.truth false))
@@ -125,6 +144,35 @@ typed_item w n (literal l) = as_item (and_then (type_of_name w n) (constant_at l
 abbrev pub cast_item : Bool → List ℕ → Bool → Item → Outcome Item
 cast_item p w n i = as_item (and_then (type_of_name w n) (cast_to p i))
 
+-- the kind of that name; no kind is named with a question mark
+abbrev pub kind_of_name : List ℕ → Bool → Outcome (Option Kind)
+kind_of_name w n =
+    if n then answers None else and_then (text_of w) (λ v. answers (word_kind v))
+
+-- a literal of the kind or the type of that name
+abbrev pub typed_named : List ℕ → Bool → Item → Option Kind → Outcome Item
+typed_named w n i None = typed_item w n i
+typed_named w n (literal l) (Some k) = kind_item k l
+typed_named w n i (Some k) = missing
+
+abbrev pub typed_by : Bool → List ℕ → Bool → Item → Outcome Item
+typed_by false w n i = typed_item w n i
+typed_by true w n i = and_then (kind_of_name w n) (typed_named w n i)
+
+-- a cast to the type of that name; floats are rounded, but by `try_cast`
+abbrev pub cast_of_kind : Bool → List ℕ → Bool → Item → Outcome Item
+cast_of_kind false w n (kinded F64 t) = and_then (type_of_name w n) (λ u. float_cast u t)
+cast_of_kind p w n i = cast_item p w n i
+
+-- a cast to the kind or the type of that name
+abbrev pub cast_named : Bool → List ℕ → Bool → Item → Option Kind → Outcome Item
+cast_named p w n i None = cast_of_kind p w n i
+cast_named p w n i (Some k) = if p then refuses NoCast else cast_to_kind k i
+
+abbrev pub cast_by : Bool → Bool → List ℕ → Bool → Item → Outcome Item
+cast_by false p w n i = cast_item p w n i
+cast_by true p w n i = and_then (kind_of_name w n) (cast_named p w n i)
+
 -- the function that an operator is
 abbrev pub written_function : syntax.WrittenOperator → Callable
 written_function written.Or = ours (Binary operator.Or)
@@ -156,6 +204,10 @@ joined_type o is = common_type is
 abbrev pub negated_if : Bool → Tree → Outcome Tree
 negated_if n t = if n then called (ours Not) None (bound t ∷ []) else answers t
 
+-- a truth value, or Not of it if the flag is true
+abbrev pub negated_item : Bool → Item → Outcome Item
+negated_item n a = if n then as_item (called (ours Not) None (a ∷ [])) else answers a
+
 abbrev pub not_item : Item → Outcome Item
 not_item a = as_item (called (ours Not) truth_type (a ∷ []))
 
@@ -179,7 +231,7 @@ tested_item test.Unknown n a = truth_test (standard.TruthTest IsUnknown) n a
 
 abbrev pub distinct_item : Bool → Item → Item → Outcome Item
 distinct_item n a b =
-    as_item (and_then (function_call standard.IsDistinct (a ∷ b ∷ [])) (negated_if n))
+    and_then (function_item standard.IsDistinct (a ∷ b ∷ [])) (negated_item n)
 
 -- a minus sign: the difference from zero
 abbrev pub minus_item : Item → Outcome Item
@@ -201,7 +253,7 @@ bit_not_item a = as_item (function_call standard.BitNot (a ∷ []))
 
 -- IN, whose operand is the first of the items
 abbrev pub listed_item : Bool → List Item → Outcome Item
-listed_item n is = as_item (and_then (function_call standard.InList is) (negated_if n))
+listed_item n is = and_then (function_item standard.InList is) (negated_item n)
 
 -- cases with an operand: each condition is that it equals the value
 abbrev pub equal_cases : Item → List Item → Outcome (List Item)
@@ -217,7 +269,7 @@ conditions_of true (a ∷ is) = equal_cases a is
 conditions_of h is = answers is
 
 abbrev pub chosen_item : Bool → List Item → Outcome Item
-chosen_item h is = and_then (conditions_of h is) (λ js. as_item (function_call standard.Case js))
+chosen_item h is = and_then (conditions_of h is) (function_item standard.Case)
 
 abbrev pub between_all : List Item → Outcome Tree
 between_all is = called (ours (Between within_bounds)) (common_type is) is

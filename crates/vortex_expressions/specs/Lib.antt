@@ -7,6 +7,8 @@ pub mod Applied
 pub mod TypeNames
 pub mod Casts
 pub mod Kinded
+pub mod KindCasts
+pub mod Functions
 pub mod Calls
 pub mod Binding
 pub mod Stacks

@@ -13,11 +13,12 @@ use Rattle.vortex_expressions.specs.declared.binder.Stopped as stopped
 use Rattle.vortex_expressions.specs.Answering.{StopsBy}
 use Rattle.vortex_expressions.specs.Outcomes.{Outcome, answers, missing, and_then}
 use Rattle.vortex_expressions.specs.Items.{Item, item_in, Tree, settled}
-use Rattle.vortex_expressions.specs.Calls.{operand_by, column_of, column_in, negative_item, typed_item, cast_item}
+use Rattle.vortex_expressions.specs.Calls.{Names, names_of, names_in, operand_by, negative_item}
+use Rattle.vortex_expressions.specs.Calls.{typed_by, cast_by}
 use Rattle.vortex_expressions.specs.Calls.{not_item, joined_item, tested_item, distinct_item}
 use Rattle.vortex_expressions.specs.Calls.{between_item, minus_item, listed_item, chosen_item}
 use Rattle.vortex_expressions.specs.Calls.{matched_item, plus_item, bit_not_item}
-use Rattle.vortex_expressions.specs.Applied.{applied_item}
+use Rattle.vortex_expressions.specs.Functions.{applied_item}
 use Rattle.vortex_expressions.specs.Binding.{LogicalTree, ended}
 use Rattle.vortex_logical.specs.declared.kind.Kind.{Kind}
 
@@ -66,12 +67,12 @@ call_made (call.Distinct n) = with_two (distinct_item n)
 call_made (call.Between k) = with_three (between_item k)
 call_made (call.Like k) = with_two (matched_item k None)
 
-module _ (columns : List ℕ → Outcome Item) where
+module _ (columns : Names) where
   abbrev pub stepped : Step → List Item → Outcome (List Item)
-  stepped (operand t) st = pushed st (operand_by columns t)
+  stepped (operand t) st = pushed st (operand_by columns.column t)
   stepped (negative ds) st = pushed st (negative_item ds)
-  stepped (typed w n) st = with_one (typed_item w n) st
-  stepped (cast p w n) st = with_one (cast_item p w n) st
+  stepped (typed w n) st = with_one (typed_by columns.has_kinds w n) st
+  stepped (cast p w n) st = with_one (cast_by columns.has_kinds p w n) st
   stepped (escaped k e) st = with_two (matched_item k (Some e)) st
   stepped (applied w n) st = with_last (applied_item w) n st
   stepped (listed n k) st = with_last (listed_item n) (suc k) st
@@ -90,15 +91,15 @@ left_as last (i ∷ j ∷ st) = missing
 
 -- what steps leave over columns without kinds
 abbrev pub tree_left : Fields → List Step → Outcome Tree
-tree_left scope ss = and_then (run (column_of scope) ss []) (left_as (settled None))
+tree_left scope ss = and_then (run (names_of scope) ss []) (left_as (settled None))
 
 -- and over columns with kinds
 abbrev pub logical_left : Fields → List Kind → List Step → Outcome LogicalTree
-logical_left scope kinds ss = and_then (run (column_in scope kinds) ss []) (left_as ended)
+logical_left scope kinds ss = and_then (run (names_in scope kinds) ss []) (left_as ended)
 
 -- the stack that steps leave, or why one of them stops
 abbrev pub RunsTo : Fields → List Kind → List Step → Result stack.Stack stopped.Stopped → Type 0
 RunsTo scope kinds ss result =
     MatchResult result
-    (λ s. run (column_in scope kinds) ss [] ≡ answers (stack_in s.items.items))
-    (λ s. StopsBy (run (column_in scope kinds) ss []) s.stop)
+    (λ s. run (names_in scope kinds) ss [] ≡ answers (stack_in s.items.items))
+    (λ s. StopsBy (run (names_in scope kinds) ss []) s.stop)

@@ -1,4 +1,4 @@
-//! Calls of SQL's functions by their names.
+//! Calls of SQL's functions.
 ghost use Rattle.std.specs.Prelude.{◌≡◌, map, option_map, None};
 ghost use Rattle.vortex_errors.specs.Answers.{AnswersUnlessMemory};
 ghost use Rattle.vortex_types.specs.TypeOf.{type_of};
@@ -12,11 +12,11 @@ use crate::item::{
     Item, call_of, callable, common_type, first_literal_type, meeting_type, settle_all,
 };
 use crate::meeting::met_next;
-use crate::refusal::{BindStop, Refusal};
+use crate::refusal::BindStop;
 use std::alloc::Global;
 use vortex_columns::{DType, Nullability, VortexResult};
 use vortex_functions::BoundExpression;
-use vortex_standard::{Standard, Takes, named};
+use vortex_standard::{Standard, Takes};
 
 /// The type in which the values of cases meet.
 fn value_type(alloc: Global, items: &[Item]) -> VortexResult<Option<DType>>
@@ -120,14 +120,4 @@ pub(crate) fn function_call(
 {
     let trees = settle_arguments(alloc, function.takes(), &items)?;
     call_of(alloc, callable(function), trees)
-}
-
-/// The call of the function of that name.
-pub(crate) fn applied_item(alloc: Global, name: &[u8], items: Vec<Item>) -> Result<Item, BindStop>
-    ensures { Gives item_in result (specs.applied_item name.now (map item_in items.items)) }
-{
-    match named(name) {
-        Some(function) => Ok(Item::Bound(function_call(alloc, function, items)?)),
-        None => Err(BindStop::Refused(Refusal::NoFunction)),
-    }
 }

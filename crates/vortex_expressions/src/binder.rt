@@ -9,20 +9,20 @@ ghost use Rattle.vortex_expressions.specs.Binding.{ended, logical_in};
 ghost use Rattle.vortex_expressions.specs.Stacks.{stack_in, call_made, stepped, tree_left, left_as};
 ghost use Rattle.vortex_expressions.specs.Stacks.{logical_left, RunsTo};
 ghost use Rattle.vortex_expressions.specs.Stacks.{with_two, last_items, with_last, case_count};
-ghost use Rattle.vortex_expressions.specs.Applied.{applied_item};
+ghost use Rattle.vortex_expressions.specs.Functions.{applied_item};
 ghost use Rattle.vortex_expressions.specs.Outcomes.{answers};
-ghost use Rattle.vortex_expressions.specs.Calls.{matched_item, listed_item, chosen_item, column_in};
+ghost use Rattle.vortex_expressions.specs.Calls.{matched_item, listed_item, chosen_item, names_in};
 ghost use Rattle.vortex_expressions.specs.Answering.{Gives, StopsBy};
 
-use crate::applied::applied_item;
 use crate::bounds::between_item;
 use crate::calls::{
     bit_not_item, distinct_item, joined_item, listed_item, matched_item, minus_item, negative_item,
-    not_item, operand_item, plus_item, tested_item, typed_item,
+    not_item, operand_item, plus_item, tested_item,
 };
 use crate::cases::chosen_item;
-use crate::casts::cast_item;
+use crate::functions::applied_item;
 use crate::item::{Item, LogicalTree};
+use crate::kind_casts::{are_given, cast_by, typed_by};
 use crate::refusal::BindStop;
 use std::alloc::Global;
 use vortex_columns::StructFields;
@@ -189,7 +189,7 @@ impl Stack {
         step: Step<'_>,
     ) -> Result<(), BindStop>
         ensures { Gives (λ _. stack_in self.new.items.items) result
-            (stepped (column_in (struct_fields scope.now) kinds.now) (step_in step.entry)
+            (stepped (names_in (struct_fields scope.now) kinds.now) (step_in step.entry)
             (stack_in self.old.items.items)) }
     {
         match step {
@@ -197,11 +197,13 @@ impl Stack {
             Step::Negative(digits) => self.push(negative_item(alloc, digits)?),
             Step::Typed(name, is_nullable) => {
                 let item = self.pop()?;
-                self.push(typed_item(alloc, name, is_nullable, item)?)
+                let typed = typed_by(alloc, are_given(kinds), name, is_nullable, item)?;
+                self.push(typed)
             }
             Step::Cast(is_tried, name, is_nullable) => {
                 let item = self.pop()?;
-                self.push(cast_item(alloc, is_tried, name, is_nullable, item)?)
+                let has_kinds = are_given(kinds);
+                self.push(cast_by(alloc, has_kinds, is_tried, name, is_nullable, item)?)
             }
             Step::Escaped(kind, escape) => self.like(alloc, kind, Some(escape)),
             Step::Apply(name, count) => self.apply(alloc, name, count),

@@ -12,6 +12,7 @@ ghost use Rattle.vortex_expressions.specs.Answering.{Gives};
 
 use crate::applied::function_call;
 use crate::casts::type_of_name;
+use crate::functions::function_item;
 use crate::item::{Item, callable, called, common_type, constant_at};
 use crate::kinded::{is_kinded, is_plain, kinded_joined, stored_item, stores};
 use crate::literal::Literal;
@@ -204,6 +205,17 @@ pub(crate) fn negated_if(
     }
 }
 
+/// A truth value, or NOT of it if the flag is true.
+fn negated_item(alloc: Global, negated: bool, item: Item) -> Result<Item, BindStop>
+    ensures { Gives item_in result (specs.negated_item negated (item_in item)) }
+{
+    if !negated {
+        return Ok(item);
+    }
+    let tree = called(alloc, ScalarFnRef::Not, None, vec![in alloc; item]?)?;
+    Ok(Item::Bound(tree))
+}
+
 pub(crate) fn not_item(alloc: Global, item: Item) -> Result<Item, BindStop>
     ensures { Gives item_in result (specs.not_item (item_in item)) }
 {
@@ -306,8 +318,8 @@ pub(crate) fn distinct_item(
 ) -> Result<Item, BindStop>
     ensures { Gives item_in result (specs.distinct_item negated (item_in left) (item_in right)) }
 {
-    let tree = function_call(alloc, Standard::IsDistinct, vec![in alloc; left, right]?)?;
-    Ok(Item::Bound(negated_if(alloc, negated, tree)?))
+    let item = function_item(alloc, Standard::IsDistinct, vec![in alloc; left, right]?)?;
+    negated_item(alloc, negated, item)
 }
 
 /// A minus sign: the difference from zero.
@@ -348,8 +360,8 @@ pub(crate) fn bit_not_item(alloc: Global, item: Item) -> Result<Item, BindStop>
 pub(crate) fn listed_item(alloc: Global, negated: bool, items: Vec<Item>) -> Result<Item, BindStop>
     ensures { Gives item_in result (specs.listed_item negated (map item_in items.items)) }
 {
-    let tree = function_call(alloc, Standard::InList, items)?;
-    Ok(Item::Bound(negated_if(alloc, negated, tree)?))
+    let item = function_item(alloc, Standard::InList, items)?;
+    negated_item(alloc, negated, item)
 }
 
 /// The escape of a text: its only character, or none if it has no character.

@@ -4,8 +4,8 @@ ghost use Rattle.vortex_expressions.specs.Calls as specs;
 ghost use Rattle.vortex_expressions.specs.Items.{item_in};
 ghost use Rattle.vortex_expressions.specs.Answering.{Gives};
 
-use crate::applied::function_call;
 use crate::calls::joined_item;
+use crate::functions::function_item;
 use crate::item::Item;
 use crate::refusal::BindStop;
 use std::alloc::Global;
@@ -54,5 +54,5 @@ pub(crate) fn chosen_item(
     ensures { Gives item_in result (specs.chosen_item has_operand (map item_in items.items)) }
 {
     let cases = conditions_of(alloc, has_operand, items)?;
-    Ok(Item::Bound(function_call(alloc, Standard::Case, cases)?))
+    function_item(alloc, Standard::Case, cases)
 }

@@ -18,7 +18,7 @@ use vortex_columns::{DType, Nullability, PType};
 use vortex_functions::{BoundExpression, ScalarFnRef};
 use vortex_standard::{Cast, Standard, TextToInt, TruthToInt, Widen, has_all_of};
 
-fn is_same_word(word: &str, other: &str) -> bool
+pub(crate) fn is_same_word(word: &str, other: &str) -> bool
     ensures { result ≡ same_word word.now other.now }
 {
     word.eq_ignore_ascii_case(other)

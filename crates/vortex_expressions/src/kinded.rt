@@ -84,7 +84,7 @@ fn kind_or(item: &Item, kind: Kind) -> Kind
 }
 
 /// What a tree without a kind is.
-fn plain_operand(dtype: &DType) -> Operand
+pub(crate) fn plain_operand(dtype: &DType) -> Operand
     ensures { result ≡ specs.plain_operand (Some (type_of dtype.now)) }
 {
     match dtype {
@@ -118,7 +118,11 @@ fn whole_literal(
 }
 
 /// The value of a text of a kind.
-fn text_literal(alloc: Global, kind: Kind, text: &[u8]) -> Result<Lowered<Standard>, BindStop>
+pub(crate) fn text_literal(
+    alloc: Global,
+    kind: Kind,
+    text: &[u8],
+) -> Result<Lowered<Standard>, BindStop>
     ensures { Gives (λ x. lowered x.tree x.operand) result (specs.text_literal kind text.now) }
 {
     Ok(calls::literal(alloc, kind, text)?)
@@ -145,7 +149,7 @@ fn number_literal(
 }
 
 /// Null next to a value of a kind.
-fn null_literal(alloc: Global, kind: Kind) -> Result<Lowered<Standard>, BindStop>
+pub(crate) fn null_literal(alloc: Global, kind: Kind) -> Result<Lowered<Standard>, BindStop>
     ensures { Gives (λ x. lowered x.tree x.operand) result (specs.null_literal kind) }
 {
     match kind.stored_ptype() {
@@ -177,7 +181,11 @@ fn literal_operand(
 }
 
 /// An item next to a value of a kind.
-fn item_operand(alloc: Global, kind: &Kind, item: Item) -> Result<Lowered<Standard>, BindStop>
+pub(crate) fn item_operand(
+    alloc: Global,
+    kind: &Kind,
+    item: Item,
+) -> Result<Lowered<Standard>, BindStop>
     ensures { Gives (λ x. lowered x.tree x.operand) result
         (specs.item_operand kind.now (item_in item)) }
 {
@@ -195,7 +203,7 @@ fn item_operand(alloc: Global, kind: &Kind, item: Item) -> Result<Lowered<Standa
 }
 
 /// A tree of stored integers; whole numbers have no kind.
-fn value_item(value: Lowered<Standard>) -> Item
+pub(crate) fn value_item(value: Lowered<Standard>) -> Item
     ensures { item_in result ≡ specs.value_item value.operand value.tree }
 {
     let Lowered { tree, operand } = value;

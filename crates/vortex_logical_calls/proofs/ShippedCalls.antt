@@ -4,6 +4,8 @@ use Rattle.std.proofs.Common.{ap, sym, ◌∙◌, inl, inr}
 use Rattle.std.specs.Prelude.{is_some, IsSome, MatchResult}
 use Rattle.std.proofs.lemmas.Bool.{false≢true}
 use Rattle.vortex_errors.specs.declared.error.NumericOperator.{NumericOperator}
+use Rattle.vortex_errors.specs.declared.error.VortexError.{VortexError}
+use Rattle.vortex_errors.specs.Answers.{UnlessMemory}
 use Rattle.vortex_errors.proofs.Answering.{UnlessMemory-weaker}
 use Rattle.vortex_operators.specs.declared.operators.CompareOperator.{CompareOperator}
 use Rattle.vortex_operators.specs.declared.between.BetweenOptions.{BetweenOptions}
@@ -12,25 +14,27 @@ use Rattle.vortex_logical.specs.declared.operand.Operand.{Operand}
 use Rattle.vortex_logical.specs.CommonKinds.{common_operand}
 use Rattle.vortex_lowering.specs.declared.refusal.Refusal.{Refusal}
 use Rattle.vortex_lowering.specs.declared.refusal.Refusal.TheVariants as refusal
-use Rattle.vortex_lowering.specs.Operands.{are_shipped}
+use Rattle.vortex_lowering.specs.Operands.{are_shipped, scale_of}
 use Rattle.vortex_lowering.specs.Results.{result_operand, are_computed}
 use Rattle.vortex_lowering.specs.Comparing.{AreCompared, RefusesPair, IsCompared}
 use Rattle.vortex_lowering.specs.Comparing.{RefusesComparison}
 use Rattle.vortex_lowering.specs.Bounding.{IsBounded, RefusesBounds}
 use Rattle.vortex_lowering.specs.Computing.{AreComputed, IsComputed, RefusesResult}
 use Rattle.vortex_lowering.specs.Rows.{IsTyped}
-use Rattle.vortex_lowering.specs.LoweredTrees.{compared_tree, bounded_tree, computed_tree}
+use Rattle.vortex_lowering.specs.LoweredTrees.{compared_tree, bounded_tree, computed_tree, tree_at_scale}
+use Rattle.vortex_lowering.specs.Aligning.{IsAligned, RefusesAligning}
 use Rattle.vortex_logical_calls.specs.Outcomes.{Outcome, made, refused, untyped, FailsBy, Makes}
 use Rattle.vortex_logical_calls.specs.Calls.{Tree, Lowered, meaning, typed}
 use Rattle.vortex_logical_calls.specs.Comparison.{if_met, compare_met}
 use Rattle.vortex_logical_calls.specs.Bounds.{between_met}
 use Rattle.vortex_logical_calls.specs.Computation.{of_operand, of_result, compute_met}
+use Rattle.vortex_logical_calls.specs.Alignment as alignment
 
 -- a tree with a type, and one without
-typed_is : (t : Tree) → is_some (tree_type meaning t) ≡ true → typed t ≡ made t
+pub typed_is : (t : Tree) → is_some (tree_type meaning t) ≡ true → typed t ≡ made t
 typed_is t h = ap (λ b. cond b (made t) untyped) h
 
-typed_none : (t : Tree) → tree_type meaning t ≡ None → typed t ≡ untyped
+pub typed_none : (t : Tree) → tree_type meaning t ≡ None → typed t ≡ untyped
 typed_none t h = ap (λ o. cond (is_some o) (made t) untyped) h
 
 module _ {A : Type 0} (a b : Operand) (o : Outcome A) where
@@ -178,3 +182,15 @@ result_made view o x y (Ok z) h =
     ∙ ap (λ b. of_result b x y (Some (view z).operand) (typed (computed_tree o x y))) h.shipped
     ∙ ap (of_operand (view z).operand) (ap typed (sym h.tree) ∙ typed_is (view z).tree h.takes)
 result_made view o x y (Err e) h = result_fails o x y e h
+
+-- an operand with the digits of the common kind
+pub aligned_is : (c : Operand) (x : Lowered) (t : Tree) → IsAligned meaning c x t
+    → alignment.lengthened c x ≡ made t
+aligned_is c x t h = ap typed (sym h.tree) ∙ typed_is t h.takes
+
+pub aligned_none : (c : Operand) (x : Lowered) (e : VortexError)
+    → UnlessMemory (RefusesAligning meaning c x) e
+    → UnlessMemory (λ e. alignment.lengthened c x ≡ untyped) e
+aligned_none c x e h =
+    UnlessMemory-weaker (RefusesAligning meaning c x) (λ e. alignment.lengthened c x ≡ untyped)
+    (λ e k. typed_none (tree_at_scale (scale_of c) x) k) e h

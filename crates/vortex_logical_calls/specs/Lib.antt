@@ -5,3 +5,4 @@ pub mod Comparison
 pub mod Bounds
 pub mod Computation
 pub mod Literals
+pub mod Alignment

@@ -1,6 +1,7 @@
 //! Calls of SQL's operators on values with kinds: dates, timestamps, decimals and floats.
 #![tactic(auto)]
 
+pub mod alignment;
 pub mod bounds;
 mod call;
 pub mod comparison;
@@ -8,6 +9,7 @@ pub mod computation;
 pub mod conversions;
 pub mod literals;
 
+pub use alignment::{align, meet_next};
 pub use bounds::between;
 pub use comparison::compare;
 pub use computation::compute;

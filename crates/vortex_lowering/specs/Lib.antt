@@ -7,3 +7,4 @@ pub mod Comparing
 pub mod Leaves
 pub mod Computing
 pub mod Bounding
+pub mod Aligning

@@ -1,6 +1,7 @@
 //! Calls over logical operands, as calls of the proved functions over stored integers.
 #![tactic(auto)]
 
+pub mod aligning;
 pub mod bounding;
 pub mod comparing;
 pub mod computing;
@@ -9,6 +10,7 @@ pub mod operand;
 pub mod refusal;
 mod scale;
 
+pub use aligning::align;
 pub use bounding::between;
 pub use comparing::compare;
 pub use computing::{add, multiply, subtract};

@@ -1,0 +1,96 @@
+-- Calls of functions on items. Of values of kinds some functions take those that meet in a kind: each becomes the
+-- integer that stores it in that kind.
+use Rattle.std.specs.Prelude.{ℕ, List, [], ◌∷◌, Bool, true, false, ◌||◌, if◌then◌else◌}
+use Rattle.vortex_logical.specs.declared.kind.Kind.{Kind}
+use Rattle.vortex_logical.specs.declared.kind.Kind.TheVariants.{Plain}
+use Rattle.vortex_logical.specs.declared.operand.Operand.{Operand}
+use Rattle.vortex_logical.specs.declared.operand.Operand.TheVariants.{Of}
+use Rattle.vortex_logical_calls.specs.Alignment.{meet_next, aligned}
+use Rattle.vortex_sql_rows.specs.declared.types.Takes.{Takes}
+use Rattle.vortex_sql_rows.specs.declared.types.Takes.TheVariants.{Cases}
+use Rattle.vortex_standard.specs.declared.standard.Standard.{Standard}
+use Rattle.vortex_standard.specs.declared.standard.Standard.TheVariants as standard
+use Rattle.vortex_standard.specs.Standard.{row_of}
+use Rattle.vortex_standard.specs.Names.{standard_named}
+use Rattle.vortex_expressions.specs.declared.refusal.Refusal.TheVariants.{NoFunction}
+use Rattle.vortex_expressions.specs.Outcomes.{Outcome, answers, and_then, or_refuses}
+use Rattle.vortex_expressions.specs.Items.{Item, bound, Tree, as_item}
+use Rattle.vortex_expressions.specs.Applied.{values_of, function_call}
+use Rattle.vortex_expressions.specs.Kinded.{told, first_kind, is_plain, item_operand, value_item}
+
+-- functions that return one of their values
+abbrev pub is_choice : Standard → Bool
+is_choice standard.Coalesce = true
+is_choice standard.NullIf = true
+is_choice standard.Case = true
+is_choice (standard.Extreme e) = true
+is_choice f = false
+
+-- functions that compare their values
+abbrev pub is_test : Standard → Bool
+is_test standard.InList = true
+is_test standard.IsDistinct = true
+is_test f = false
+
+-- the values among the arguments: cases have conditions too
+abbrev pub values_in : Takes → List Item → List Item
+values_in Cases is = values_of is
+values_in s is = is
+
+-- the kind of the first value with one, where the function takes values of kinds
+abbrev pub call_kind : Standard → List Item → Kind
+call_kind f is =
+    if is_choice f || is_test f then first_kind (values_in (row_of f).types.takes is) else Plain
+
+-- the kind in which values meet, from left to right
+abbrev pub met_with : Kind → Operand → Item → Outcome Operand
+met_with k a i = and_then (item_operand k i) (λ x. told (meet_next a x.operand))
+
+abbrev pub met_values : Kind → Operand → List Item → Outcome Operand
+met_values k a [] = answers a
+met_values k a (i ∷ is) = and_then (met_with k a i) (λ b. met_values k b is)
+
+-- a value as the integer that stores it in the common kind
+abbrev pub aligned_item : Kind → Operand → Item → Outcome Item
+aligned_item k a i = and_then (item_operand k i) (λ x. as_item (told (aligned a x)))
+
+abbrev pub aligned_items : Kind → Operand → List Item → Outcome (List Item)
+aligned_items k a [] = answers []
+aligned_items k a (i ∷ is) =
+    and_then (aligned_item k a i) (λ j. and_then (aligned_items k a is) (λ js. answers (j ∷ js)))
+
+-- of cases, the conditions stay
+abbrev pub aligned_cases : Kind → Operand → List Item → Outcome (List Item)
+aligned_cases k a [] = answers []
+aligned_cases k a (v ∷ []) = and_then (aligned_item k a v) (λ j. answers (j ∷ []))
+aligned_cases k a (c ∷ v ∷ is) =
+    and_then (aligned_item k a v) (λ j. and_then (aligned_cases k a is)
+    (λ js. answers (c ∷ j ∷ js)))
+
+abbrev pub aligned_arguments : Takes → Kind → Operand → List Item → Outcome (List Item)
+aligned_arguments Cases k a is = aligned_cases k a is
+aligned_arguments s k a is = aligned_items k a is
+
+-- what is chosen has the common kind
+abbrev pub result_item : Standard → Operand → Tree → Item
+result_item f a t = if is_choice f then value_item a t else bound t
+
+-- the call on integers in that kind
+abbrev pub call_in : Standard → Kind → Operand → List Item → Outcome Item
+call_in f k a is =
+    and_then (aligned_arguments (row_of f).types.takes k a is) (λ js.
+    and_then (function_call f js) (λ t. answers (result_item f a t)))
+
+-- the call on values of which one has that kind
+abbrev pub kinded_call : Standard → Kind → List Item → Outcome Item
+kinded_call f k is =
+    and_then (met_values k (Of k) (values_in (row_of f).types.takes is)) (λ a. call_in f k a is)
+
+abbrev pub function_item : Standard → List Item → Outcome Item
+function_item f is =
+    let k = call_kind f is in
+    if is_plain k then as_item (function_call f is) else kinded_call f k is
+
+-- the call of the function of that name
+abbrev pub applied_item : List ℕ → List Item → Outcome Item
+applied_item w is = and_then (or_refuses NoFunction (standard_named w)) (λ f. function_item f is)
