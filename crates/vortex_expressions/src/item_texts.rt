@@ -72,7 +72,10 @@ pub(crate) fn push_literals(out: &mut String, items: &[Item]) -> VortexResult<bo
 }
 
 /// What is said before a number that is not written as a whole one.
-const NOT_WHOLE: &str = "numbers are whole, without a point or an exponent: ";
+const NOT_WHOLE: &str = "numbers are whole here, without a point or an exponent: ";
+
+/// What is said after it.
+const AS_FLOAT: &str = " (n::f64 is n as a float)";
 
 /// Whether it is a number with a point or an exponent.
 pub(crate) fn is_fraction(literal: &Literal) -> bool {
@@ -88,5 +91,7 @@ pub(crate) fn is_fraction(literal: &Literal) -> bool {
 /// That the number is not written as a whole one.
 pub(crate) fn push_fraction(out: &mut String, literal: &Literal) -> VortexResult<()> {
     out.push_str(NOT_WHOLE)?;
-    push_literal(out, literal)
+    push_literal(out, literal)?;
+    out.push_str(AS_FLOAT)?;
+    Ok(())
 }

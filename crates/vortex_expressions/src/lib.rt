@@ -22,6 +22,7 @@ mod like_tasks;
 mod literal;
 mod meeting;
 mod messages;
+mod patterns;
 pub mod quotes;
 pub mod read;
 pub mod refusal;
