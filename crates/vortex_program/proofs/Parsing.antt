@@ -13,7 +13,7 @@ use Rattle.vortex_expressions.specs.declared.error.TextError.{TextError}
 use Rattle.vortex_expressions.specs.declared.refusal.Refusal.{Refusal}
 use Rattle.vortex_expressions.specs.Outcomes.{Outcome, answers, refuses, missing, and_then}
 use Rattle.vortex_logical.specs.declared.kind.Kind.{Kind}
-use Rattle.vortex_expressions.specs.Calls.{column_in}
+use Rattle.vortex_expressions.specs.Calls.{names_in}
 use Rattle.vortex_expressions.specs.Stacks.{logical_left}
 use Rattle.vortex_expressions.specs.Binding.{LogicalTree, ended, logical_of, IsRefusedLogical}
 use Rattle.vortex_expressions.specs.Answers.{Answer, with_name, with_first, answers_left}
@@ -65,7 +65,7 @@ module _ (scope : Fields) (kinds : List Kind) (text : List ℕ) (ts : List Told)
       with_first (and_then (logical_left scope kinds ss) (with_name None)) (answers []))
       (one_tree text parsed.tree u parsed.read s)
       ∙ ap (λ o. with_first (and_then o (with_name None)) (answers []))
-      (left-is (column_in scope kinds) ended u)
+      (left-is (names_in scope kinds) ended u)
       ∙ one_left (logical_of scope kinds u)
 
   meant : (o : Outcome LogicalTree) (list : List Answer) → logical_of scope kinds parsed.tree ≡ o
