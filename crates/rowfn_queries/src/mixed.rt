@@ -5,7 +5,7 @@ use crate::inference::is_numeric;
 use crate::scopes::is_in_names;
 use std::alloc::{AllocError, Global};
 use std::{fmt, str};
-use vortex_columns::{DType, StructFields};
+use vortex_columns::{DType, StructFields, VortexError};
 use vortex_expressions::{Reason, Refusal, TextError};
 
 /// How many bytes of a field are reported, at most.
@@ -139,7 +139,9 @@ pub(crate) fn mixed_columns(
 fn is_of_types(error: &TextError) -> bool {
     matches!(
         &error.reason,
-        Reason::Refused(Refusal::NotHeld | Refusal::Kinds(_) | Refusal::Binding(_))
+        Reason::Refused(
+            Refusal::NotHeld | Refusal::Kinds(_) | Refusal::Binding(VortexError::TypeMismatch(_))
+        )
     )
 }
 
