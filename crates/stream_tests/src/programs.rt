@@ -17,8 +17,12 @@ pub(crate) fn asked(question: &Question) -> Request<'_> {
 /// The question of columns and an expression, with a colon and a blank between.
 pub(crate) fn read_asked(alloc: Global, text: &str) -> Option<Question> {
     let (columns, expression) = text.split_once(": ")?;
-    let Declared { columns, places } = read_scope(alloc, columns).ok()?;
-    let program = Program::read(alloc, columns, Vec::new(alloc), expression).ok()?;
+    let Declared {
+        columns,
+        kinds,
+        places,
+    } = read_scope(alloc, columns).ok()?;
+    let program = Program::read(alloc, columns, kinds, expression).ok()?;
     Some(Question { program, places })
 }
 
