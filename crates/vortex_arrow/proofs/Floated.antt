@@ -15,7 +15,7 @@ use Rattle.vortex_columns.specs.Made.{int_column}
 use Rattle.vortex_columns.specs.ValidityView.{ValidityView, form_allows_null}
 use Rattle.vortex_arrow.specs.Layouts.{numbers}
 use Rattle.vortex_arrow.specs.Columns.{column_from}
-use Rattle.vortex_arrow.specs.Written.{AreCopied, rows_of}
+use Rattle.vortex_arrow.specs.Written.{AreCopied}
 use Rattle.vortex_arrow.specs.Floats.{with_number}
 use Rattle.vortex_arrow.proofs.Rows.{integers_from, made_of_same}
 

@@ -34,6 +34,7 @@ layout_of (arrow.UInt32 xs) = numbers U32 (map pos xs.now)
 layout_of (arrow.UInt64 xs) = numbers U64 (map pos xs.now)
 layout_of (arrow.Date xs) = numbers I32 (map (λ x. x) xs.now)
 layout_of (arrow.Timestamp xs) = numbers I64 (map (λ x. x) xs.now)
+layout_of (arrow.Decimal p s xs) = numbers I64 (map (λ x. x) xs.now)
 layout_of (arrow.Float64 xs) = numbers I64 (map wide_key xs.now)
 layout_of (arrow.Float32 xs) = numbers I32 (map narrow_key xs.now)
 layout_of (arrow.Utf8 os bs) = offsets true (map (λ x. x) os.now) bs.now

@@ -183,6 +183,7 @@ fn has_items(values: ArrowValues<'_>, from: usize, count: usize) -> bool
         ArrowValues::UInt64(values) => items <= values.len() as u128,
         ArrowValues::Date(values) => items <= values.len() as u128,
         ArrowValues::Timestamp(values) => items <= values.len() as u128,
+        ArrowValues::Decimal { values, .. } => items <= values.len() as u128,
         ArrowValues::Float64(patterns) => items <= patterns.len() as u128,
         ArrowValues::Float32(patterns) => items <= patterns.len() as u128,
         ArrowValues::Utf8 { offsets, .. } => count == 0 || items < offsets.len() as u128,
@@ -259,6 +260,7 @@ fn read_values(
         ArrowValues::UInt64(values) => read_integers(alloc, values, from, count, validity),
         ArrowValues::Date(days) => read_integers(alloc, days, from, count, validity),
         ArrowValues::Timestamp(times) => read_integers(alloc, times, from, count, validity),
+        ArrowValues::Decimal { values, .. } => read_integers(alloc, values, from, count, validity),
         ArrowValues::Float64(patterns) => {
             read_wide_floats(alloc, patterns, from, count, validity)
         }

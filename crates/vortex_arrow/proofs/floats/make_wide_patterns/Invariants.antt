@@ -1,4 +1,4 @@
-use Rattle.std.proofs.Common.{◌≡◌, map, take, drop, length}
+use Rattle.std.proofs.Common.{◌≡◌, map, take, drop}
 use Rattle.vortex_arrow.specs.Floats.{wide_pattern}
 use Rattle.vortex_arrow.proofs.floats.make_wide_patterns.Given as goal
 

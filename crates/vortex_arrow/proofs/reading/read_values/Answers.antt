@@ -109,6 +109,15 @@ returns-in-Timestamp c =
     (plain_answer (numbers I64 (map (λ x. x) c.in-Timestamp.times.now)) v c.args.from c.args.count c.read_integers-in-Timestamp.result
     (record { lie = λ i h. tt; room = tt; texts = λ i h. tt }) c.read_integers-in-Timestamp.ensures)
 
+pub returns-in-Decimal : goal.returns-in-Decimal
+returns-in-Decimal c =
+    let v = validity_of c.args.validity in
+    subst
+    (λ (w : ArrowValues). AnswersValues c.read_integers-in-Decimal.result (layout_of w) v c.args.from c.args.count)
+    (sym c.in-Decimal.is)
+    (plain_answer (numbers I64 (map (λ x. x) c.in-Decimal.values.now)) v c.args.from c.args.count c.read_integers-in-Decimal.result
+    (record { lie = λ i h. tt; room = tt; texts = λ i h. tt }) c.read_integers-in-Decimal.ensures)
+
 pub returns-in-Float64 : goal.returns-in-Float64
 returns-in-Float64 c =
     let v = validity_of c.args.validity in
