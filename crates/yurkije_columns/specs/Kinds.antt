@@ -7,7 +7,6 @@ use Rattle.vortex_types.specs.declared.dtype.PType.TheVariants.{I8, I16, I32, I6
 use Rattle.vortex_types.specs.declared.dtype.PType.TheVariants.{U64}
 use Rattle.vortex_types.specs.LogicalTypes.{LogicalType, bool_type, integer_type, text_type}
 use Rattle.vortex_types.specs.LogicalTypes.{bytes_type}
-use Rattle.vortex_logical.specs.Digits.{digits_of}
 use Rattle.vortex_logical.specs.Kinds.{decimal_kind}
 use Rattle.vortex_logical.specs.declared.kind.Kind as logical
 use Rattle.vortex_logical.specs.declared.kind.Kind.TheVariants as means

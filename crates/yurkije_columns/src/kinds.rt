@@ -1,5 +1,5 @@
 //! Kinds of values, by the numbers that callers have for them.
-ghost use Rattle.std.specs.Prelude.{◌≡◌};
+ghost use Rattle.std.specs.Prelude.{◌≡◌, MatchOption, slice_get, None, Some};
 ghost use Rattle.vortex_types.specs.TypeOf.{type_of, allows_null};
 ghost use Rattle.vortex_types.specs.LogicalTypes.{is_nullable};
 ghost use Rattle.yurkije_columns.specs.Kinds.{kind_numbered, kind_type, type_number, integer_number};
@@ -199,11 +199,19 @@ pub fn kind_number(kind: &LogicalKind) -> u32
     }
 }
 
+/// The kind at a place in a list.
+fn listed_kind(kinds: &[LogicalKind], place: usize) -> Option<&LogicalKind>
+    ensures { MatchOption result (slice_get kinds.now place ≡ None)
+        (λ k. slice_get kinds.now place ≡ Some k.now) }
+{
+    kinds.get(place)
+}
+
 /// The number of what the values at a place mean. Those behind the list are plain.
 pub fn number_at(kinds: &[LogicalKind], place: usize) -> u32
     ensures { result ≡ number_at kinds.now place }
 {
-    match kinds.get(place) {
+    match listed_kind(kinds, place) {
         Some(kind) => kind_number(kind),
         None => 0,
     }
