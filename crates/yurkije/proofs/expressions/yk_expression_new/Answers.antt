@@ -8,21 +8,11 @@ use Rattle.yurkije.proofs.ReadHeld.{read_holds}
 use Rattle.yurkije.proofs.ErrorNumbers.{refuses_in}
 use Rattle.yurkije.proofs.expressions.yk_expression_new.Goals as goal
 
-pub returns-in-Ok : goal.returns-in-Ok
-returns-in-Ok c =
-    let held = c.hold.new.expression.held in
-    let result = c.hold.result in
-    let old = c.args.error.now in
-    let report = c.hold.new.error in
-    let fields = c.placed.result.now in
-    let text = c.placed-in-Ok.result.now in
-    let read = c.read_program-read.ensures in
-    subst (λ (fs : List BorrowedField). HoldsRead fs c.args.text.now held result old report)
-    c.placed.ensures
-    (subst (λ (t : List ℕ). HoldsRead fields t held result old report) c.placed-in-Ok.ensures
-    (read_holds held result old report fields text c.in-Ok.scope c.read_program-read.result
-    c.in-Ok.ensures read.scope read.found read.kept read.only read.refused read.text
-    c.hold.ensures))
+pub returns-in-Ok-read_kinds : goal.returns-in-Ok-read_kinds
+returns-in-Ok-read_kinds c = ?
+
+pub returns-in-Err-read_kinds : goal.returns-in-Err-read_kinds
+returns-in-Err-read_kinds c = ?
 
 pub returns-in-Err : goal.returns-in-Err
 returns-in-Err c =
