@@ -62,7 +62,7 @@ class Refusals(unittest.TestCase):
     def test_a_mismatch_names_both_types(self):
         wide = Expression("a > 1", {"a": "i64", "f": "i8"})
         cases = {
-            "i32": np.array([1], np.int32), "bool": [True], "utf8": ["x"], "u8": np.array([1], np.uint8), "float64": np.array([1.5]), "float": [1.5],
+            "i32": np.array([1], np.int32), "bool": [True], "utf8": ["x"], "u8": np.array([1], np.uint8), "f64": np.array([1.5]), "f32": [np.float32(1.5)],
             "object": [object()], "binary": np.array([b"x"]), "ndarray": [np.zeros(1)],
         }  # fmt: skip
         for found, values in cases.items():
@@ -98,9 +98,9 @@ class Refusals(unittest.TestCase):
 
     def test_types_that_are_not_taken_are_named(self):
         cases = {
-            "float64": np.array([1.5]), "datetime64": np.array(["2026-11-27"], "datetime64[D]"), "float": [1.5], "complex128": np.array([1j]),
+            "float16": np.array([1.5], np.float16), "datetime64 without a unit": np.array(["NaT"], "datetime64"), "complex128": np.array([1j]),
             "2 dimensions": np.zeros((1, 1), np.int64), "every row is null, and no type is said": [None], "str": "text", "'x' is no i64, but utf8": [1, "x"],
-            "True is no i64, but bool": [1, True], "9223372036854775808 is no i64": [2**63], "there is no row, and no type is said": [], "1.5 is no i64, but float": [1, 1.5],
+            "True is no i64, but bool": [1, True], "9223372036854775808 is no i64": [2**63], "there is no row, and no type is said": [], "1.5 is no i64, but f64": [1, 1.5],
             "timedelta64 is not taken": [np.timedelta64(5)], "no i64, but timedelta64": [1, np.timedelta64(5)], "Int64DType is not taken|dtype": np.dtype("i8"),
         }  # fmt: skip
         for words, values in cases.items():
