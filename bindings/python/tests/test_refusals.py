@@ -30,7 +30,7 @@ class Refusals(unittest.TestCase):
         self.refused(ExpressionError, lambda: Expression("a", {"a": "int"}), number=113, name="UnknownType", column="a")
 
     def test_a_text_that_is_wrong_is_told_before_any_column(self):
-        floats, twice = np.array([1.5]), np.zeros((1, 2))
+        floats, twice = np.array([1.5], np.float16), np.zeros((1, 2))
         for columns in ({"a": [1], "f": floats}, {"a": floats, "f": floats}, {"f": twice, "a": [object()]}, {"f": [], "a": [1]}):
             for ask in (evaluate, select, mask):
                 self.refused(ExpressionError, lambda: ask("a => 1", columns), number=112, byte=3)
@@ -41,7 +41,7 @@ class Refusals(unittest.TestCase):
                 self.refused(ExpressionError, lambda: ask("a is null or 3::float = 1", columns), number=113)
         # if the text may be right, the column is reported
         self.refused(ColumnError, lambda: select("a + 1 > 2 and f = 'x'", {"f": floats, "a": floats}), number=140, column="f")
-        self.refused(ColumnError, lambda: select("a = 1", {"f": floats, "a": [1.5]}), number=140, column="a")
+        self.refused(ColumnError, lambda: select("a = 1", {"f": floats, "a": [1.5j]}), number=140, column="a")
         self.refused(ExpressionError, lambda: Expression("a => 1", {"a": "int", "f": "float"}), number=112)
         self.refused(ExpressionError, lambda: Expression("a = 1", {"a": "int", "f": "float"}), number=113, column="a")
         # a near name may be that of any column, whatever its type
