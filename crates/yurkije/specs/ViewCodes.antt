@@ -59,7 +59,7 @@ kind_back (kind.Decimal d) = refl
 kind_back kind.F64 = refl
 kind_back kind.F32 = refl
 
-abbrev coded_kind : Coded Kind
+pub coded_kind : Coded Kind
 coded_kind =
     code_by (ℕ × (ℕ × ℕ)) (coded× coded_ℕ (coded× coded_ℕ coded_ℕ)) kind_code kind_coded kind_back
 
