@@ -11,7 +11,6 @@ use Rattle.vortex_pruning.specs.Groups.{AllFrom}
 use Rattle.vortex_pruning.proofs.GroupsPruned.{all_more}
 use Rattle.yurkije_columns.specs.declared.borrowed.BorrowedColumn.{BorrowedColumn}
 use Rattle.yurkije_pruning.specs.declared.lent.BorrowedStatistics.{BorrowedStatistics}
-use Rattle.yurkije_pruning.specs.declared.error.Part.{Part}
 use Rattle.yurkije_pruning.specs.declared.error.PartFault.{PartFault}
 use Rattle.yurkije_pruning.specs.declared.error.PartFault.TheVariants as fault
 use Rattle.yurkije_pruning.specs.declared.error.PruneError.{PruneError}
