@@ -4,7 +4,7 @@
  * An expression is a text over named fields, `price * stock as worth, name like 'a%'`. It is read
  * once, and then run over as many batches of columns as there are. Columns are read where they lie,
  * in the layout of Apache Arrow: each run copies each that an answer reads once, part by part where
- * all are truth values or integers, and keeps nothing of the caller's. Answers are columns, which are
+ * none is of texts or byte strings, and keeps nothing of the caller's. Answers are columns, which are
  * copied into buffers of the caller in the same layout.
  *
  *     struct yk_expression expression;
@@ -67,8 +67,8 @@
  * - Where memory is refused, a call answers YK_OUT_OF_MEMORY and leaks nothing. It never aborts.
  * - Calls read nothing outside of the slices that they are handed, whatever stands in them.
  *
- * A batch of which the columns that are read and the answers are all truth values or integers runs in
- * parts of 2,048 rows, and may have any number of rows. With texts or byte strings batches of some 8,192 rows run fastest: for
+ * A batch of which no column that is read and no answer is of texts or byte strings runs in parts of
+ * 2,048 rows, and may have any number of rows. With texts or byte strings batches of some 8,192 rows run fastest: for
  * larger ones the C library may give memory back to the system and fetch it again at each call.
  */
 #ifndef YURKIJE_H

@@ -1,5 +1,5 @@
 -- What is told of groups that are pruned, or are not.
-use Rattle.std.proofs.Common.{◌≡◌, ◌∙◌, ℕ, List, map, length, Option, Some, sym, ap, subst, refl}
+use Rattle.std.proofs.Common.{◌≡◌, ◌∙◌, ℕ, List, map, length, Option, Some, sym, ap, subst}
 use Rattle.std.specs.Prelude.{Result, MatchResult, String, string_bytes, slice_get, option_map}
 use Rattle.std.proofs.lemmas.Option.{slice_get-map}
 use Rattle.std.specs.declared.alloc.Global.{Global}

@@ -1,7 +1,6 @@
 -- What a handle holds of a text that was read, or why it holds nothing.
 use Rattle.std.proofs.Common.{◌≡◌, ◌∙◌, ℕ, List, Option, Vec, Global, sym, ap, subst, map, inl, inr}
 use Rattle.std.specs.Prelude.{Result, Ok, Err, IfOk, IfErr, MatchResult, IsUtf8}
-
 use Rattle.vortex_types.specs.declared.dtype.StructFields.{StructFields}
 use Rattle.vortex_types.specs.TypeOf.{struct_fields}
 use Rattle.vortex_logical.specs.declared.kind.Kind.{Kind}

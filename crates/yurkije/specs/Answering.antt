@@ -99,7 +99,8 @@ Masks c old new result =
     ⊎ ((e : CopyError) × RefusesMask c (length old) e × (new ≡ old) × (result ≡ copy_status e))
 
 -- the answers are held, or memory ran out
-abbrev pub KeepsOrWants : List ColumnView → List Kind → Option HeldView → ℕ → Report → Report → Type 0
+abbrev pub KeepsOrWants : List ColumnView → List Kind → Option HeldView → ℕ → Report → Report
+    → Type 0
 KeepsOrWants columns kinds held result old report =
     ((answers_in held ≡ Some columns) × (kinds_in held ≡ kinds) × Done result old report)
     ⊎ Wants held result old report

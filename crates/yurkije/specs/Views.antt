@@ -9,8 +9,8 @@ use Rattle.yurkije_core.specs.declared.expression.Expression.{Expression}
 use Rattle.yurkije.specs.declared.content.Content.{Content}
 use Rattle.yurkije.specs.declared.content.Content.TheVariants as content
 
--- its scope and the kinds of the fields' values, the names of its answers and their kinds, their trees
--- as they were written and as they are run, and for each field whether one of them reads it
+-- its scope and the kinds of its fields, the names of its answers and their kinds, their trees as
+-- they were written and as they are run, and for each field whether one of them reads it
 pub record ProgramView : Type 0 where
   pub scope : Fields
   pub kinds : List Kind
