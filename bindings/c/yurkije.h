@@ -4,7 +4,7 @@
  * An expression is a text over named fields, `price * stock as worth, name like 'a%'`. It is read
  * once, and then run over as many batches of columns as there are. Columns are read where they lie,
  * in the layout of Apache Arrow: each run copies each that an answer reads once, part by part where
- * all are truth values or integers, and keeps nothing of the caller's. Answers are columns, which are
+ * none is of texts or byte strings, and keeps nothing of the caller's. Answers are columns, which are
  * copied into buffers of the caller in the same layout.
  *
  *     struct yk_expression expression;
@@ -67,8 +67,8 @@
  * - Where memory is refused, a call answers YK_OUT_OF_MEMORY and leaks nothing. It never aborts.
  * - Calls read nothing outside of the slices that they are handed, whatever stands in them.
  *
- * A batch of which the columns that are read and the answers are all truth values or integers runs in
- * parts of 2,048 rows, and may have any number of rows. With texts or byte strings batches of some 8,192 rows run fastest: for
+ * A batch of which no column that is read and no answer is of texts or byte strings runs in parts of
+ * 2,048 rows, and may have any number of rows. With texts or byte strings batches of some 8,192 rows run fastest: for
  * larger ones the C library may give memory back to the system and fetch it again at each call.
  */
 #ifndef YURKIJE_H
@@ -108,7 +108,7 @@ enum yk_status {
     YK_EMPTY_HANDLE = 100,       /* the handle holds nothing */
     YK_NO_SUCH_NUMBER = 101,     /* there is no answer, or no field, of that number */
     YK_UNKNOWN_KIND = 102,       /* a kind that is none */
-    YK_OTHER_KIND = 103,         /* the answer is of another kind than is asked for */
+    YK_OTHER_KIND = 103,         /* the answer is of another kind than is asked for: a date is no int32_t */
     YK_ROOM_TOO_SMALL = 104,     /* a text has more bytes than there is room */
 
     /* Why a text is no expression. */
@@ -121,6 +121,7 @@ enum yk_status {
     YK_NO_ESCAPE = 116,          /* the escape of a LIKE is more than one character */
     YK_NO_CAST = 117,            /* no cast leads to that type */
     YK_NO_FUNCTION = 118,        /* no function has that name */
+    YK_NOT_OF_KIND = 119,        /* a literal is no date, timestamp, decimal or float, as it stands beside one */
 
     /* Why a column is not read, or an answer not copied. */
     YK_VALIDITY_TOO_SHORT = 120, /* fewer bits than the rows take */
@@ -138,7 +139,10 @@ enum yk_status {
     YK_CONTRADICTION = 132       /* the statistics of a field contradict themselves in a group */
 };
 
-/* Kinds of values. Of texts and byte strings a kind says the layout of a column too; where only a
+/* Kinds of values. Those from YK_F64 on came after the first: a library that does not have them answers
+ * YK_UNKNOWN_KIND, and no struct has changed with them. What lies in a column of theirs is not checked:
+ * days and microseconds may be out of the years that a text can name, and decimals may have more digits
+ * than their kind. Of texts and byte strings a kind says the layout of a column too; where only a
  * type is meant, in fields, each of the three layouts stands for the type, and the library answers
  * YK_UTF8 and YK_BINARY. */
 enum yk_kind {
@@ -157,8 +161,21 @@ enum yk_kind {
     YK_UTF8_VIEW = 12,     /* by views of 16 bytes; not as a room */
     YK_BINARY = 13,        /* byte strings, by offsets of 32 bits */
     YK_LARGE_BINARY = 14,
-    YK_BINARY_VIEW = 15
+    YK_BINARY_VIEW = 15,
+    YK_F64 = 16,           /* floats, as `double`. A NaN equals a NaN and is the greatest; -0 is read as 0 */
+    YK_F32 = 17,           /* floats, as `float` */
+    YK_DATE = 18,          /* days since 1970-01-01, as `int32_t` */
+    YK_TIMESTAMP = 19,     /* microseconds since 1970-01-01T00:00:00, as `int64_t` */
+    YK_DECIMAL64 = 20      /* the last byte of a kind of decimals: see YK_DECIMAL */
 };
+
+/* The kind of decimals of at most `precision` digits, 1 to 18, of which the last `scale` stand after
+ * the point: as the integers of their digits without the point, of `int64_t`. 12.50 in two places is
+ * 1250. YK_DECIMAL_PRECISION and YK_DECIMAL_SCALE say what such a kind has; `kind & 255` is
+ * YK_DECIMAL64 of each of them, and of no other kind. */
+#define YK_DECIMAL(precision, scale) ((uint32_t)(YK_DECIMAL64 + 256 * (precision) + 65536 * (scale)))
+#define YK_DECIMAL_PRECISION(kind) ((kind) / 256 % 256)
+#define YK_DECIMAL_SCALE(kind) ((kind) / 65536)
 
 /* Where there is no answer, column, row or byte to tell. */
 #define YK_NONE SIZE_MAX
@@ -174,6 +191,8 @@ struct yk_i8s { const int8_t *at; size_t length; };
 struct yk_i16s { const int16_t *at; size_t length; };
 struct yk_i32s { const int32_t *at; size_t length; };
 struct yk_i64s { const int64_t *at; size_t length; };
+struct yk_f32s { const float *at; size_t length; };
+struct yk_f64s { const double *at; size_t length; };
 struct yk_u16s { const uint16_t *at; size_t length; };
 struct yk_u32s { const uint32_t *at; size_t length; };
 struct yk_u64s { const uint64_t *at; size_t length; };
@@ -187,6 +206,8 @@ struct yk_i8s_room { int8_t *at; size_t length; };
 struct yk_i16s_room { int16_t *at; size_t length; };
 struct yk_i32s_room { int32_t *at; size_t length; };
 struct yk_i64s_room { int64_t *at; size_t length; };
+struct yk_f32s_room { float *at; size_t length; };
+struct yk_f64s_room { double *at; size_t length; };
 struct yk_u16s_room { uint16_t *at; size_t length; };
 struct yk_u32s_room { uint32_t *at; size_t length; };
 struct yk_u64s_room { uint64_t *at; size_t length; };
@@ -236,8 +257,14 @@ struct yk_column {
     struct yk_bytes bools;       /* likewise: set where it is true */
     struct yk_i8s i8;
     struct yk_i16s i16;
-    struct yk_i32s i32;
-    struct yk_i64s i64;
+    union {
+        struct yk_i32s i32;      /* of YK_DATE too */
+        struct yk_f32s f32;
+    };
+    union {
+        struct yk_i64s i64;      /* of YK_TIMESTAMP and decimals too */
+        struct yk_f64s f64;
+    };
     struct yk_bytes u8;
     struct yk_u16s u16;
     struct yk_u32s u32;
@@ -256,7 +283,8 @@ struct yk_column {
 struct yk_statistics {
     struct yk_column low;        /* of the field's type: no row that is not null is below it. It need not
                                     be the value of a row: a text that was cut off is a low end */
-    struct yk_column high;       /* of the field's type: no row that is not null is above it */
+    struct yk_column high;       /* of the field's type: no row that is not null is above it. A NaN is the
+                                    greatest float, so ends that leave out NaNs are no ends where there is one */
     struct yk_column nulls;      /* YK_U64: how many rows are null */
 };
 
@@ -279,7 +307,7 @@ struct yk_verdicts {
 struct yk_size {
     size_t rows;
     size_t validity;             /* bytes of bits */
-    size_t values;               /* integers, or bytes of truth values; 0 of texts */
+    size_t values;               /* integers or floats, or bytes of truth values; 0 of texts */
     size_t offsets;              /* rows + 1 of texts and byte strings, else 0 */
     size_t data;                 /* bytes of texts and byte strings, else 0 */
 };
@@ -292,8 +320,14 @@ struct yk_room {
     struct yk_bytes_room bools;
     struct yk_i8s_room i8;
     struct yk_i16s_room i16;
-    struct yk_i32s_room i32;
-    struct yk_i64s_room i64;
+    union {
+        struct yk_i32s_room i32; /* of YK_DATE too */
+        struct yk_f32s_room f32;
+    };
+    union {
+        struct yk_i64s_room i64; /* of YK_TIMESTAMP and decimals too */
+        struct yk_f64s_room f64;
+    };
     struct yk_bytes_room u8;
     struct yk_u16s_room u16;
     struct yk_u32s_room u32;

@@ -22,6 +22,10 @@ static const struct layout layouts[] = {
     {"Z", YK_LARGE_BINARY, 3, 8},
     {"vu", YK_UTF8_VIEW, 3, 1},
     {"vz", YK_BINARY_VIEW, 3, 1},
+    {"g", YK_F64, 2, 8},
+    {"f", YK_F32, 2, 4},
+    {"tdD", YK_DATE, 2, 4},
+    {"tsu:", YK_TIMESTAMP, 2, 8},
 };
 
 static const size_t layout_count = sizeof layouts / sizeof *layouts;
@@ -45,14 +49,12 @@ static const char *format_name(const char *format) {
     static const char *const names[][2] = {
         {"n", "null"},
         {"e", "float16"},
-        {"f", "float32"},
-        {"g", "float64"},
         {"d:", "decimal"},
         {"w:", "fixed-size binary"},
-        {"tdD", "date32"},
         {"tdm", "date64"},
         {"tt", "time"},
-        {"ts", "timestamp"},
+        {"tsu:", "timestamp in a time zone"},
+        {"ts", "timestamp in other units than microseconds"},
         {"tD", "duration"},
         {"ti", "interval"},
         {"+l", "list"},
@@ -213,8 +215,12 @@ static void set_values(const void *at, struct yk_column *column) {
     case YK_BOOL: column->bools = (struct yk_bytes){at, yk_bytes_for(end)}; break;
     case YK_I8: column->i8 = (struct yk_i8s){at, end}; break;
     case YK_I16: column->i16 = (struct yk_i16s){at, end}; break;
-    case YK_I32: column->i32 = (struct yk_i32s){at, end}; break;
-    case YK_I64: column->i64 = (struct yk_i64s){at, end}; break;
+    case YK_I32:
+    case YK_DATE: column->i32 = (struct yk_i32s){at, end}; break;
+    case YK_I64:
+    case YK_TIMESTAMP: column->i64 = (struct yk_i64s){at, end}; break;
+    case YK_F32: column->f32 = (struct yk_f32s){at, end}; break;
+    case YK_F64: column->f64 = (struct yk_f64s){at, end}; break;
     case YK_U8: column->u8 = (struct yk_bytes){at, end}; break;
     case YK_U16: column->u16 = (struct yk_u16s){at, end}; break;
     case YK_U32: column->u32 = (struct yk_u32s){at, end}; break;

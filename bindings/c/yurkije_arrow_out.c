@@ -41,7 +41,7 @@ static uint32_t fill_child(const struct yk_expression *expression, size_t answer
         return yk_refuse(error, status, YK_NONE, "answer %zu has no type", answer);
     const struct layout *layout = yk_layout_of_kind(type.kind);
     if (!layout)
-        return yk_refuse(error, YK_OTHER_KIND, YK_NONE, "answer %zu is a list or a struct", answer);
+        return yk_refuse(error, YK_OTHER_KIND, YK_NONE, "answer %zu is a %s", answer, (type.kind & 255) == YK_DECIMAL64 ? "decimal" : "list or a struct");
     char *name = name_of_answer(expression, answer);
     if (!name)
         return yk_refuse_memory(error);
@@ -156,8 +156,12 @@ static struct yk_room room_at(struct held *held, uint32_t kind, size_t start, co
     case YK_BOOL: room.bools = (struct yk_bytes_room){values, size->values}; break;
     case YK_I8: room.i8 = (struct yk_i8s_room){(int8_t *)(void *)values, size->values}; break;
     case YK_I16: room.i16 = (struct yk_i16s_room){(int16_t *)(void *)values, size->values}; break;
-    case YK_I32: room.i32 = (struct yk_i32s_room){(int32_t *)(void *)values, size->values}; break;
-    case YK_I64: room.i64 = (struct yk_i64s_room){(int64_t *)(void *)values, size->values}; break;
+    case YK_I32:
+    case YK_DATE: room.i32 = (struct yk_i32s_room){(int32_t *)(void *)values, size->values}; break;
+    case YK_I64:
+    case YK_TIMESTAMP: room.i64 = (struct yk_i64s_room){(int64_t *)(void *)values, size->values}; break;
+    case YK_F32: room.f32 = (struct yk_f32s_room){(float *)(void *)values, size->values}; break;
+    case YK_F64: room.f64 = (struct yk_f64s_room){(double *)(void *)values, size->values}; break;
     case YK_U8: room.u8 = (struct yk_bytes_room){values, size->values}; break;
     case YK_U16: room.u16 = (struct yk_u16s_room){(uint16_t *)(void *)values, size->values}; break;
     case YK_U32: room.u32 = (struct yk_u32s_room){(uint32_t *)(void *)values, size->values}; break;

@@ -23,12 +23,12 @@ static uint8_t views[4][16] = {{3, 0, 0, 0, 'n', 'u', 't'}, {32, 0, 0, 0, 'a', '
 static const void *of_i64[] = {valid, i64s}, *of_bools[] = {valid, bools}, *of_texts[] = {valid, ends, data};
 static const void *of_large[] = {valid, large_ends, data}, *of_views[] = {valid, views, data, lengths};
 
-/* A batch of the columns n (l), b (b), t (u), T (U), v (vu), and f (g), which is not supported. */
+/* A batch of the columns n (l), b (b), t (u), T (U), v (vu), and f (e), which is not supported. */
 static struct ArrowSchema schemas[6], *schema_children[6], batch_schema;
 static struct ArrowArray arrays[6], *children[6], batch;
 
 static void make_batch(void) {
-    static const char *const formats[] = {"l", "b", "u", "U", "vu", "g"}, *const names[] = {"n", "b", "t", "T", "v", "f"};
+    static const char *const formats[] = {"l", "b", "u", "U", "vu", "e"}, *const names[] = {"n", "b", "t", "T", "v", "f"};
     const void **buffers[] = {of_i64, of_bools, of_texts, of_large, of_views, of_i64};
     static const int64_t counts[] = {2, 2, 3, 3, 4, 2};
     static const void *none[] = {NULL};
@@ -149,11 +149,11 @@ static void untaken(void) {
     struct yk_error error = new_error();
     make_batch();
     static const char *const cases[][2] = {
-        {"g", "float64"},
-        {"f", "float32"},
+        {"e", "float16"},
         {"d:10,2", "decimal"},
-        {"tdD", "date32"},
-        {"tsu:UTC", "timestamp"},
+        {"tdm", "date64"},
+        {"tsu:UTC", "timestamp in a time zone"},
+        {"tsn:", "timestamp in other units"},
         {"ttm", "time"},
         {"+l", "list"},
         {"n", "null"},
@@ -177,6 +177,52 @@ static void untaken(void) {
     schemas[5].dictionary = NULL;
     SAME(run("g", &schema, &out, &error), YK_SCOPE_MISMATCH);
     SAME(run("'f' = t and n", &schema, &out, &error), YK_TYPE_MISMATCH);
+}
+
+/* Whether the first answer of a text over the batch has that format and those values, of so many bytes a row; the third row is null. */
+static bool gives(const char *text, const char *format, const void *values, size_t width) {
+    struct ArrowSchema schema;
+    struct ArrowArray out;
+    struct yk_error error = new_error();
+    SAME(run(text, &schema, &out, &error), YK_OK);
+    const char *found = out.children[0]->buffers[1];
+    bool same = strcmp(schema.children[0]->format, format) == 0 && out.children[0]->null_count == 1;
+    same = same && memcmp(found, values, 2 * width) == 0 && memcmp(found + 3 * width, (const char *)values + 3 * width, width) == 0;
+    release(&schema, &out);
+    return same;
+}
+
+/* Floats, dates and timestamps go in and come out. */
+static void kinds(void) {
+    static const double doubles[] = {1.5, -2.25, 0, 1e300};
+    static const float floats[] = {1.5f, -2.25f, 0, 1e30f};
+    static const int32_t days[] = {0, 19723, 0, -1}, next[] = {1, 19724, 0, 0};
+    static const int64_t times[] = {0, 86400000001, 0, -1};
+    static const uint8_t above[] = {0x09}, after[] = {0x02};
+    static const void *of_doubles[] = {valid, doubles}, *of_floats[] = {valid, floats}, *of_days[] = {valid, days}, *of_times[] = {valid, times};
+    struct ArrowSchema schema;
+    struct ArrowArray out;
+    struct yk_error error = new_error();
+    make_batch();
+    schemas[5].format = "g";
+    arrays[5] = array_of(4, 2, of_doubles);
+    CHECK(gives("f", "g", doubles, sizeof *doubles));
+    SAME(run("f > 0.5", &schema, &out, &error), YK_OK);
+    SAME(*(const uint8_t *)out.children[0]->buffers[1] & 0x0b, above[0]);
+    release(&schema, &out);
+    schemas[5].format = "f";
+    arrays[5] = array_of(4, 2, of_floats);
+    CHECK(gives("f", "f", floats, sizeof *floats));
+    schemas[5].format = "tdD";
+    arrays[5] = array_of(4, 2, of_days);
+    CHECK(gives("f", "tdD", days, sizeof *days) && gives("f + 1", "tdD", next, sizeof *next));
+    SAME(run("f > '2000-01-01'", &schema, &out, &error), YK_OK);
+    SAME(*(const uint8_t *)out.children[0]->buffers[1] & 0x0b, after[0]);
+    release(&schema, &out);
+    SAME(run("f > 'soon'", &schema, &out, &error), YK_NOT_OF_KIND);
+    schemas[5].format = "tsu:";
+    arrays[5] = array_of(4, 2, of_times);
+    CHECK(gives("f", "tsu:", times, sizeof *times));
 }
 
 /* Arrays that are no batch of their schema. */
@@ -313,6 +359,7 @@ int main(void) {
     offsets();
     views_under_nulls();
     untaken();
+    kinds();
     malformed();
     streams();
     if (!faults)

@@ -199,7 +199,9 @@ static void refused_columns(void) {
     REFUSED(in[0].i64.length = 2, YK_VALUES_TOO_SHORT, 0, YK_NONE);
     REFUSED(in[0].offset = SIZE_MAX, YK_VALUES_TOO_SHORT, 0, YK_NONE);
     REFUSED(in[0].kind = YK_I32, YK_SCOPE_MISMATCH, 0, YK_NONE);
-    REFUSED(in[0].kind = 16, YK_UNKNOWN_KIND, 0, YK_NONE);
+    REFUSED(in[0].kind = 99, YK_UNKNOWN_KIND, 0, YK_NONE);
+    REFUSED(in[0].kind = YK_DECIMAL(19, 2), YK_UNKNOWN_KIND, 0, YK_NONE);
+    REFUSED(in[0].kind = YK_TIMESTAMP, YK_SCOPE_MISMATCH, 0, YK_NONE);
     REFUSED(in[0].kind = YK_NO_KIND, YK_UNKNOWN_KIND, 0, YK_NONE);
     REFUSED(in[0].nullable = true, YK_SCOPE_MISMATCH, 0, YK_NONE);
     REFUSED((in[0].validity = (struct yk_bytes){valid, 1}), YK_UNEXPECTED_NULL, 0, 2);
@@ -360,7 +362,8 @@ static void pruned(void) {
     REFUSED(in[0].high.kind = YK_I32, YK_SCOPE_MISMATCH, 0, YK_NONE);
     REFUSED(in[1].low = low, YK_SCOPE_MISMATCH, 1, YK_NONE);
     REFUSED(in[1].nulls = low, YK_SCOPE_MISMATCH, 1, YK_NONE);
-    REFUSED(in[1].nulls.kind = 16, YK_UNKNOWN_KIND, 1, YK_NONE);
+    REFUSED(in[1].nulls.kind = 99, YK_UNKNOWN_KIND, 1, YK_NONE);
+    REFUSED(in[0].low.kind = YK_TIMESTAMP, YK_SCOPE_MISMATCH, 0, YK_NONE);
     REFUSED(in[0].low.rows = 2, YK_LENGTH_MISMATCH, 0, YK_NONE);
     REFUSED(in[0].low.i64.length = 2, YK_VALUES_TOO_SHORT, 0, YK_NONE);
     REFUSED((in[0].low.validity = (struct yk_bytes){valid, 1}), YK_UNEXPECTED_NULL, 0, 2);
@@ -380,6 +383,56 @@ static void pruned(void) {
     SAME(error.status, YK_EMPTY_HANDLE);
 }
 
+/* Floats, dates and decimals: read, run, typed and copied, as a whole and part by part. */
+static void kinds(size_t rows) {
+    static double xs[10000], found_xs[10000];
+    static int32_t days[10000], found_days[10000];
+    static int64_t prices[10000], found_prices[10000];
+    static uint8_t bits[1250], mask[10000];
+    struct yk_expression expression = {0};
+    struct yk_answers answers = {0};
+    struct yk_error error = new_error();
+    struct yk_type type;
+    const struct yk_field fields[] = {{{"x", 1}, YK_F64, false}, {{"d", 1}, YK_DATE, false}, {{"p", 1}, YK_DECIMAL(12, 2), false}};
+    struct yk_column in[3] = {{.kind = YK_F64, .rows = rows}, {.kind = YK_DATE, .rows = rows}, {.kind = YK_DECIMAL(12, 2), .rows = rows}};
+    const char text[] = "x + 0.5 as y, d + 1 as e, p + 1.25 as q, p > 12.5 as dear";
+    for (size_t i = 0; i < rows; i++) {
+        xs[i] = (double)i - 3.25;
+        days[i] = (int32_t)i - 7;
+        prices[i] = (int64_t)i * 125;
+    }
+    in[0].f64 = (struct yk_f64s){xs, rows};
+    in[1].i32 = (struct yk_i32s){days, rows};
+    in[2].i64 = (struct yk_i64s){prices, rows};
+    SAME(yk_expression_new(text, sizeof text - 1, fields, 3, &expression, &error), YK_OK);
+    SAME(yk_run(&expression, in, 3, rows, &answers, &error), YK_OK);
+    struct yk_room room = {.kind = YK_F64, .validity = {bits, sizeof bits}, .f64 = {found_xs, rows}};
+    SAME(yk_answer_type(&expression, 0, &type), YK_OK);
+    SAME(type.kind, YK_F64);
+    SAME(yk_answer_copy(&answers, 0, &room), YK_OK);
+    room = (struct yk_room){.kind = YK_I64, .validity = {bits, sizeof bits}, .i64 = {found_prices, rows}};
+    SAME(yk_answer_copy(&answers, 0, &room), YK_OTHER_KIND);
+    SAME(yk_answer_type(&expression, 1, &type), YK_OK);
+    SAME(type.kind, YK_DATE);
+    room = (struct yk_room){.kind = YK_DATE, .validity = {bits, sizeof bits}, .i32 = {found_days, rows}};
+    SAME(yk_answer_copy(&answers, 1, &room), YK_OK);
+    SAME(yk_answer_type(&expression, 2, &type), YK_OK);
+    SAME(type.kind & 255, YK_DECIMAL64);
+    SAME(YK_DECIMAL_SCALE(type.kind), 2);
+    room = (struct yk_room){.kind = type.kind, .validity = {bits, sizeof bits}, .i64 = {found_prices, rows}};
+    SAME(yk_answer_copy(&answers, 2, &room), YK_OK);
+    SAME(yk_mask(&answers, 3, mask, rows), YK_OK);
+    bool same = true;
+    for (size_t i = 0; i < rows; i++)
+        same = same && found_xs[i] == xs[i] + 0.5 && found_days[i] == days[i] + 1 && found_prices[i] == prices[i] + 125 && mask[i] == (prices[i] > 1250);
+    CHECK(same);
+    in[1].kind = YK_I32;
+    SAME(yk_run(&expression, in, 3, rows, &answers, &error), YK_SCOPE_MISMATCH);
+    SAME(error.column, 1);
+    yk_answers_free(&answers);
+    yk_expression_free(&expression);
+}
+
 int main(void) {
     each_kind();
     told();
@@ -389,6 +442,8 @@ int main(void) {
     nothing();
     unread();
     pruned();
+    kinds(3);
+    kinds(10000);
     if (!faults)
         puts("calls: as expected");
     return faults != 0;

@@ -1,4 +1,5 @@
-"""Arrow's capsules: what Yurkije exports it can import again, and so are GDAL's, an independent
+"""Arrow's capsules: what Yurkije exports it can import datetime
+import again, and so are GDAL's, an independent
 producer."""
 import ctypes
 import gc
@@ -119,7 +120,7 @@ class Gdal(unittest.TestCase):
     def layer(self, count=2500):
         self.set = ogr.GetDriverByName("Memory").CreateDataSource("rows")
         layer = self.set.CreateLayer("rows", geom_type=ogr.wkbNone)
-        for name, kind in (("n", ogr.OFTInteger64), ("t", ogr.OFTString), ("f", ogr.OFTReal)):
+        for name, kind in (("n", ogr.OFTInteger64), ("t", ogr.OFTString), ("f", ogr.OFTReal), ("d", ogr.OFTDate), ("c", ogr.OFTTime)):
             layer.CreateField(ogr.FieldDefn(name, kind))
         for row in range(count):
             feature = ogr.Feature(layer.GetLayerDefn())
@@ -127,6 +128,7 @@ class Gdal(unittest.TestCase):
                 feature["n"] = row
             feature["t"] = f"t{row}"
             feature["f"] = row / 2
+            feature.SetField("d", 1970 + row // 365, 1, 1 + row % 28, 0, 0, 0, 0)
             layer.CreateFeature(feature)
         return layer
 
@@ -160,11 +162,19 @@ class Gdal(unittest.TestCase):
     def test_what_is_not_taken_is_named(self):
         layer = self.layer(3)
         with self.assertRaises(ColumnError) as caught:
-            evaluate("f > 1", Layer(layer))
+            evaluate("c > 1", Layer(layer))
         self.assertEqual(caught.exception.number, 140)
-        self.assertIn("float64", caught.exception.message)
+        self.assertIn("time", caught.exception.message)
         with self.assertRaises(ExpressionError):
             evaluate("g > 1", Layer(layer))
+
+    def test_floats_and_dates_of_a_layer(self):
+        batches = list(evaluate("f, f > 10.25 as more, d, d >= '1971-01-01' as late", Layer(self.layer(400))))
+        self.assertEqual([value for batch in batches for value in batch["f"].tolist()], [row / 2 for row in range(400)])
+        self.assertEqual([value for batch in batches for value in batch["more"].tolist()], [row > 20 for row in range(400)])
+        days = [datetime.date(1970 + row // 365, 1, 1 + row % 28) for row in range(400)]
+        self.assertEqual([value for batch in batches for value in batch["d"].tolist()], days)
+        self.assertEqual([value for batch in batches for value in batch["late"].tolist()], [day.year > 1970 for day in days])
 
     def test_a_csv_that_gdal_reads(self):
         with tempfile.TemporaryDirectory() as folder:

@@ -30,7 +30,7 @@ class Refusals(unittest.TestCase):
         self.refused(ExpressionError, lambda: Expression("a", {"a": "int"}), number=113, name="UnknownType", column="a")
 
     def test_a_text_that_is_wrong_is_told_before_any_column(self):
-        floats, twice = np.array([1.5]), np.zeros((1, 2))
+        floats, twice = np.array([1.5], np.float16), np.zeros((1, 2))
         for columns in ({"a": [1], "f": floats}, {"a": floats, "f": floats}, {"f": twice, "a": [object()]}, {"f": [], "a": [1]}):
             for ask in (evaluate, select, mask):
                 self.refused(ExpressionError, lambda: ask("a => 1", columns), number=112, byte=3)
@@ -41,7 +41,7 @@ class Refusals(unittest.TestCase):
                 self.refused(ExpressionError, lambda: ask("a is null or 3::float = 1", columns), number=113)
         # if the text may be right, the column is reported
         self.refused(ColumnError, lambda: select("a + 1 > 2 and f = 'x'", {"f": floats, "a": floats}), number=140, column="f")
-        self.refused(ColumnError, lambda: select("a = 1", {"f": floats, "a": [1.5]}), number=140, column="a")
+        self.refused(ColumnError, lambda: select("a = 1", {"f": floats, "a": [1.5j]}), number=140, column="a")
         self.refused(ExpressionError, lambda: Expression("a => 1", {"a": "int", "f": "float"}), number=112)
         self.refused(ExpressionError, lambda: Expression("a = 1", {"a": "int", "f": "float"}), number=113, column="a")
         # a near name may be that of any column, whatever its type
@@ -62,7 +62,7 @@ class Refusals(unittest.TestCase):
     def test_a_mismatch_names_both_types(self):
         wide = Expression("a > 1", {"a": "i64", "f": "i8"})
         cases = {
-            "i32": np.array([1], np.int32), "bool": [True], "utf8": ["x"], "u8": np.array([1], np.uint8), "float64": np.array([1.5]), "float": [1.5],
+            "i32": np.array([1], np.int32), "bool": [True], "utf8": ["x"], "u8": np.array([1], np.uint8), "f64": np.array([1.5]), "f32": [np.float32(1.5)],
             "object": [object()], "binary": np.array([b"x"]), "ndarray": [np.zeros(1)],
         }  # fmt: skip
         for found, values in cases.items():
@@ -98,9 +98,9 @@ class Refusals(unittest.TestCase):
 
     def test_types_that_are_not_taken_are_named(self):
         cases = {
-            "float64": np.array([1.5]), "datetime64": np.array(["2026-11-27"], "datetime64[D]"), "float": [1.5], "complex128": np.array([1j]),
+            "float16": np.array([1.5], np.float16), "datetime64 without a unit": np.array(["NaT"], "datetime64"), "complex128": np.array([1j]),
             "2 dimensions": np.zeros((1, 1), np.int64), "every row is null, and no type is said": [None], "str": "text", "'x' is no i64, but utf8": [1, "x"],
-            "True is no i64, but bool": [1, True], "9223372036854775808 is no i64": [2**63], "there is no row, and no type is said": [], "1.5 is no i64, but float": [1, 1.5],
+            "True is no i64, but bool": [1, True], "9223372036854775808 is no i64": [2**63], "there is no row, and no type is said": [], "1.5 is no i64, but f64": [1, 1.5],
             "timedelta64 is not taken": [np.timedelta64(5)], "no i64, but timedelta64": [1, np.timedelta64(5)], "Int64DType is not taken|dtype": np.dtype("i8"),
         }  # fmt: skip
         for words, values in cases.items():

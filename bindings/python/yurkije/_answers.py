@@ -9,7 +9,7 @@ from typing import TYPE_CHECKING, Any, NamedTuple, NoReturn, Union
 import numpy as np
 
 from . import _capsules as capsules
-from ._columns import INTEGER_TYPES
+from ._columns import FLOAT_TYPES, INTEGER_TYPES
 from ._library import lib
 
 
@@ -23,7 +23,12 @@ class Answer(NamedTuple):
 FORMATS: dict[bytes, str] = {
     b"b": "bool", b"c": "i8", b"s": "i16", b"i": "i32", b"l": "i64",
     b"C": "u8", b"S": "u16", b"I": "u32", b"L": "u64", b"u": "utf8", b"z": "binary",
+    b"g": "f64", b"f": "f32", b"tdD": "date", b"tsu:": "timestamp",
 }  # fmt: skip
+
+
+# The types of numbers in buffers, by numpy's.
+NUMBERS: dict[str, Any] = {**INTEGER_TYPES, **FLOAT_TYPES, "date": np.dtype("i4"), "timestamp": np.dtype("datetime64[us]")}
 
 
 class Held:
@@ -88,8 +93,8 @@ else:
 class Answers(_Columns):
     """The answers of an expression over a batch: columns by name, in the order of the text.
 
-    `answers["worth"]` is a numpy array: of bool or a whole-number type, a masked one if the answer
-    may be null; of objects for texts and byte strings, with None for null. If two answers have one
+    `answers["worth"]` is a numpy array: of bool, a whole-number type, a type of floats,
+    datetime64[D] or datetime64[us], a masked one if the answer may be null; of objects for texts and byte strings, with None for null. If two answers have one
     name it gives the first; `column(1)` takes them by number. An object with `__arrow_c_array__`:
     other libraries can take the answers as one struct array, over the same memory.
 
@@ -136,16 +141,18 @@ class Answers(_Columns):
             bits = self._held.bytes_at(array.buffers[1], (rows + 7) // 8)
             values = np.unpackbits(bits, count=rows, bitorder="little").view(np.bool_)
         else:
-            dtype = INTEGER_TYPES[kind]
+            dtype = NUMBERS[kind]
             values = self._held.bytes_at(array.buffers[1], rows * dtype.itemsize).view(dtype)
+            if kind == "date":
+                values = values.astype(np.int64).view("datetime64[D]")
         if self.answers[number].type.endswith("?"):
             return np.ma.MaskedArray(values, np.ma.nomask if nulls is None else nulls)
         return values
 
     def to_pandas(self) -> Any:
         """Returns the answers as a frame of pandas, by name: whole numbers and truth values that
-        may be null have pandas' nullable types, as Int64 and boolean, and texts are objects with
-        None."""
+        may be null have pandas' nullable types, as Int64, Float64 and boolean, texts are objects with
+        None, and times have NaT."""
         pandas = importlib.import_module("pandas")
         columns = {number: self._for_pandas(pandas, self.column(number)) for number in range(len(self.answers))}
         frame = pandas.DataFrame(columns, index=range(self.rows))
@@ -157,7 +164,9 @@ class Answers(_Columns):
         """Returns a column as an array that pandas takes unchanged."""
         if not isinstance(values, np.ma.MaskedArray):
             return values
-        made = pandas.arrays.BooleanArray if values.dtype == np.bool_ else pandas.arrays.IntegerArray
+        if values.dtype.kind == "M":
+            return values.filled(np.array("NaT", values.dtype))
+        made = {"b": pandas.arrays.BooleanArray, "f": pandas.arrays.FloatingArray}.get(values.dtype.kind, pandas.arrays.IntegerArray)
         return made(values.data.copy(), np.ma.getmaskarray(values).copy())
 
     def __arrow_c_array__(self, requested_schema: object = None) -> tuple[object, object]:

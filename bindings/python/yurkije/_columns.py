@@ -3,6 +3,7 @@ of Arrow."""
 from __future__ import annotations
 
 import ctypes as c
+import datetime
 from collections.abc import Sequence
 from contextlib import suppress
 from itertools import repeat
@@ -19,6 +20,11 @@ SCOPE_MISMATCH, NAME_TWICE, UNKNOWN_TYPE, UNTAKEN = 11, 111, 113, 140
 # The types of whole numbers, by numpy's.
 INTEGERS: dict[Any, str] = {np.dtype(f"{kind}{size}"): f"{kind}{8 * size}" for kind in "iu" for size in (1, 2, 4, 8)}
 INTEGER_TYPES: dict[str, Any] = {name: dtype for dtype, name in INTEGERS.items()}
+# The types of floats, by numpy's, and the slots of a column in which they and times are lent.
+FLOATS: dict[Any, str] = {np.dtype("f8"): "f64", np.dtype("f4"): "f32"}
+FLOAT_TYPES: dict[str, Any] = {name: dtype for dtype, name in FLOATS.items()}
+TIMES = ("date", "timestamp")
+SLOTS: dict[str, str] = {"f64": "i64", "f32": "i32", "date": "i32", "timestamp": "i64"}
 # The Arrow kinds of each type.
 LAYOUTS: dict[int, int] = {11: 10, 12: 10, 14: 13, 15: 13}
 
@@ -74,6 +80,43 @@ def _of_integers(values: Any, nulls: Optional[Any], type_name: str) -> Borrowed:
     return column
 
 
+def _of_floats(values: Any, nulls: Optional[Any], type_name: str, nan_is_null: bool) -> Borrowed:
+    """Floats. A NaN is a value, the greatest, or null if so said."""
+    column = Borrowed(type_name, len(values))
+    held = np.ascontiguousarray(values, dtype=FLOAT_TYPES[type_name])
+    if nan_is_null:
+        nans = np.isnan(held)
+        nulls = nans if nulls is None else nulls | nans
+    column.lend(SLOTS[type_name], held)
+    column.mask(nulls)
+    return column
+
+
+def _of_times(name: str, values: Any, nulls: Optional[Any], wanted: Optional[str]) -> Borrowed:
+    """Dates, of days, or timestamps, of microseconds: each value must be one exactly. NaT is null."""
+    unit, count = np.datetime_data(values.dtype)
+    if unit == "generic":
+        raise untaken(name, "numpy's datetime64 without a unit", wanted)
+    kind = wanted if wanted in TIMES else "date" if (unit, count) == ("D", 1) else "timestamp"
+    nats = np.isnat(values)
+    if nats.any():
+        nulls = nats if nulls is None else nulls | nats
+    made = values.astype("datetime64[D]" if kind == "date" else "datetime64[us]")
+    numbers = made.astype(np.int64)
+    wrong = made.astype(values.dtype) != values
+    if kind == "date":
+        wrong |= (numbers < -(2**31)) | (numbers >= 2**31)
+        numbers = numbers.astype(np.int32)
+    wrong = wrong & ~(nats if nulls is None else nulls)
+    if wrong.any():
+        row = int(wrong.argmax())
+        raise refuse(name, f"{values[row]} is no {kind}", row)
+    column = Borrowed(kind, len(values))
+    column.lend(SLOTS[kind], np.ascontiguousarray(numbers))
+    column.mask(nulls)
+    return column
+
+
 def _nulls_of(values: list[Any]) -> Any:
     """Returns which values are None."""
     return np.fromiter(map(is_, values, repeat(None)), np.bool_, len(values))
@@ -117,7 +160,10 @@ def _of_texts(values: list[Optional[str]], has_null: bool) -> Borrowed:
 
 # The types of single values by their classes, in the order of the tests; INTEGERS has those of
 # numpy's whole numbers.
-CLASSES: tuple[tuple[Any, str], ...] = ((bool, "bool"), (np.bool_, "bool"), (int, "i64"), (str, "utf8"), (bytes, "binary"))
+CLASSES: tuple[tuple[Any, str], ...] = (
+    (bool, "bool"), (np.bool_, "bool"), (int, "i64"), (str, "utf8"), (bytes, "binary"), (float, "f64"), (np.float32, "f32"),
+    (datetime.datetime, "timestamp"), (datetime.date, "date"),
+)  # fmt: skip
 
 
 def _type_of(cls: type) -> Optional[str]:
@@ -129,9 +175,9 @@ def _type_of(cls: type) -> Optional[str]:
 
 def _is_of(cls: type, kind: str) -> bool:
     """Whether values of a class may have a type: whole numbers of each class may have each integer
-    type."""
+    type, and floats of each class each type of floats."""
     found = _type_of(cls)
-    return found == kind or (kind in INTEGER_TYPES and found in INTEGER_TYPES)
+    return found == kind or any(kind in types and found in types for types in (INTEGER_TYPES, FLOAT_TYPES))
 
 
 def _is_pandas_null(cls: type) -> bool:
@@ -150,9 +196,9 @@ def _with_none(values: list[Any]) -> tuple[list[Any], set[type]]:
     return values, classes
 
 
-def _of_objects(name: str, values: list[Any], wanted: Optional[str]) -> Borrowed:
-    """A list of one type and of nulls: None, NaN and `pandas.NA`. Without an expected type, the
-    first value that is not null determines it."""
+def _of_objects(name: str, values: list[Any], wanted: Optional[str], nan_is_null: bool) -> Borrowed:
+    """A list of one type and of nulls: None, NaN but among floats, and `pandas.NA`. Without an expected
+    type, the first value that is not null determines it."""
     if wanted in (None, "utf8") and values and type(values[0]) is str:
         # joining is a faster test of whether all are texts
         with suppress(TypeError):
@@ -169,12 +215,28 @@ def _of_objects(name: str, values: list[Any], wanted: Optional[str]) -> Borrowed
     if kind == "binary":
         return _of_bytes(held, has_null, "binary")
     nulls = _nulls_of(held) if has_null else None
+    if kind in FLOAT_TYPES:
+        floats = np.array([np.nan if value is None else value for value in held], FLOAT_TYPES[kind])
+        if has_null and not nan_is_null:
+            nulls = np.fromiter((value is None or _is_pandas_null(type(value)) for value in values), np.bool_, len(values))
+            return _of_floats(floats, nulls if nulls.any() else None, kind, False)
+        return _of_floats(floats, nulls, kind, nan_is_null)
+    if kind in TIMES:
+        return _of_times(name, _times_of(name, held, kind), nulls, kind)
     if kind == "bool":
         return _of_bools(np.array([value or 0 for value in held] if has_null else held, np.bool_), nulls)
     if any(issubclass(cls, np.integer) for cls in classes):
         # numpy converts its own numbers without checking that they fit
         held = [value if value is None else int(value) for value in held]
     return _of_numbers(name, held, nulls, kind)
+
+
+def _times_of(name: str, values: list[Any], kind: str) -> Any:
+    """Returns dates or times of Python as an array. A time in a zone is an error."""
+    for row, value in enumerate(values):
+        if getattr(value, "tzinfo", None) is not None:
+            raise refuse(name, f"{value} has a time zone", row)
+    return np.array(["NaT" if value is None else value for value in values], "datetime64[D]" if kind == "date" else "datetime64[us]")
 
 
 def _words_of(cls: type) -> str:
@@ -204,7 +266,7 @@ def _of_numbers(name: str, values: list[Any], nulls: Optional[Any], kind: str) -
     return _of_integers(np.array(held, INTEGER_TYPES[kind]), nulls, kind)
 
 
-def _of_array(name: str, array: Any, wanted: Optional[str]) -> Borrowed:
+def _of_array(name: str, array: Any, wanted: Optional[str], nan_is_null: bool) -> Borrowed:
     """A numpy array, with or without a mask."""
     if array.ndim != 1:
         raise untaken(name, f"an array of {array.ndim} dimensions", wanted)
@@ -215,32 +277,36 @@ def _of_array(name: str, array: Any, wanted: Optional[str]) -> Borrowed:
     native = values.dtype.newbyteorder("=")
     if native in INTEGERS:
         return _of_integers(values, nulls, INTEGERS[native])
+    if native in FLOATS:
+        return _of_floats(values, nulls, FLOATS[native], nan_is_null)
+    if values.dtype.kind == "M":
+        return _of_times(name, values, nulls, wanted)
     if values.dtype.kind in "OUS":
         held = values.tolist()
         if nulls is not None:
             held = [None if null else value for value, null in zip(held, nulls.tolist())]
-        column = _of_objects(name, held, wanted)
+        column = _of_objects(name, held, wanted, nan_is_null)
         column.nullable = column.nullable or nulls is not None
         return column
     raise untaken(name, f"numpy's {values.dtype}", wanted)
 
 
-def _of_series(name: str, series: Any, wanted: Optional[str]) -> Borrowed:
+def _of_series(name: str, series: Any, wanted: Optional[str], nan_is_null: bool) -> Borrowed:
     """A pandas series or index: the mask of its nullable types is used; in objects, None and NaN
     are null."""
     if isinstance(series.dtype, np.dtype) and series.dtype != object:
-        return _of_array(name, series.to_numpy(), wanted)
+        return _of_array(name, series.to_numpy(), wanted, nan_is_null)
     nulls = np.asarray(series.isna(), dtype=np.bool_)
     numbers = getattr(series.dtype, "numpy_dtype", None)
-    if numbers in INTEGERS or numbers == np.bool_:
+    if numbers in INTEGERS or numbers in FLOATS or numbers == np.bool_:
         values = series.to_numpy(dtype=numbers, na_value=0) if nulls.any() else series.to_numpy(dtype=numbers)
-        return _of_array(name, np.ma.MaskedArray(values, nulls), wanted)
+        return _of_array(name, np.ma.MaskedArray(values, nulls), wanted, nan_is_null)
     if series.dtype != object and str(series.dtype) not in ("string", "str", "category"):
         raise untaken(name, f"pandas' {series.dtype}", wanted)
     held = series.to_numpy(dtype=object).tolist()
     if nulls.any():
         held = [None if null else value for value, null in zip(held, nulls.tolist())]
-    column = _of_objects(name, held, wanted)
+    column = _of_objects(name, held, wanted, nan_is_null)
     column.nullable = True
     return column
 
@@ -263,28 +329,29 @@ def _of_arrow(name: str, array: Any) -> Borrowed:
     return column
 
 
-def borrow(name: str, values: Any, wanted: Optional[str] = None) -> Borrowed:
+def borrow(name: str, values: Any, wanted: Optional[str] = None, nan_is_null: bool = False) -> Borrowed:
     """Returns the column of values: a numpy array, a pandas series, an array of Arrow, or a
     sequence.
 
     `wanted` is the type that the expression has for the column, if any: a sequence or an array of
-    objects is read as that type, and columns of another type are an error.
+    objects is read as that type, and columns of another type are an error. A NaN of a column of floats
+    is a value, or null with `nan_is_null`.
     """
-    column = _borrowed(name, values, wanted)
+    column = _borrowed(name, values, wanted, nan_is_null)
     if wanted not in (None, column.type):
         raise ColumnError(SCOPE_MISMATCH, f'column "{name}" is {column.type}, and the expression has {wanted}', name)
     return column
 
 
-def _borrowed(name: str, values: Any, wanted: Optional[str]) -> Borrowed:
+def _borrowed(name: str, values: Any, wanted: Optional[str], nan_is_null: bool) -> Borrowed:
     if isinstance(values, np.ndarray):
-        return _of_array(name, values, wanted)
+        return _of_array(name, values, wanted, nan_is_null)
     if hasattr(values, "isna") and hasattr(values, "to_numpy") and getattr(values, "ndim", 1) == 1:
-        return _of_series(name, values, wanted)
+        return _of_series(name, values, wanted, nan_is_null)
     if hasattr(values, "__arrow_c_array__"):
         return _of_arrow(name, values)
     if isinstance(values, Sequence) and not isinstance(values, (str, bytes)):
-        return _of_objects(name, list(values), wanted)
+        return _of_objects(name, list(values), wanted, nan_is_null)
     raise untaken(name, type(values).__name__, wanted)
 
 
@@ -329,6 +396,8 @@ def _type_of_dtype(said: Any) -> Optional[str]:
         # of pandas, which has null
         found = _type_of_dtype(said.numpy_dtype)
         return found and found + "?"
+    if isinstance(said, np.dtype) and said.kind == "M":
+        return "date" if np.datetime_data(said) == ("D", 1) else "timestamp"
     cls = said.type if isinstance(said, np.dtype) else said
     return _type_of(cls) if isinstance(cls, type) else None
 

@@ -154,8 +154,9 @@ class Expression:
     >>> worth.answers
     (Answer(name='worth', type='i64?'), Answer(name='price > 100', type='bool'))
 
-    `columns` has the type of each column: bool, i8 to i64, u8 to u64, utf8 or binary, with a
-    question mark if a row may be null; or a type of numpy or pandas, as `np.dtype("i8")`. Columns
+    `columns` has the type of each column: bool, i8 to i64, u8 to u64, utf8, binary, f64, f32, date
+    or timestamp, with a question mark if a row may be null; or a type of numpy or pandas, as
+    `np.dtype("i8")`. Columns
     that the text does not name may have any type. docs/EXPRESSIONS.md has the language.
 
     Threads may share an Expression: the first call in each reads the text anew, since a handle of
@@ -197,18 +198,18 @@ class Expression:
         return told[0] if len({(error.number, error.byte, error.message) for error in told}) == 1 else None
 
     @classmethod
-    def of(cls, text: str, columns: Any) -> Expression:
+    def of(cls, text: str, columns: Any, nan_is_null: bool = False) -> Expression:
         """Returns the expression over the types that columns have: a mapping of columns, a frame of pandas, or anything with
         `keys()` and the columns by name; or a batch with `__arrow_c_array__`."""
         if _is_batch(columns):
             return cls._of_schema(text, capsules.struct_in(columns.__arrow_c_array__()[0], b"arrow_schema"))
-        return cls._over(text, columns)[0]
+        return cls._over(text, columns, nan_is_null)[0]
 
     @classmethod
-    def _over(cls, text: str, columns: Any) -> tuple[Expression, list[Borrowed]]:
+    def _over(cls, text: str, columns: Any, nan_is_null: bool = False) -> tuple[Expression, list[Borrowed]]:
         """Returns the expression over the types that columns have, and the columns that it reads,
         borrowed. No other column is read."""
-        borrowed, refused = _each(text, columns, lambda name: borrow(name, column_of(columns, name)))
+        borrowed, refused = _each(text, columns, lambda name: borrow(name, column_of(columns, name), None, nan_is_null))
         made = cls.__new__(cls)
         types = {name: type_of(column) if column else None for name, column in borrowed.items()}
         made._read_text(text, types, _names_of(columns), refused)
@@ -270,8 +271,8 @@ class Expression:
         column.raw.nullable = kind.endswith("?")
         return column
 
-    def _borrowed(self, source: Any) -> list[Borrowed]:
-        return [self._lent(borrow(name, column_of(source, name), kind.rstrip("?")), kind) for name, kind in self._read]
+    def _borrowed(self, source: Any, nan_is_null: bool) -> list[Borrowed]:
+        return [self._lent(borrow(name, column_of(source, name), kind.rstrip("?"), nan_is_null), kind) for name, kind in self._read]
 
     def _schema_capsule(self) -> object:
         capsule, schema = capsules.new(b"arrow_schema")
@@ -279,16 +280,17 @@ class Expression:
         told.check(lib.yk_arrow_schema(self._handle(), schema, told.raw))
         return capsule
 
-    def run(self, columns: Any, rows: Optional[int] = None) -> Answers:
+    def run(self, columns: Any, rows: Optional[int] = None, nan_is_null: bool = False) -> Answers:
         """Returns the answers over columns of one length: a mapping of them by name, a frame of pandas, or a batch with
         `__arrow_c_array__`.
 
         A column is a numpy array (a masked one has nulls), a pandas series, a list with None, NaN
         or pandas' NA for null, or an array of Arrow. Raises errors, with the row in which an answer
-        faults. `rows` is needed if there are no columns.
+        faults. `rows` is needed if there are no columns. Among floats a NaN is a value, the greatest, as
+        in PostgreSQL; with `nan_is_null` it is null, but in columns of Arrow.
         """
         if not _is_batch(columns):
-            return self._run(self._borrowed(columns), columns, rows)
+            return self._run(self._borrowed(columns, nan_is_null), columns, rows)
         told, held = Told(), Held()
         schema_capsule, array_capsule = columns.__arrow_c_array__()
         schema = capsules.struct_in(schema_capsule, b"arrow_schema")
@@ -304,11 +306,11 @@ class Expression:
         told.check(lib.yk_arrow_answer(self._handle(), _raws(borrowed), len(borrowed), count, held.raw, told.raw), self._names())
         return Answers(self.answers, held, self._schema_capsule)
 
-    def select(self, columns: Any, answer: int = 0, rows: Optional[int] = None) -> Any:
+    def select(self, columns: Any, answer: int = 0, rows: Optional[int] = None, nan_is_null: bool = False) -> Any:
         """Returns the numbers of the rows in which an answer, a truth value, is true: an array of int64, ascending."""
         if _is_batch(columns):
             return np.flatnonzero(self._true(columns, answer))
-        return self._select(self._borrowed(columns), columns, answer, rows)
+        return self._select(self._borrowed(columns, nan_is_null), columns, answer, rows)
 
     def _select(self, borrowed: list[Borrowed], source: Any, answer: int, rows: Optional[int]) -> Any:
         told, count = Told(), _rows_of(borrowed, rows, source)
@@ -335,12 +337,12 @@ class Expression:
         self._check_truth(answer)
         return np.ma.filled(self.run(batch).column(answer), False)
 
-    def mask(self, columns: Any, answer: int = 0, rows: Optional[int] = None) -> Any:
+    def mask(self, columns: Any, answer: int = 0, rows: Optional[int] = None, nan_is_null: bool = False) -> Any:
         """Returns whether an answer, a truth value, is true in each row: an array of bool, False
         for null, as filters of numpy and pandas expect it, `frame[wanted.mask(frame)]`."""
         if _is_batch(columns):
             return self._true(columns, answer)
-        return self._mask(self._borrowed(columns), columns, answer, rows)
+        return self._mask(self._borrowed(columns, nan_is_null), columns, answer, rows)
 
     def _mask(self, borrowed: list[Borrowed], source: Any, answer: int, rows: Optional[int]) -> Any:
         told, count = Told(), _rows_of(borrowed, rows, source)
@@ -417,7 +419,7 @@ class Stream:
         return self._capsule
 
 
-def evaluate(text: str, columns: Any, rows: Optional[int] = None) -> Union[Answers, Stream]:
+def evaluate(text: str, columns: Any, rows: Optional[int] = None, nan_is_null: bool = False) -> Union[Answers, Stream]:
     """Returns the answers of a text over columns, with the types that they have; for a source with
     `__arrow_c_stream__` a stream of answers.
 
@@ -428,20 +430,20 @@ def evaluate(text: str, columns: Any, rows: Optional[int] = None) -> Union[Answe
         return Expression.of(text, columns).run(columns, rows)
     if not hasattr(columns, "keys") and hasattr(columns, "__arrow_c_stream__"):
         return Stream(text, columns)
-    expression, borrowed = Expression._over(text, columns)
+    expression, borrowed = Expression._over(text, columns, nan_is_null)
     return expression._run(borrowed, columns, rows)
 
 
-def select(text: str, columns: Any) -> Any:
+def select(text: str, columns: Any, nan_is_null: bool = False) -> Any:
     """Returns the numbers of the rows in which a text is true, over columns with the types that
     they have. Columns that it does not name are not read."""
     if _is_batch(columns):
         return Expression.of(text, columns).select(columns)
-    expression, borrowed = Expression._over(text, columns)
+    expression, borrowed = Expression._over(text, columns, nan_is_null)
     return expression._select(borrowed, columns, 0, None)
 
 
-def mask(text: str, columns: Any) -> Any:
+def mask(text: str, columns: Any, nan_is_null: bool = False) -> Any:
     """Returns whether a text is true in each row, over columns with the types that they have: an
     array of bool, False where it is false or null, as for `frame[yurkije.mask(text, frame)]`.
 
@@ -450,5 +452,5 @@ def mask(text: str, columns: Any) -> Any:
     """
     if _is_batch(columns):
         return Expression.of(text, columns).mask(columns)
-    expression, borrowed = Expression._over(text, columns)
+    expression, borrowed = Expression._over(text, columns, nan_is_null)
     return expression._mask(borrowed, columns, 0, None)

@@ -40,6 +40,7 @@ STATUSES: dict[int, str] = {
     116: "NoEscape",
     117: "NoCast",
     118: "NoFunction",
+    119: "NotOfKind",
     120: "ValidityTooShort",
     121: "ValuesTooShort",
     122: "OffsetsTooShort",
@@ -71,6 +72,10 @@ KINDS: dict[str, int] = {
     "u64": 9,
     "utf8": 10,
     "binary": 13,
+    "f64": 16,
+    "f32": 17,
+    "date": 18,
+    "timestamp": 19,
 }
 NAMES: dict[int, str] = {kind: name for name, kind in KINDS.items()}
 LARGE: dict[str, int] = {"utf8": 11, "binary": 14}

@@ -1,5 +1,5 @@
 //! Answers, copied out of the library.
-use crate::column::{Integer, Kind};
+use crate::column::{Float, Integer, Kind};
 use crate::error::{checked, Error, Status};
 use crate::raw::{self, Handle, Rooms, Size};
 
@@ -25,7 +25,7 @@ pub struct Answers {
 // once.
 unsafe impl Sync for Answers {}
 
-/// An answer of whole numbers.
+/// An answer of whole numbers, floats, days or microseconds.
 #[derive(Clone, Debug, PartialEq, Eq)]
 pub struct Integers<T> {
     /// A bit for each row, set where it is not null, least significant first.
@@ -122,10 +122,34 @@ impl Answers {
 
     /// The answer of that number, of whole numbers of the type `T`.
     pub fn integers<T: Integer>(&self, answer: usize) -> Result<Integers<T>, Error> {
-        let size = self.size(answer, &[T::KIND])?;
+        self.numbers(answer, T::KIND, T::make_room)
+    }
+
+    /// The answer of that number, of floats of the type `T`.
+    pub fn floats<T: Float>(&self, answer: usize) -> Result<Integers<T>, Error> {
+        self.numbers(answer, T::KIND, T::make_room)
+    }
+
+    /// The answer of that number, of dates: days since 1970-01-01.
+    pub fn dates(&self, answer: usize) -> Result<Integers<i32>, Error> {
+        self.numbers(answer, Kind::Date, i32::make_room)
+    }
+
+    /// The answer of that number, of timestamps: microseconds since 1970-01-01T00:00:00.
+    pub fn timestamps(&self, answer: usize) -> Result<Integers<i64>, Error> {
+        self.numbers(answer, Kind::Timestamp, i64::make_room)
+    }
+
+    fn numbers<T: Copy + Default>(
+        &self,
+        answer: usize,
+        kind: Kind,
+        make_room: for<'a> fn(&'a mut [T], &mut Rooms<'a>),
+    ) -> Result<Integers<T>, Error> {
+        let size = self.size(answer, &[kind])?;
         let (mut validity, mut values) = (vec![0; size.validity], vec![T::default(); size.values]);
-        let mut rooms = Rooms { kind: T::KIND.number(), validity: validity[..].as_mut().into(), ..Default::default() };
-        T::make_room(&mut values, &mut rooms);
+        let mut rooms = Rooms { kind: kind.number(), validity: validity[..].as_mut().into(), ..Default::default() };
+        make_room(&mut values, &mut rooms);
         self.copy(answer, rooms)?;
         Ok(Integers { validity, values })
     }

@@ -15,11 +15,18 @@ pub enum Kind {
     U64,
     Utf8,
     Binary,
-    /// A list or a struct, which scripts can have and no call copies.
+    /// Floats. A NaN equals a NaN and is the greatest; -0 is read as 0.
+    F64,
+    F32,
+    /// Days since 1970-01-01.
+    Date,
+    /// Microseconds since 1970-01-01T00:00:00.
+    Timestamp,
+    /// A list, a struct or a decimal, which no call copies.
     Other,
 }
 
-const KINDS: [(u32, Kind); 15] = [
+const KINDS: [(u32, Kind); 19] = [
     (1, Kind::Bool),
     (2, Kind::I8),
     (3, Kind::I16),
@@ -35,6 +42,10 @@ const KINDS: [(u32, Kind); 15] = [
     (13, Kind::Binary),
     (14, Kind::Binary),
     (15, Kind::Binary),
+    (16, Kind::F64),
+    (17, Kind::F32),
+    (18, Kind::Date),
+    (19, Kind::Timestamp),
 ];
 
 pub(crate) const LARGE_UTF8: u32 = 11;
@@ -112,6 +123,35 @@ macro_rules! integers {
 
 integers! { i8 I8 i16 I16 i32 I32 i64 I64 u8 U8 u16 U16 u32 U32 u64 U64 }
 
+/// The two types of floats.
+pub trait Float: sealed::Sealed + Copy + Default + 'static {
+    const KIND: Kind;
+    #[doc(hidden)]
+    fn lend<'a>(values: &'a [Self], column: &mut raw::Column<'a>);
+    #[doc(hidden)]
+    fn make_room<'a>(values: &'a mut [Self], rooms: &mut raw::Rooms<'a>);
+}
+
+macro_rules! floats {
+    ($($float:ident $slot:ident $kind:ident)*) => {$(
+        impl sealed::Sealed for $float {}
+
+        impl Float for $float {
+            const KIND: Kind = Kind::$kind;
+
+            fn lend<'a>(values: &'a [Self], column: &mut raw::Column<'a>) {
+                column.$slot = values.into();
+            }
+
+            fn make_room<'a>(values: &'a mut [Self], rooms: &mut raw::Rooms<'a>) {
+                rooms.$slot = values.into();
+            }
+        }
+    )*};
+}
+
+floats! { f64 i64 F64 f32 i32 F32 }
+
 /// A column in Arrow's layout, borrowed. Begin with its values, then add the rest:
 ///
 /// ```
@@ -137,6 +177,35 @@ impl<'a> Column<'a> {
     pub fn integers<T: Integer>(values: &'a [T]) -> Column<'a> {
         let mut column = Column::new(T::KIND.number(), values.len());
         T::lend(values, &mut column.raw);
+        column
+    }
+
+    /// Floats, one a row.
+    ///
+    /// ```
+    /// # use yurkije::{Column, Expression, Field, Kind};
+    /// let expression = Expression::new("x > 1.5", &[Field::new("x", Kind::F64)])?;
+    /// let answers = expression.run(&[Column::floats(&[1.0, 2.0, f64::NAN])], 3)?;
+    /// assert_eq!(answers.mask(0)?, [false, true, true]);
+    /// # Ok::<(), yurkije::Error>(())
+    /// ```
+    pub fn floats<T: Float>(values: &'a [T]) -> Column<'a> {
+        let mut column = Column::new(T::KIND.number(), values.len());
+        T::lend(values, &mut column.raw);
+        column
+    }
+
+    /// Dates, as days since 1970-01-01.
+    pub fn dates(days: &'a [i32]) -> Column<'a> {
+        let mut column = Column::new(Kind::Date.number(), days.len());
+        column.raw.i32 = days.into();
+        column
+    }
+
+    /// Timestamps, as microseconds since 1970-01-01T00:00:00.
+    pub fn timestamps(microseconds: &'a [i64]) -> Column<'a> {
+        let mut column = Column::new(Kind::Timestamp.number(), microseconds.len());
+        column.raw.i64 = microseconds.into();
         column
     }
 

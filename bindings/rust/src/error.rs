@@ -67,6 +67,7 @@ statuses! {
     NoEscape = 116, "the escape of a LIKE is more than one character";
     NoCast = 117, "no cast leads to that type";
     NoFunction = 118, "no function has that name";
+    NotOfKind = 119, "a literal is no date, timestamp, decimal or float";
     ValidityTooShort = 120, "validity is too short";
     ValuesTooShort = 121, "values are too short";
     OffsetsTooShort = 122, "offsets are too short";

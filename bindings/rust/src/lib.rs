@@ -35,7 +35,7 @@ mod pruning;
 mod raw;
 
 pub use answers::{Answers, Bools, ByteStrings, Integers};
-pub use column::{Buffers, Column, ColumnBuf, Field, Integer, Kind, Offset, Stored, Truth, Type};
+pub use column::{Buffers, Column, ColumnBuf, Field, Float, Integer, Kind, Offset, Stored, Truth, Type};
 pub use error::{Error, Place, Status, STATUSES};
 pub use expression::{is_compatible, version, Expression};
 pub use pruning::{Pruned, Statistics, Verdict};

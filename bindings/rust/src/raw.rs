@@ -40,6 +40,19 @@ impl<'a, T> From<&'a [T]> for Slice<'a, T> {
     }
 }
 
+/// Floats are lent where integers of their size lie.
+impl<'a> From<&'a [f64]> for Slice<'a, i64> {
+    fn from(items: &'a [f64]) -> Self {
+        Slice { at: items.as_ptr().cast(), length: items.len(), borrowed: PhantomData }
+    }
+}
+
+impl<'a> From<&'a [f32]> for Slice<'a, i32> {
+    fn from(items: &'a [f32]) -> Self {
+        Slice { at: items.as_ptr().cast(), length: items.len(), borrowed: PhantomData }
+    }
+}
+
 impl<T> Default for Slice<'_, T> {
     fn default() -> Self {
         Slice::from(&[][..])
@@ -58,6 +71,18 @@ pub struct Room<'a, T> {
 impl<'a, T> From<&'a mut [T]> for Room<'a, T> {
     fn from(items: &'a mut [T]) -> Self {
         Room { at: items.as_mut_ptr(), length: items.len(), borrowed: PhantomData }
+    }
+}
+
+impl<'a> From<&'a mut [f64]> for Room<'a, i64> {
+    fn from(items: &'a mut [f64]) -> Self {
+        Room { at: items.as_mut_ptr().cast(), length: items.len(), borrowed: PhantomData }
+    }
+}
+
+impl<'a> From<&'a mut [f32]> for Room<'a, i32> {
+    fn from(items: &'a mut [f32]) -> Self {
+        Room { at: items.as_mut_ptr().cast(), length: items.len(), borrowed: PhantomData }
     }
 }
 

@@ -120,6 +120,23 @@ fn truth_values_are_bits() -> Result<(), Error> {
 }
 
 #[test]
+fn floats_and_times_come_out_as_they_go_in() -> Result<(), Error> {
+    let fields = [Field::new("x", Kind::F64), Field::new("y", Kind::F32), Field::nullable("d", Kind::Date), Field::new("t", Kind::Timestamp)];
+    let expression = Expression::new("x, y, d + 1, t, y < 2.0", &fields)?;
+    let (x, y, d, t) = ([1.5, f64::INFINITY, -2.25], [1.5f32, 2.0, 1.75], [0, 19723, 5], [1i64, 0, -1]);
+    let columns = [Column::floats(&x), Column::floats(&y), Column::dates(&d).nullable(Some(&[0b011])), Column::timestamps(&t)];
+    let answers = expression.run(&columns, 3)?;
+    assert_eq!(answers.floats::<f64>(0)?.values, x);
+    assert_eq!(answers.floats::<f32>(1)?.values, y);
+    assert_eq!(answers.dates(2)?.iter().collect::<Vec<_>>(), [Some(1), Some(19724), None]);
+    assert_eq!(answers.timestamps(3)?.values, t);
+    assert_eq!(answers.mask(4)?, [true, false, true]);
+    assert!(answers.integers::<i64>(0).is_err());
+    assert!(expression.run(&[Column::integers(&t), columns[1], columns[2], columns[3]], 3).is_err());
+    Ok(())
+}
+
+#[test]
 fn a_text_that_is_refused_tells_its_place() {
     let error = Expression::new("price > 1 and prcie < 2", &goods()).unwrap_err();
     assert_eq!((error.number(), error.name()), (11, "ScopeMismatch"));

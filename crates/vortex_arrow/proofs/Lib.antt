@@ -7,6 +7,7 @@ pub mod Places
 pub mod Lowest
 pub mod Numbered
 pub mod Flags
+pub mod Floated
 pub mod Spanned
 pub mod Selected
 pub mod Refuting

@@ -11,6 +11,7 @@ use Rattle.vortex_bits.specs.Bits.{bit_of}
 use Rattle.vortex_arrow.specs.declared.column.ArrowValues.{ArrowValues}
 use Rattle.vortex_arrow.specs.declared.column.ArrowValues.TheVariants as arrow
 use Rattle.vortex_arrow.specs.declared.error.ValueFault.{ValueFault}
+use Rattle.vortex_arrow.specs.Floats.{wide_key, narrow_key}
 use Rattle.vortex_arrow.specs.Values.{offset_at, bytes_between, LieWithin, IsOffsetFault}
 use Rattle.vortex_arrow.specs.Values.{buffers_of, view_value, IsView, IsViewFault}
 
@@ -31,6 +32,11 @@ layout_of (arrow.UInt8 xs) = numbers U8 (map pos xs.now)
 layout_of (arrow.UInt16 xs) = numbers U16 (map pos xs.now)
 layout_of (arrow.UInt32 xs) = numbers U32 (map pos xs.now)
 layout_of (arrow.UInt64 xs) = numbers U64 (map pos xs.now)
+layout_of (arrow.Date xs) = numbers I32 (map (λ x. x) xs.now)
+layout_of (arrow.Timestamp xs) = numbers I64 (map (λ x. x) xs.now)
+layout_of (arrow.Decimal p s xs) = numbers I64 (map (λ x. x) xs.now)
+layout_of (arrow.Float64 xs) = numbers I64 (map wide_key xs.now)
+layout_of (arrow.Float32 xs) = numbers I32 (map narrow_key xs.now)
 layout_of (arrow.Utf8 os bs) = offsets true (map (λ x. x) os.now) bs.now
 layout_of (arrow.LargeUtf8 os bs) = offsets true (map (λ x. x) os.now) bs.now
 layout_of (arrow.Binary os bs) = offsets false (map (λ x. x) os.now) bs.now

@@ -1,4 +1,5 @@
 pub mod Values
+pub mod Floats
 pub mod Layouts
 pub mod Columns
 pub mod Refusals

@@ -29,6 +29,20 @@ pub enum ArrowValues<'a> {
     UInt16(&'a [u16]),
     UInt32(&'a [u32]),
     UInt64(&'a [u64]),
+    /// Days since 1970-01-01.
+    Date(&'a [i32]),
+    /// Microseconds since 1970-01-01T00:00:00.
+    Timestamp(&'a [i64]),
+    /// Numbers of at most `precision` digits, of which the last `scale` stand after the point: the
+    /// integers of their digits without the point.
+    Decimal {
+        precision: u8,
+        scale: u8,
+        values: &'a [i64],
+    },
+    /// The patterns of floats, as IEEE 754 has them. A column has their keys.
+    Float64(&'a [i64]),
+    Float32(&'a [i32]),
     /// Item `k` is the text of bytes `offsets[k]` to `offsets[k + 1]` of the data.
     Utf8 {
         offsets: &'a [i32],

@@ -18,6 +18,7 @@ ghost use Rattle.vortex_arrow.specs.Refusals.{AreLongEnough, TellsOfLength, Refu
 use crate::byte_rows::{ByteRows, collect_byte_strings, collect_texts};
 use crate::column::{ArrowColumn, ArrowValues};
 use crate::error::ArrowError;
+use crate::floats::{read_narrow_floats, read_wide_floats};
 use crate::offsets::{IndexType, Spans};
 use crate::validity::{read_bits, read_validity};
 use crate::views::BorrowedViews;
@@ -180,6 +181,11 @@ fn has_items(values: ArrowValues<'_>, from: usize, count: usize) -> bool
         ArrowValues::UInt16(values) => items <= values.len() as u128,
         ArrowValues::UInt32(values) => items <= values.len() as u128,
         ArrowValues::UInt64(values) => items <= values.len() as u128,
+        ArrowValues::Date(values) => items <= values.len() as u128,
+        ArrowValues::Timestamp(values) => items <= values.len() as u128,
+        ArrowValues::Decimal { values, .. } => items <= values.len() as u128,
+        ArrowValues::Float64(patterns) => items <= patterns.len() as u128,
+        ArrowValues::Float32(patterns) => items <= patterns.len() as u128,
         ArrowValues::Utf8 { offsets, .. } => count == 0 || items < offsets.len() as u128,
         ArrowValues::LargeUtf8 { offsets, .. } => count == 0 || items < offsets.len() as u128,
         ArrowValues::Binary { offsets, .. } => count == 0 || items < offsets.len() as u128,
@@ -252,6 +258,15 @@ fn read_values(
         ArrowValues::UInt16(values) => read_integers(alloc, values, from, count, validity),
         ArrowValues::UInt32(values) => read_integers(alloc, values, from, count, validity),
         ArrowValues::UInt64(values) => read_integers(alloc, values, from, count, validity),
+        ArrowValues::Date(days) => read_integers(alloc, days, from, count, validity),
+        ArrowValues::Timestamp(times) => read_integers(alloc, times, from, count, validity),
+        ArrowValues::Decimal { values, .. } => read_integers(alloc, values, from, count, validity),
+        ArrowValues::Float64(patterns) => {
+            read_wide_floats(alloc, patterns, from, count, validity)
+        }
+        ArrowValues::Float32(patterns) => {
+            read_narrow_floats(alloc, patterns, from, count, validity)
+        }
         ArrowValues::Utf8 { offsets, data } => {
             read_spanned_texts(alloc, &Spans { offsets, data }, from, count, validity)
         }

@@ -2,7 +2,7 @@
 use Rattle.std.proofs.Common.{◌≡◌, ℕ, List, [], ◌∷◌, ◌++◌, refl, subst, lit<}
 use mathlib.Core.Bool.{Bool, true, false}
 use seplogic.Ra.Ura.{Ura}
-use mir.Val.{Val, vptr, vbool, vstruct, vcons, vnil, of_list}
+use mir.Val.{Val, vbool, vstruct, vcons, vnil, of_list}
 use base.Fml.{Lft, Share, fat, flft}
 use mir.Syntax.{ty_ptr}
 use types.Logic.{Logic}

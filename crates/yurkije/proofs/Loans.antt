@@ -1,10 +1,10 @@
 -- A share of a lifetime's token, with what is shared for that lifetime, is shared for as long as the
 -- share is borrowed. Assumes `Logic`.
 use Prim.Native.Nat.{ℕ}
-use mathlib.Core.List.{List, [], ◌∷◌, ◌++◌}
+use mathlib.Core.List.{[], ◌∷◌}
 use seplogic.Ra.Ura.{Ura}
 use base.Logic.{ent, sep, upd_i, id⊢, apply∗, wand}
-use base.Fml.{Lft, Share, Fml, Incl, ftrue, fsep, fseps, fwand, fupd, fdead, fbor, flft}
+use base.Fml.{Lft, Share, Fml, ftrue, fsep, fseps, fwand, fupd, fdead, fbor, flft}
 use contract.BorrowLft.{meet_⊑_left}
 use ghost.Rules.{span, thinned}
 use types.Logic.{Logic, sem, lfts}

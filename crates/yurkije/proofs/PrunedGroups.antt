@@ -1,5 +1,5 @@
 -- What is told of groups that are pruned, or are not.
-use Rattle.std.proofs.Common.{◌≡◌, ◌∙◌, ℕ, List, map, length, Option, Some, sym, ap, subst, refl}
+use Rattle.std.proofs.Common.{◌≡◌, ◌∙◌, ℕ, List, map, length, Option, Some, sym, ap, subst}
 use Rattle.std.specs.Prelude.{Result, MatchResult, String, string_bytes, slice_get, option_map}
 use Rattle.std.proofs.lemmas.Option.{slice_get-map}
 use Rattle.std.specs.declared.alloc.Global.{Global}
@@ -34,7 +34,7 @@ tree_there answers found k a same there =
 module _ (p : ProgramView) (k : ℕ) (t : Tree) (ss : List BorrowedStatistics) (ns : List ℕ)
     (room_old room : Verdicts) (result : ℕ) (old report : Report)
     (there : slice_get p.optimized k ≡ Some t) where
-  pub groups_told : (ps qs : List Pruned) → PrunesLent meaning p.scope ss t ns ps → qs ≡ ps
+  pub groups_told : (ps qs : List Pruned) → PrunesLent meaning p.scope p.kinds ss t ns ps → qs ≡ ps
       → TellsGroups qs room_old room result old report
       → PrunesAnswer p k ss ns room_old room result old report
   groups_told ps qs prunes same told =
@@ -43,7 +43,7 @@ module _ (p : ProgramView) (k : ℕ) (t : Tree) (ss : List BorrowedStatistics) (
       (subst (λ (xs : List Pruned). TellsGroups xs room_old room result old report) same told))
 
   pub groups_refused : (e : PruneError) (r : Result (String Global) VortexError) (u : ErrorNumbers)
-      → RefusesLent meaning p.scope ss t ns e → u ≡ numbers_told e → room ≡ room_old → result ≡ u.status
+      → RefusesLent meaning p.scope p.kinds ss t ns e → u ≡ numbers_told e → room ≡ room_old → result ≡ u.status
       → Tells report u
       → AnswersUnlessMemory r (λ w. string_bytes w ≡ prune_words p.scope (length ns) e)
       → MatchResult r (λ w. HasMessage (string_bytes w) old report)

@@ -16,8 +16,8 @@ pub run_holds : (p : ProgramView) (borrowed : List BorrowedColumn) (rows : ℕ) 
     (result : ℕ) (old report : Report) (columns : List (Option ArrowColumn)) (answers : List ColumnView)
     → AllSay p.reads borrowed columns
     → (AllMean (Rewrites meaning) p.written p.optimized
-    → AnswersBatch p.scope rows columns p.written answers)
-    → KeepsOrWants answers held result old report → HoldsAnswers p borrowed rows held result old report
+    → AnswersBatch p.scope p.kinds rows columns p.written answers)
+    → KeepsOrWants answers p.means held result old report → HoldsAnswers p borrowed rows held result old report
 run_holds p borrowed rows held result old report columns answers say batch (inl h) =
-    answered columns answers say batch h.0 h.1
+    answered columns answers say batch h.0 h.1 h.2
 run_holds p borrowed rows held result old report columns answers say batch (inr w) = without_memory w

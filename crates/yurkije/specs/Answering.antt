@@ -5,6 +5,7 @@ use Rattle.vortex_interface.specs.Rewrites.{Rewrites}
 use Rattle.vortex_functions.specs.Walks.{AllMean}
 use Rattle.vortex_expressions.specs.Items.{meaning}
 use Rattle.vortex_columns.specs.ColumnView.{ColumnView}
+use Rattle.vortex_logical.specs.declared.kind.Kind.{Kind}
 use Rattle.vortex_columns.specs.TrueRows.{true_rows}
 use Rattle.vortex_arrow.specs.declared.column.ArrowColumn.{ArrowColumn}
 use Rattle.vortex_arrow.specs.declared.error.CopyError.{CopyError}
@@ -24,7 +25,7 @@ use Rattle.yurkije_core.specs.Running.{AnswersBatch, RefusesRun}
 use Rattle.yurkije_core.specs.Reports.{Tells, nowhere, borrowed_told, run_told}
 use Rattle.yurkije_core.specs.Messages.{HasMessage, IsRunWords}
 use Rattle.yurkije_columns.specs.Messages.{borrowed_words}
-use Rattle.yurkije.specs.Views.{ProgramView, HeldView, answers_in}
+use Rattle.yurkije.specs.Views.{ProgramView, HeldView, answers_in, kinds_in}
 use Rattle.yurkije.specs.Asking.{Asks}
 use Rattle.yurkije.specs.Reading.{Done, Wants, Refuses}
 
@@ -36,8 +37,8 @@ pub data HoldsAnswers (p : ProgramView) (borrowed : List BorrowedColumn) (rows :
   answered : (columns : List (Option ArrowColumn)) (answers : List ColumnView)
       → AllSay p.reads borrowed columns
       → (AllMean (Rewrites meaning) p.written p.optimized
-      → AnswersBatch p.scope rows columns p.written answers)
-      → answers_in held ≡ Some answers → Done result old report
+      → AnswersBatch p.scope p.kinds rows columns p.written answers)
+      → answers_in held ≡ Some answers → kinds_in held ≡ p.means → Done result old report
       → HoldsAnswers p borrowed rows held result old report
   no_kind : (e : BorrowedError) → RefusesBorrowed p.reads borrowed e
       → Refuses (λ w. w ≡ borrowed_words e) (borrowed_told e) held result old report
@@ -45,7 +46,7 @@ pub data HoldsAnswers (p : ProgramView) (borrowed : List BorrowedColumn) (rows :
   refused : (columns : List (Option ArrowColumn)) (e : BatchRunError)
       → AllSay p.reads borrowed columns
       → (AllMean (Rewrites meaning) p.written p.optimized
-      → RefusesRun p.scope rows columns p.written p.optimized e)
+      → RefusesRun p.scope p.kinds rows columns p.written p.optimized e)
       → Refuses (IsRunWords p.scope p.names rows e) (run_told e) held result old report
       → HoldsAnswers p borrowed rows held result old report
   without_memory : Wants held result old report → HoldsAnswers p borrowed rows held result old report
@@ -72,11 +73,11 @@ abbrev pub room_status : RoomError → ℕ
 room_status room.UnknownKind = 102
 room_status (room.Uncopied e) = copy_status e
 
--- the answer is copied, or why it is not, and then the buffers stay as they were
-abbrev pub Copies : ColumnView → Room → Room → ℕ → Type 0
-Copies c old new result =
-    ((result ≡ 0) × IsCopied c old new)
-    ⊎ ((e : RoomError) × RefusesCopy c old e × (new ≡ old) × (result ≡ room_status e))
+-- the answer, whose values mean what the number says, is copied, or why it is not, and then the buffers stay as they were
+abbrev pub Copies : ColumnView → ℕ → Room → Room → ℕ → Type 0
+Copies c m old new result =
+    ((result ≡ 0) × IsCopied c m old new)
+    ⊎ ((e : RoomError) × RefusesCopy c m old e × (new ≡ old) × (result ≡ room_status e))
 
 -- the numbers of the true rows, and how many they are; or why they are not written
 pub record SelectsBy {I : Type 0} (number : I → ℤ) (c : ColumnView) (most : ℕ) (old new : List I)
@@ -98,9 +99,11 @@ Masks c old new result =
     ⊎ ((e : CopyError) × RefusesMask c (length old) e × (new ≡ old) × (result ≡ copy_status e))
 
 -- the answers are held, or memory ran out
-abbrev pub KeepsOrWants : List ColumnView → Option HeldView → ℕ → Report → Report → Type 0
-KeepsOrWants columns held result old report =
-    ((answers_in held ≡ Some columns) × Done result old report) ⊎ Wants held result old report
+abbrev pub KeepsOrWants : List ColumnView → List Kind → Option HeldView → ℕ → Report → Report
+    → Type 0
+KeepsOrWants columns kinds held result old report =
+    ((answers_in held ≡ Some columns) × (kinds_in held ≡ kinds) × Done result old report)
+    ⊎ Wants held result old report
 
 -- P of that answer; or there are no answers, or none of that number, and what was handed over is the
 -- same

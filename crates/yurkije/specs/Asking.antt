@@ -7,7 +7,7 @@ use Rattle.vortex_types.specs.FieldNames.{field_name}
 use Rattle.vortex_interface.specs.Eval.{tree_type}
 use Rattle.vortex_expressions.specs.Items.{meaning}
 use Rattle.vortex_arrow.specs.Written.{SameBehind}
-use Rattle.yurkije_columns.specs.Kinds.{type_number}
+use Rattle.yurkije_columns.specs.Kinds.{kind_number, number_at, reported_number}
 use Rattle.yurkije_columns.specs.declared.kinds.Type as told
 use Rattle.vortex_program.specs.Naming.{IsTreeText}
 use Rattle.yurkije_core.specs.Fields.{marked_places}
@@ -34,9 +34,9 @@ pub record IsPut (text old new : List ℕ) (len result : ℕ) : Type 0 where
   pub told : len ≡ length text
   pub status : result ≡ (if nat_eq count (length text) then 0 else 104)
 
--- what is told of a type
-pub record IsType (t : LogicalType) (u : told.Type) : Type 0 where
-  pub kind : u.kind ≡ type_number t
+-- what is told of a type, whose values have the meaning of a number
+pub record IsType (n : ℕ) (t : LogicalType) (u : told.Type) : Type 0 where
+  pub kind : u.kind ≡ reported_number n t
   pub nullable : u.nullable ≡ is_nullable t
 
 -- the name and the type of a field; none has a number past the last, and then nothing is written
@@ -47,7 +47,7 @@ TellsFieldName p k old new len_old len result =
 
 abbrev pub TellsFieldType : ProgramView → ℕ → told.Type → told.Type → ℕ → Type 0
 TellsFieldType p k old t result =
-    (k < field_count p.scope → (result ≡ 0) × IsType (field_type k p.scope) t)
+    (k < field_count p.scope → (result ≡ 0) × IsType (number_at p.kinds k) (field_type k p.scope) t)
     × (field_count p.scope ≤ k → (result ≡ 101) × (t ≡ old))
 
 -- numbers are written, and how many they are is told; or there is no room for them, and none is
@@ -72,7 +72,8 @@ TellsAnswerName p k old new len_old len result =
 abbrev pub TellsAnswerType : ProgramView → ℕ → told.Type → told.Type → ℕ → Type 0
 TellsAnswerType p k old t result =
     Asks (slice_get p.written k) 101 result (t ≡ old)
-    (λ tree. (result ≡ 0) × IfSome (tree_type meaning tree) (λ u. IsType u t))
+    (λ tree. Asks (slice_get p.means k) 101 result (t ≡ old)
+    (λ m. (result ≡ 0) × IfSome (tree_type meaning tree) (λ u. IsType (kind_number m) u t)))
 
 -- the text of an answer, as it was written or as it is run; or memory ran out, and nothing is
 -- written

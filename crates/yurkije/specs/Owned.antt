@@ -1,6 +1,6 @@
 -- What a handle owns: nothing, or the box at its pointer; and what one that is lent does: nothing, or
 -- a share of a loan of what the box has.
-use Rattle.std.specs.Prelude.{ℕ, List, [], ◌∷◌, Option, None, Some, Bool, true, false}
+use Rattle.std.specs.Prelude.{ℕ, [], ◌∷◌, Option, None, Some, Bool, true, false}
 use base.Fml.{Fml, Lft, Share, fsep, feq, flft}
 use denote.RawPtr.{Ptr}
 use denote.Struct.Lending.{lent_at}

@@ -59,10 +59,10 @@ TellsGroups ps room_old room result old report =
 -- and nothing is written.
 pub data Prunes (p : ProgramView) (t : Tree) (ss : List BorrowedStatistics) (ns : List ℕ)
     (room_old room : Verdicts) (result : ℕ) (old report : Report) : Type 0 where
-  pruned : (ps : List Pruned) → PrunesLent meaning p.scope ss t ns ps
+  pruned : (ps : List Pruned) → PrunesLent meaning p.scope p.kinds ss t ns ps
       → TellsGroups ps room_old room result old report
       → Prunes p t ss ns room_old room result old report
-  refused : (e : PruneError) → RefusesLent meaning p.scope ss t ns e
+  refused : (e : PruneError) → RefusesLent meaning p.scope p.kinds ss t ns e
       → ToldIn (λ w. w ≡ prune_words p.scope (length ns) e) (numbers_told e) room_old room result
       old report
       → Prunes p t ss ns room_old room result old report

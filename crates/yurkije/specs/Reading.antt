@@ -1,13 +1,14 @@
 -- What a handle holds of a text, and what is told of one that is refused.
 use Rattle.std.specs.Prelude.{◌≡◌, ◌≢◌, ◌⊎◌, ℕ, List, [], Option, Some, None, Result, Ok, Err}
-use Rattle.std.specs.Prelude.{IsUtf8}
+use Rattle.std.specs.Prelude.{IsUtf8, map}
 use Rattle.vortex_types.specs.LogicalTypes.{Fields, field_count}
 use Rattle.vortex_types.specs.TypeOf.{struct_fields}
 use Rattle.vortex_expressions.specs.declared.refusal.Refusal.{Refusal}
 use Rattle.vortex_expressions.specs.Answers.{Answer, ExpressesAll, IsRefusedAll}
 use Rattle.yurkije_columns.specs.declared.fields.BorrowedField.{BorrowedField}
 use Rattle.yurkije_columns.specs.declared.fields.FieldError.{FieldError}
-use Rattle.yurkije_columns.specs.Scopes.{answers, refuses, scope_borrowed}
+use Rattle.vortex_logical.specs.declared.kind.Kind.{Kind}
+use Rattle.yurkije_columns.specs.Scopes.{answers, refuses, scope_borrowed, field_kind}
 use Rattle.vortex_program.specs.declared.form.Form.TheVariants as form
 use Rattle.vortex_program.specs.declared.program.Program.{Program}
 use Rattle.vortex_program.specs.Programs.{trees_of, AreOptimized}
@@ -62,24 +63,26 @@ Reads (Err e) held result old report =
     Refuses (IsProgramWords e) (program_told e) held result old report
 
 -- why a text is no program over the fields of a scope
-pub record IsRefusedText (scope : Fields) (text : List ℕ) (e : ProgramError) : Type 0 where
+pub record IsRefusedText (scope : Fields) (kinds : List Kind) (text : List ℕ) (e : ProgramError)
+    : Type 0 where
   pub utf8 : IsNoText text e
-  pub only : (list : List Answer) → IsUtf8 text → ExpressesAll scope [] text list → IsOutOfMemory e
-  pub refused : (r : Refusal) → IsUtf8 text → IsRefusedAll scope [] text r → IsFor r e
+  pub only : (list : List Answer) → IsUtf8 text → ExpressesAll scope kinds text list → IsOutOfMemory e
+  pub refused : (r : Refusal) → IsUtf8 text → IsRefusedAll scope kinds text r → IsFor r e
 
 -- the handle holds what the text means over the fields, and 0 is returned; or it holds nothing, and
 -- why is told: a field is wrong, or the text, or memory ran out
 pub data HoldsRead (fields : List BorrowedField) (text : List ℕ) (held : Option HeldView) (result : ℕ)
     (old report : Report) : Type 0 where
   read : (p : Program) → scope_borrowed fields ≡ answers (struct_fields p.scope)
-      → AreAnswersOf form.Answers (struct_fields p.scope) [] text p.written.items
+      → p.kinds.items ≡ map field_kind fields
+      → AreAnswersOf form.Answers (struct_fields p.scope) p.kinds.items text p.written.items
       → AreOptimized p.written.items p.optimized.items → Holds held p → Done result old report
       → HoldsRead fields text held result old report
   no_scope : (e : FieldError) → (e.fault ≢ OutOfMemory → scope_borrowed fields ≡ refuses e)
       → Refuses (λ w. w ≡ scope_words e.field e.fault) (scope_told e) held result old report
       → HoldsRead fields text held result old report
   no_program : (scope : Fields) (e : ProgramError) → scope_borrowed fields ≡ answers scope
-      → IsRefusedText scope text e
+      → IsRefusedText scope (map field_kind fields) text e
       → Refuses (IsProgramWords e) (program_told e) held result old report
       → HoldsRead fields text held result old report
   without_memory : Wants held result old report → HoldsRead fields text held result old report

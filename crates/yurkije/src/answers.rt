@@ -1,6 +1,7 @@
 //! Answers: of a batch, asked, copied, and freed.
 ghost use Rattle.std.specs.Prelude.{◌≡◌, None};
-ghost use Rattle.yurkije.specs.Views.{program_in, answers_in};
+ghost use Rattle.yurkije_columns.specs.Kinds.{number_at};
+ghost use Rattle.yurkije.specs.Views.{program_in, answers_in, kinds_in};
 ghost use Rattle.yurkije.specs.Answering.{Runs, AsksAnswer, Sizes, Copies, Selects, Masks};
 
 use crate::handle::Handle;
@@ -74,7 +75,7 @@ pub extern "C" fn yurkije_answer_copy(
 ) -> u32
     ensures kept { answers.new.held ≡ answers.old.held }
     ensures copied { AsksAnswer (answers_in answers.old.held) answer result (room.new ≡ room.old)
-        (λ c. Copies c room.old room.new result) }
+        (λ c. Copies c (number_at (kinds_in answers.old.held) answer) room.old room.new result) }
 {
     let Some(loan) = answers.open() else {
         return EMPTY_HANDLE;

@@ -18,7 +18,7 @@ use crate::queries::{
 use crate::statuses::{EMPTY_HANDLE, OUT_OF_MEMORY};
 use std::alloc::Global;
 use vortex_columns::VortexResult;
-use yurkije_columns::{BorrowedField, Type, placed, read_fields, scope_words};
+use yurkije_columns::{BorrowedField, Type, placed, read_fields, read_kinds, scope_words};
 use yurkije_core::{
     ErrorNumbers, Expression, Program, ProgramError, Report, program_words, read_program,
 };
@@ -71,10 +71,13 @@ pub extern "C" fn yk_expression_new(
 {
     expression.clear(alloc);
     match read_fields(alloc, placed(fields)) {
-        Ok(scope) => {
-            let read = read_program(alloc, scope, placed(text));
-            hold(alloc, read, expression, error)
-        }
+        Ok(scope) => match read_kinds(alloc, placed(fields)) {
+            Ok(kinds) => {
+                let read = read_program(alloc, scope, kinds, placed(text));
+                hold(alloc, read, expression, error)
+            }
+            Err(_) => error.tell(ErrorNumbers::of(OUT_OF_MEMORY), "out of memory"),
+        },
         Err(wrong) => {
             let words = scope_words(alloc, wrong);
             error.report_text(ErrorNumbers::of_scope(wrong), words)

@@ -3,6 +3,7 @@
 use crate::content::Content;
 use std::marker::Model;
 use vortex_columns::Column;
+use vortex_logical::kind::Kind;
 use yurkije_core::Expression;
 
 /// An expression, or the answers of one over a batch.
@@ -34,11 +35,12 @@ impl Held {
         }
     }
 
-    pub fn of_answers(columns: Vec<Column>) -> Held
-        ensures { result ≡ answers_held columns.items }
+    /// Answers, whose values are of these kinds, by place.
+    pub fn of_answers(columns: Vec<Column>, kinds: Vec<Kind>) -> Held
+        ensures { result ≡ answers_held columns.items kinds.items }
     {
         Held {
-            content: Content::Answers(columns),
+            content: Content::Answers(columns, kinds),
         }
     }
 
@@ -48,7 +50,7 @@ impl Held {
     {
         match &self.content {
             Content::Expression(expression) => Some(expression),
-            Content::Answers(_) => None,
+            Content::Answers(_, _) => None,
         }
     }
 
@@ -58,7 +60,17 @@ impl Held {
     {
         match &self.content {
             Content::Expression(_) => None,
-            Content::Answers(columns) => Some(columns),
+            Content::Answers(columns, _) => Some(columns),
+        }
+    }
+
+    /// The kinds of the answers' values, by place; none where an expression is held.
+    pub fn kinds(&self) -> &[Kind]
+        ensures { result.now ≡ self.now.kinds }
+    {
+        match &self.content {
+            Content::Expression(_) => &[],
+            Content::Answers(_, kinds) => kinds,
         }
     }
 }

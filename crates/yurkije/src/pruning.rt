@@ -60,7 +60,14 @@ fn prune(
             "there is no answer of that number",
         );
     };
-    match prune_lent(alloc, &condition.tree, &program.scope, statistics, rows) {
+    match prune_lent(
+        alloc,
+        &condition.tree,
+        &program.scope,
+        &program.kinds,
+        statistics,
+        rows,
+    ) {
         Ok(pruned) => tell_groups(&pruned, room, error),
         Err(wrong) => {
             let words = prune_words(alloc, &program.scope, &wrong, rows.len());

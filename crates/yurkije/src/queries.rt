@@ -9,7 +9,7 @@ ghost use Rattle.yurkije.specs.Asking.{PutsNumbers, TellsFieldsRead};
 use crate::held::Held;
 use crate::statuses::{EMPTY_HANDLE, NO_SUCH_NUMBER, OK, OUT_OF_MEMORY, ROOM_TOO_SMALL};
 use std::alloc::Global;
-use yurkije_columns::{Type, put_text, reported_type};
+use yurkije_columns::{Type, kind_number, number_at, put_text, reported_type};
 
 /// Writes a text, and tells how long it is.
 pub(crate) fn put(text: &str, room: &mut [u8], len: &mut usize) -> u32
@@ -60,7 +60,8 @@ pub(crate) fn field_type(held: &Held, field: usize, dtype: &mut Type) -> u32
     match held.expression() {
         Some(expression) => {
             if field < expression.program.scope.len() {
-                *dtype = reported_type(expression.program.scope.dtype(field));
+                let number = number_at(&expression.program.kinds, field);
+                *dtype = reported_type(number, expression.program.scope.dtype(field));
                 OK
             } else {
                 NO_SUCH_NUMBER
@@ -104,7 +105,7 @@ pub(crate) fn answer_type(held: &Held, answer: usize, dtype: &mut Type) -> u32
     match held.expression() {
         Some(expression) => match expression.program.written.get(answer) {
             Some(answer) => {
-                *dtype = reported_type(answer.tree.dtype());
+                *dtype = reported_type(kind_number(&answer.kind), answer.tree.dtype());
                 OK
             }
             None => NO_SUCH_NUMBER,

@@ -1,7 +1,9 @@
 //! What is run and given of what is held.
 ghost use Rattle.std.specs.Prelude.{◌≡◌, None, Some, MatchResult, pos, map, take, length};
 ghost use Rattle.vortex_columns.specs.ColumnView.{ColumnView};
-ghost use Rattle.yurkije.specs.Views.{program_view};
+ghost use Rattle.vortex_errors.specs.Answers.{AnswersUnlessMemory};
+ghost use Rattle.yurkije_columns.specs.Kinds.{number_at};
+ghost use Rattle.yurkije.specs.Views.{program_view, answers_held};
 ghost use Rattle.yurkije.specs.Answering.{Runs, HoldsAnswers, Sizes, Copies, SelectsBy, FindsColumn};
 ghost use Rattle.yurkije.specs.Answering.{KeepsOrWants, AsksAnswer, FindsNone, Masks};
 
@@ -10,19 +12,37 @@ use crate::held::Held;
 use crate::statuses::{EMPTY_HANDLE, NO_SUCH_NUMBER, OK, OUT_OF_MEMORY, UNKNOWN_KIND};
 use std::alloc::Global;
 use vortex_arrow::{IndexType, copy_mask, copy_true_rows, true_count};
-use vortex_columns::Column;
+use vortex_columns::{Column, VortexResult};
+use vortex_program::Answer;
 use yurkije_columns::statuses::copy_status;
 use yurkije_columns::{
-    BorrowedColumn, Room, RoomError, Size, arrow_columns, borrowed_words, copy_answer, size_of,
+    BorrowedColumn, Room, RoomError, Size, arrow_columns, borrowed_words, copy_answer, number_at,
+    size_of,
 };
-use yurkije_core::{ErrorNumbers, Expression, Report, run_program, run_words};
+use yurkije_core::{ErrorNumbers, Expression, Report, kinds_of, run_program, run_words};
 
-/// Holds answers, or tells that memory ran out.
-fn hold(alloc: Global, columns: Vec<Column>, answers: &mut Handle, error: &mut Report<'_>) -> u32
-    requires { answers.old.held ≡ None }
-    ensures { KeepsOrWants columns.items answers.new.held result error.old error.new }
+/// A box of the columns of answers. E9 where an allocation fails.
+fn boxed(alloc: Global, columns: Vec<Column>, written: &[Answer]) -> VortexResult<Box<Held>>
+    ensures { AnswersUnlessMemory result
+        (λ held. held.value ≡ answers_held columns.items (map (λ a. a.kind) written.now)) }
 {
-    match Box::new(alloc, Held::of_answers(columns)) {
+    let kinds = kinds_of(alloc, written)?;
+    Ok(Box::new(alloc, Held::of_answers(columns, kinds))?)
+}
+
+/// Holds the columns of answers, or tells that memory ran out.
+fn hold(
+    alloc: Global,
+    columns: Vec<Column>,
+    written: &[Answer],
+    answers: &mut Handle,
+    error: &mut Report<'_>,
+) -> u32
+    requires { answers.old.held ≡ None }
+    ensures { KeepsOrWants columns.items (map (λ a. a.kind) written.now) answers.new.held result
+        error.old error.new }
+{
+    match boxed(alloc, columns, written) {
         Ok(held) => {
             answers.close(held);
             error.clear()
@@ -53,7 +73,7 @@ fn run(
         }
     };
     match run_program(alloc, &expression.program, &columns, rows) {
-        Ok(columns) => hold(alloc, columns, answers, error),
+        Ok(columns) => hold(alloc, columns, &expression.program.written, answers, error),
         Err(wrong) => {
             let words = run_words(alloc, &expression.program, &wrong, rows);
             error.report_text(ErrorNumbers::of_run(&wrong), words)
@@ -120,11 +140,11 @@ pub(crate) fn put_size(held: &Held, answer: usize, size: &mut Size) -> u32
     }
 }
 
-/// Copies an answer.
-fn answer_copied(column: &Column, room: &mut Room<'_>) -> u32
-    ensures { Copies column.now room.old room.new result }
+/// Copies an answer, whose values mean what the number says.
+fn answer_copied(column: &Column, number: u32, room: &mut Room<'_>) -> u32
+    ensures { Copies column.now number room.old room.new result }
 {
-    match copy_answer(column, room) {
+    match copy_answer(column, number, room) {
         Ok(()) => OK,
         Err(RoomError::UnknownKind) => UNKNOWN_KIND,
         Err(RoomError::Uncopied(error)) => copy_status(error),
@@ -133,10 +153,10 @@ fn answer_copied(column: &Column, room: &mut Room<'_>) -> u32
 
 pub(crate) fn put_answer(held: &Held, answer: usize, room: &mut Room<'_>) -> u32
     ensures { AsksAnswer held.now.answers answer result (room.new ≡ room.old)
-        (λ c. Copies c room.old room.new result) }
+        (λ c. Copies c (number_at held.now.kinds answer) room.old room.new result) }
 {
     match column_of(held, answer) {
-        Ok(column) => answer_copied(column, room),
+        Ok(column) => answer_copied(column, number_at(held.kinds(), answer), room),
         Err(status) => status,
     }
 }

@@ -6,3 +6,4 @@ pub mod PutMessages
 pub mod JoinedRows
 pub mod FlatColumns
 pub mod JoinedTypes
+pub mod KindPlaces

@@ -9,6 +9,8 @@ use Rattle.yurkije_columns.specs.declared.kinds.Kind.{Kind}
 use Rattle.yurkije_columns.specs.declared.outputs.Room.{Room}
 use Rattle.yurkije_columns.specs.Kinds.{kind_type}
 use Rattle.yurkije_columns.specs.Outputs.{room_layout, KeepsBehind, StandsIn, IsOfKind, with_buffers}
+use Rattle.yurkije_columns.specs.Outputs.{room_rows}
+use Rattle.vortex_types.specs.Values.{Value}
 
 -- whether a type is that of texts, of which a kind is
 pub text_of_kind : (k j : Kind) (t : LogicalType) → k ≡ j → IsOfKind k t
@@ -17,21 +19,23 @@ text_of_kind k j t e h = sym (ap is_text_type (subst (λ (i : Kind). IsOfKind i 
 
 pub texts_stand : {A E : Type 0} (r : Result A E) (k j : Kind) (c : ColumnView) (old new : Room)
     (b : Bool) (os : List ℤ) (bs : List ℕ) (B C : Type 0) → k ≡ j
-    → room_layout j new ≡ offsets b os bs
+    → room_layout j new ≡ offsets b os bs → room_rows j c.rows ≡ c.rows
     → is_text_type c.dtype ≡ b
     → OnOk r (AreCopied c.rows new.validity.now (offsets (is_text_type c.dtype) os bs))
     → OnOk r (SameBehind (bytes_for (length c.rows)) old.validity.now new.validity.now × B × C)
     → (B → C → KeepsBehind j c old new) → new ≡ with_buffers j old new
     → OnOk r (StandsIn k c old new)
-texts_stand (Ok x) k j c old new b os bs B C e l is rows behind both only =
+texts_stand (Ok x) k j c old new b os bs B C e l same is rows behind both only =
     subst (λ (i : Kind). StandsIn i c old new) (sym e) (record {
-      rows = subst (λ (y : Layout). AreCopied c.rows new.validity.now y)
-          (ap (λ (z : Bool). offsets z os bs) is ∙ sym l) rows;
+      rows = subst (λ (vs : List Value). AreCopied vs new.validity.now (room_layout j new))
+          (sym same)
+          (subst (λ (y : Layout). AreCopied c.rows new.validity.now y)
+          (ap (λ (z : Bool). offsets z os bs) is ∙ sym l) rows);
       validity = behind.0;
       values = both behind.1 behind.2;
       only = only;
     })
-texts_stand (Err x) k j c old new b os bs B C e l is rows behind both only = tt
+texts_stand (Err x) k j c old new b os bs B C e l same is rows behind both only = tt
 
 -- what is refused is as it was where its buffers are
 pub same_of_two : {A E X Y : Type 0} (r : Result A E) (f : X → Y → Room) (x x' : X) (y y' : Y)

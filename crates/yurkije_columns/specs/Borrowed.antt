@@ -5,13 +5,14 @@ use Rattle.vortex_types.specs.declared.dtype.PType.TheVariants.{I8, I16, I32, I6
 use Rattle.vortex_types.specs.declared.dtype.PType.TheVariants.{U64}
 use Rattle.vortex_arrow.specs.Layouts.{Layout, bits, numbers, offsets, views, layout_of}
 use Rattle.vortex_arrow.specs.Values.{buffers_of}
+use Rattle.vortex_arrow.specs.Floats.{wide_key, narrow_key}
 use Rattle.vortex_arrow.specs.declared.column.ArrowColumn.{ArrowColumn}
 use Rattle.yurkije_columns.specs.declared.kinds.Kind.{Kind}
 use Rattle.yurkije_columns.specs.declared.kinds.Kind.TheVariants as kind
 use Rattle.yurkije_columns.specs.declared.borrowed.BorrowedColumn.{BorrowedColumn}
 use Rattle.yurkije_columns.specs.declared.borrowed.BorrowedError.{BorrowedError}
 use Rattle.yurkije_columns.specs.declared.borrowed.BorrowedError.TheVariants as error
-use Rattle.yurkije_columns.specs.Kinds.{kind_numbered}
+use Rattle.yurkije_columns.specs.Kinds.{kind_numbered, logical_number, values_number}
 
 -- the slices that are read of a column of that kind
 abbrev pub borrowed_layout : Kind → BorrowedColumn → Layout
@@ -30,6 +31,11 @@ borrowed_layout kind.Utf8View c = views true c.views.now (buffers_of c.buffers.n
 borrowed_layout kind.Binary c = offsets false (map (λ x. x) c.offsets32.now) c.data.now
 borrowed_layout kind.LargeBinary c = offsets false (map (λ x. x) c.offsets64.now) c.data.now
 borrowed_layout kind.BinaryView c = views false c.views.now (buffers_of c.buffers.now)
+borrowed_layout kind.F64 c = numbers I64 (map wide_key c.i64s.now)
+borrowed_layout kind.F32 c = numbers I32 (map narrow_key c.i32s.now)
+borrowed_layout kind.Date c = numbers I32 (map (λ x. x) c.i32s.now)
+borrowed_layout kind.Timestamp c = numbers I64 (map (λ x. x) c.i64s.now)
+borrowed_layout (kind.Decimal p s) c = numbers I64 (map (λ x. x) c.i64s.now)
 
 -- the bits of the rows that are not null; none where no bytes are lent
 abbrev pub bits_borrowed : List ℕ → Option (List ℕ)
@@ -45,6 +51,7 @@ pub record Says (c : BorrowedColumn) (a : ArrowColumn) : Type 0 where
   pub offset : a.offset ≡ c.offset
   pub bits : option_map (λ b. b.now) a.validity ≡ bits_borrowed c.validity.now
   pub layout : layout_of a.values ≡ borrowed_layout kind c
+  pub means : values_number a.values ≡ logical_number kind
 
 -- so it does where the column is read; else there is none, whatever was lent
 abbrev pub SaysIfRead : Bool → BorrowedColumn → Option ArrowColumn → Type 0

@@ -1,5 +1,5 @@
 -- Answers copied into the caller's buffers.
-use Rattle.std.specs.Prelude.{◌≡◌, ◌⊎◌, ◌+◌, ◌^◌, ◌≤◌, ℕ, pos, true, false, [], map, length}
+use Rattle.std.specs.Prelude.{◌≡◌, ◌⊎◌, ◌+◌, ◌^◌, ◌≤◌, ℕ, pos, true, false, List, [], map, length}
 use Rattle.std.specs.Prelude.{Some, None}
 use Rattle.std.specs.Borrow.{MutBor}
 use Rattle.vortex_types.specs.declared.dtype.PType.{PType}
@@ -19,7 +19,9 @@ use Rattle.yurkije_columns.specs.declared.outputs.Size.{Size}
 use Rattle.yurkije_columns.specs.declared.outputs.Room.{Room}
 use Rattle.yurkije_columns.specs.declared.outputs.RoomError.{RoomError}
 use Rattle.yurkije_columns.specs.declared.outputs.RoomError.TheVariants as error
-use Rattle.yurkije_columns.specs.Kinds.{kind_numbered, kind_type, type_number}
+use Rattle.yurkije_columns.specs.Kinds.{kind_numbered, kind_type, type_number, logical_number}
+use Rattle.vortex_types.specs.Values.{Value}
+use Rattle.vortex_arrow.specs.Floats.{with_number, wide_pattern, narrow_pattern}
 
 -- how many values n rows of a type take, and offsets
 abbrev pub values_taken : LogicalType → ℕ → ℕ
@@ -66,7 +68,18 @@ room_layout kind.Utf8 r = offsets true (map (λ x. x) r.offsets32.now) r.data.no
 room_layout kind.LargeUtf8 r = offsets true (map (λ x. x) r.offsets64.now) r.data.now
 room_layout kind.Binary r = offsets false (map (λ x. x) r.offsets32.now) r.data.now
 room_layout kind.LargeBinary r = offsets false (map (λ x. x) r.offsets64.now) r.data.now
+room_layout kind.F64 r = numbers I64 (map (λ x. x) r.i64s.now)
+room_layout kind.F32 r = numbers I32 (map (λ x. x) r.i32s.now)
+room_layout kind.Date r = numbers I32 (map (λ x. x) r.i32s.now)
+room_layout kind.Timestamp r = numbers I64 (map (λ x. x) r.i64s.now)
+room_layout (kind.Decimal p s) r = numbers I64 (map (λ x. x) r.i64s.now)
 room_layout k r = bits []
+
+-- the rows that they say: of floats the patterns, whose keys are the rows of the column
+abbrev pub room_rows : Kind → List Value → List Value
+room_rows kind.F64 rows = map (with_number wide_pattern) rows
+room_rows kind.F32 rows = map (with_number narrow_pattern) rows
+room_rows k rows = rows
 
 -- behind the rows of a column the buffers of that kind stay as they were
 abbrev pub KeepsBehind : Kind → ColumnView → Room → Room → Type 0
@@ -79,6 +92,11 @@ KeepsBehind kind.U8 c r s = SameBehind (length c.rows) r.u8s.now s.u8s.now
 KeepsBehind kind.U16 c r s = SameBehind (length c.rows) r.u16s.now s.u16s.now
 KeepsBehind kind.U32 c r s = SameBehind (length c.rows) r.u32s.now s.u32s.now
 KeepsBehind kind.U64 c r s = SameBehind (length c.rows) r.u64s.now s.u64s.now
+KeepsBehind kind.F64 c r s = SameBehind (length c.rows) r.i64s.now s.i64s.now
+KeepsBehind kind.F32 c r s = SameBehind (length c.rows) r.i32s.now s.i32s.now
+KeepsBehind kind.Date c r s = SameBehind (length c.rows) r.i32s.now s.i32s.now
+KeepsBehind kind.Timestamp c r s = SameBehind (length c.rows) r.i64s.now s.i64s.now
+KeepsBehind (kind.Decimal p q) c r s = SameBehind (length c.rows) r.i64s.now s.i64s.now
 KeepsBehind kind.LargeUtf8 c r s =
     SameBehind (length c.rows + 1) r.offsets64.now s.offsets64.now
     × SameBehind (length (joined c.rows)) r.data.now s.data.now
@@ -131,6 +149,16 @@ with_buffers kind.U32 r s =
     record r { validity = holding r.validity s.validity.now; u32s = holding r.u32s s.u32s.now }
 with_buffers kind.U64 r s =
     record r { validity = holding r.validity s.validity.now; u64s = holding r.u64s s.u64s.now }
+with_buffers kind.F64 r s =
+    record r { validity = holding r.validity s.validity.now; i64s = holding r.i64s s.i64s.now }
+with_buffers kind.F32 r s =
+    record r { validity = holding r.validity s.validity.now; i32s = holding r.i32s s.i32s.now }
+with_buffers kind.Date r s =
+    record r { validity = holding r.validity s.validity.now; i32s = holding r.i32s s.i32s.now }
+with_buffers kind.Timestamp r s =
+    record r { validity = holding r.validity s.validity.now; i64s = holding r.i64s s.i64s.now }
+with_buffers (kind.Decimal p q) r s =
+    record r { validity = holding r.validity s.validity.now; i64s = holding r.i64s s.i64s.now }
 with_buffers kind.Utf8 r s = with_offsets32 r s
 with_buffers kind.Binary r s = with_offsets32 r s
 with_buffers kind.LargeUtf8 r s = with_offsets64 r s
@@ -156,7 +184,7 @@ pub record KeepsLoans (old new : Room) : Type 0 where
 -- the rows of the column stand in the buffers of that kind, texts one behind another, and nothing
 -- else has changed
 pub record StandsIn (k : Kind) (c : ColumnView) (old new : Room) : Type 0 where
-  pub rows : AreCopied c.rows new.validity.now (room_layout k new)
+  pub rows : AreCopied (room_rows k c.rows) new.validity.now (room_layout k new)
   pub validity : SameBehind (bytes_for (length c.rows)) old.validity.now new.validity.now
   pub values : KeepsBehind k c old new
   pub only : new ≡ with_buffers k old new
@@ -192,6 +220,11 @@ RefusesRoom kind.LargeUtf8 c r e =
     RefusesOffsets c r (length r.offsets64.now) 9223372036854775807 e
 RefusesRoom kind.LargeBinary c r e =
     RefusesOffsets c r (length r.offsets64.now) 9223372036854775807 e
+RefusesRoom kind.F64 c r e = RefusesIntegers I64 c r (length r.i64s.now) e
+RefusesRoom kind.F32 c r e = RefusesIntegers I32 c r (length r.i32s.now) e
+RefusesRoom kind.Date c r e = RefusesIntegers I32 c r (length r.i32s.now) e
+RefusesRoom kind.Timestamp c r e = RefusesIntegers I64 c r (length r.i64s.now) e
+RefusesRoom (kind.Decimal p s) c r e = RefusesIntegers I64 c r (length r.i64s.now) e
 RefusesRoom kind.Utf8View c r e = e ≡ OtherType
 RefusesRoom kind.BinaryView c r e = e ≡ OtherType
 
@@ -199,16 +232,22 @@ RefusesRoom kind.BinaryView c r e = e ≡ OtherType
 abbrev pub IsOfKind : Kind → LogicalType → Type 0
 IsOfKind k t = kind_type k (is_nullable t) ≡ t
 
+-- and mean what the number says
+abbrev pub IsOfMeaning : Kind → ℕ → LogicalType → Type 0
+IsOfMeaning k m t = IsOfKind k t × (logical_number k ≡ m)
+
 -- the room's kind is that of the column, whose rows stand in its buffers
-pub record IsCopied (c : ColumnView) (old new : Room) : Type 0 where
+pub record IsCopied (c : ColumnView) (m : ℕ) (old new : Room) : Type 0 where
   pub kind : Kind
   pub numbered : kind_numbered old.kind ≡ Some kind
   pub dtype : IsOfKind kind c.dtype
+  pub means : logical_number kind ≡ m
   pub stands : StandsIn kind c old new
 
 -- the room's kind is none or another than the column's, or a buffer is too short
-abbrev pub RefusesCopy : ColumnView → Room → RoomError → Type 0
-RefusesCopy c r error.UnknownKind = kind_numbered r.kind ≡ None
-RefusesCopy c r (error.Uncopied e) =
+abbrev pub RefusesCopy : ColumnView → ℕ → Room → RoomError → Type 0
+RefusesCopy c m r error.UnknownKind = kind_numbered r.kind ≡ None
+RefusesCopy c m r (error.Uncopied e) =
     (k : Kind) × (kind_numbered r.kind ≡ Some k)
-    × (((e ≡ OtherType) × ¬ IsOfKind k c.dtype) ⊎ (IsOfKind k c.dtype × RefusesRoom k c r e))
+    × (((e ≡ OtherType) × ¬ IsOfMeaning k m c.dtype)
+    ⊎ (IsOfMeaning k m c.dtype × RefusesRoom k c r e))

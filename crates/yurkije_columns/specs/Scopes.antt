@@ -3,12 +3,14 @@ use Rattle.std.specs.Prelude.{◌+◌, ℕ, List, [], ◌∷◌, Bool, if◌then
 use Rattle.std.specs.Str.{is_utf8}
 use Rattle.vortex_types.specs.LogicalTypes.{LogicalType, Fields, no_fields, with_field}
 use Rattle.vortex_types.specs.LogicalTypes.{find_field}
+use Rattle.vortex_logical.specs.declared.kind.Kind as logical
+use Rattle.vortex_logical.specs.declared.kind.Kind.TheVariants.{Plain}
 use Rattle.yurkije_columns.specs.declared.kinds.Kind.{Kind}
 use Rattle.yurkije_columns.specs.declared.fields.BorrowedField.{BorrowedField}
 use Rattle.yurkije_columns.specs.declared.fields.ScopeFault.{ScopeFault}
 use Rattle.yurkije_columns.specs.declared.fields.ScopeFault.TheVariants as fault
 use Rattle.yurkije_columns.specs.declared.fields.FieldError.{FieldError}
-use Rattle.yurkije_columns.specs.Kinds.{kind_numbered, kind_type}
+use Rattle.yurkije_columns.specs.Kinds.{kind_numbered, kind_type, logical_kind}
 
 -- a scope, or what is wrong
 pub data Outcome (E : Type 0) : Type 0 where
@@ -46,3 +48,11 @@ borrowed_behind k o (f ∷ rest) = borrowed_behind (k + 1) (and_borrowed k o f) 
 
 abbrev pub scope_borrowed : List BorrowedField → Outcome FieldError
 scope_borrowed fields = borrowed_behind 0 (answers no_fields) fields
+
+-- what the values of a field mean
+abbrev pub kind_or_plain : Option Kind → logical.Kind
+kind_or_plain None = Plain
+kind_or_plain (Some k) = logical_kind k
+
+abbrev pub field_kind : BorrowedField → logical.Kind
+field_kind f = kind_or_plain (kind_numbered f.kind)

@@ -1,16 +1,18 @@
 //! The columns of a batch, read over the fields of a scope.
-ghost use Rattle.std.specs.Prelude.{◌≡◌, ℕ, length, map, MatchResult};
+ghost use Rattle.std.specs.Prelude.{◌≡◌, ℕ, List, length, map, MatchResult};
 ghost use Rattle.vortex_types.specs.LogicalTypes.{integer_type, field_count};
 ghost use Rattle.vortex_types.specs.TypeOf.{type_of, struct_fields, allows_null};
 ghost use Rattle.vortex_arrow.specs.Columns.{arrow_column};
 ghost use Rattle.yurkije_columns.specs.Batches.{type_borrowed, Serves, RefusesColumn, AllServe};
 ghost use Rattle.yurkije_columns.specs.Batches.{ServesIfRead, RefusesIfRead, batch_column};
-ghost use Rattle.yurkije_columns.specs.Batches.{RefusesBatch};
+ghost use Rattle.yurkije_columns.specs.Batches.{RefusesBatch, IsOf};
+ghost use Rattle.yurkije_columns.specs.Kinds.{values_number};
 
-use crate::kinds::nullability;
+use crate::kinds::{decimal_number, nullability, number_at};
 use std::alloc::Global;
 use vortex_arrow::{ArrowColumn, ArrowError, ArrowValues, to_column};
 use vortex_columns::{Column, DType, PType, StructFields};
+use vortex_logical::kind::Kind as LogicalKind;
 
 /// What is wrong with a column of a batch.
 #[derive(Clone, Copy, Debug, Drop, PartialEq, Eq)]
@@ -19,8 +21,8 @@ pub enum ColumnFault {
     Missing,
     /// There is no field for it.
     Unasked,
-    /// Its values are of another type than the field, or it is nullable and the field is not, or the
-    /// other way round.
+    /// Its values are of another type than the field or mean something else, or it is nullable and
+    /// the field is not, or the other way round.
     OtherType,
     /// It has another number of rows than the batch.
     OtherLength { rows: usize },
@@ -56,20 +58,48 @@ fn dtype_of(column: &ArrowColumn<'_>) -> DType
         ArrowValues::Binary { .. } => DType::Binary(nullability),
         ArrowValues::LargeBinary { .. } => DType::Binary(nullability),
         ArrowValues::BinaryView { .. } => DType::Binary(nullability),
+        ArrowValues::Date(_) => DType::Primitive(PType::I32, nullability),
+        ArrowValues::Timestamp(_) => DType::Primitive(PType::I64, nullability),
+        ArrowValues::Decimal { .. } => DType::Primitive(PType::I64, nullability),
+        ArrowValues::Float64(_) => DType::Primitive(PType::I64, nullability),
+        ArrowValues::Float32(_) => DType::Primitive(PType::I32, nullability),
     }
 }
 
-/// Refuses a column of another type than its field, or of another number of rows.
+/// The number of what a column's values mean; 0 where that is what their type says.
+fn number_of(values: ArrowValues<'_>) -> u32
+    ensures { result ≡ values_number values.entry }
+{
+    match values {
+        ArrowValues::Float64(_) => 16,
+        ArrowValues::Float32(_) => 17,
+        ArrowValues::Date(_) => 18,
+        ArrowValues::Timestamp(_) => 19,
+        ArrowValues::Decimal {
+            precision,
+            scale,
+            ..
+        } => decimal_number(precision, scale),
+        _ => 0,
+    }
+}
+
+/// Refuses a column of another type than its field, whose values mean what the number says, or of
+/// another number of rows.
 pub(crate) fn check_shape(
     dtype: &DType,
+    number: u32,
     column: &ArrowColumn<'_>,
     rows: usize,
 ) -> Result<(), ColumnFault>
     ensures { MatchResult result
-        (λ _. (type_borrowed column.now ≡ type_of dtype.now) × (column.now.length ≡ rows))
-        (RefusesColumn (type_of dtype.now) rows column.now) }
+        (λ _. IsOf (type_of dtype.now) number column.now × (column.now.length ≡ rows))
+        (RefusesColumn (type_of dtype.now) number rows column.now) }
 {
     if dtype_of(column) != *dtype {
+        return Err(ColumnFault::OtherType);
+    }
+    if number_of(column.values) != number {
         return Err(ColumnFault::OtherType);
     }
     if column.length != rows {
@@ -80,18 +110,19 @@ pub(crate) fn check_shape(
     Ok(())
 }
 
-/// The column of a field of that type.
+/// The column of a field of that type, whose values mean what the number says.
 pub(crate) fn read_field(
     alloc: Global,
     dtype: &DType,
+    number: u32,
     column: &ArrowColumn<'_>,
     rows: usize,
 ) -> Result<Column, ColumnFault>
     ensures { MatchResult result
-        (λ c. Serves (type_of dtype.now) rows column.now × (c ≡ arrow_column column.now))
-        (RefusesColumn (type_of dtype.now) rows column.now) }
+        (λ c. Serves (type_of dtype.now) number rows column.now × (c ≡ arrow_column column.now))
+        (RefusesColumn (type_of dtype.now) number rows column.now) }
 {
-    check_shape(dtype, column, rows)?;
+    check_shape(dtype, number, column, rows)?;
     match to_column(alloc, column) {
         Ok(column) => Ok(column),
         Err(error) => Err(ColumnFault::Unread(error)),
@@ -102,16 +133,17 @@ pub(crate) fn read_field(
 fn read_if_some(
     alloc: Global,
     dtype: &DType,
+    number: u32,
     column: &Option<ArrowColumn<'_>>,
     rows: usize,
 ) -> Result<Column, ColumnFault>
     ensures { MatchResult result
-        (λ c. ServesIfRead (type_of dtype.now) rows column.now
+        (λ c. ServesIfRead (type_of dtype.now) number rows column.now
         × (c ≡ batch_column rows column.now))
-        (RefusesIfRead (type_of dtype.now) rows column.now) }
+        (RefusesIfRead (type_of dtype.now) number rows column.now) }
 {
     match column {
-        Some(column) => read_field(alloc, dtype, column, rows),
+        Some(column) => read_field(alloc, dtype, number, column, rows),
         None => Ok(Column::null(rows)),
     }
 }
@@ -123,7 +155,8 @@ pub(crate) fn check_count(
 ) -> Result<(), ColumnError>
     ensures { MatchResult result
         (λ _. length columns.now ≡ field_count (struct_fields scope.now))
-        (λ e. (rows : ℕ) → RefusesBatch (struct_fields scope.now) rows columns.now e) }
+        (λ e. (kinds : List _) → (rows : ℕ)
+        → RefusesBatch (struct_fields scope.now) kinds rows columns.now e) }
 {
     if columns.len() < scope.len() {
         return Err(ColumnError {
@@ -140,20 +173,22 @@ pub(crate) fn check_count(
     Ok(())
 }
 
-/// The columns of a batch of so many rows, one for each field of the scope, each copied once. Where a
-/// column is None, which no answer reads, nulls are in its place. Refuses the first column that is
-/// wrong: one that is missing or not asked for, and else of another type than its field, then of
+/// The columns of a batch of so many rows, one for each field of the scope, each copied once. What
+/// the values of the fields mean is told by place; further fields are plain. Where a column is None,
+/// which no answer reads, nulls are in its place. Refuses the first column that is wrong: one that is
+/// missing or not asked for, and else of another type than its field or of another meaning, then of
 /// another number of rows, then for its buffers.
 pub fn read_batch(
     alloc: Global,
     scope: &StructFields,
+    kinds: &[LogicalKind],
     columns: &[Option<ArrowColumn<'_>>],
     rows: usize,
 ) -> Result<Vec<Column>, ColumnError>
     ensures { MatchResult result
-        (λ read. AllServe (struct_fields scope.now) rows columns.now
+        (λ read. AllServe (struct_fields scope.now) kinds.now rows columns.now
         × (read.items ≡ map (batch_column rows) columns.now))
-        (RefusesBatch (struct_fields scope.now) rows columns.now) }
+        (RefusesBatch (struct_fields scope.now) kinds.now rows columns.now) }
 {
     check_count(scope, columns)?;
     let Ok(mut read) = Vec::with_capacity(alloc, columns.len()) else {
@@ -163,7 +198,7 @@ pub fn read_batch(
         });
     };
     for (k, column) in columns.iter().enumerate() {
-        match read_if_some(alloc, scope.dtype(k), column, rows) {
+        match read_if_some(alloc, scope.dtype(k), number_at(kinds, k), column, rows) {
             Ok(field) => read.push_reserved(field),
             Err(fault) => return Err(ColumnError { column: k, fault }),
         }

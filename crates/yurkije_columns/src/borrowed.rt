@@ -1,7 +1,7 @@
 //! Columns as a C caller lends them.
 ghost use Rattle.std.specs.Prelude.{◌≡◌, option_map, MatchOption, MatchResult, None, true};
 ghost use Rattle.vortex_arrow.specs.Layouts.{layout_of};
-ghost use Rattle.yurkije_columns.specs.Kinds.{kind_numbered};
+ghost use Rattle.yurkije_columns.specs.Kinds.{kind_numbered, logical_number, values_number};
 ghost use Rattle.yurkije_columns.specs.Borrowed.{borrowed_layout, bits_borrowed, Says, SaysIfRead};
 ghost use Rattle.yurkije_columns.specs.Borrowed.{AllSay, is_read, RefusesBorrowed};
 
@@ -23,7 +23,9 @@ pub struct BorrowedColumn<'a> {
     pub bools: &'a [u8],
     pub i8s: &'a [i8],
     pub i16s: &'a [i16],
+    /// Integers, days, or patterns of floats.
     pub i32s: &'a [i32],
+    /// Integers, microseconds, decimals, or patterns of floats.
     pub i64s: &'a [i64],
     pub u8s: &'a [u8],
     pub u16s: &'a [u16],
@@ -46,7 +48,8 @@ pub fn placed<T>(slice: &[T]) -> &[T]
 impl<'a> BorrowedColumn<'a> {
     /// The buffers that a column of the kind has.
     fn values(&self, kind: Kind) -> ArrowValues<'a>
-        ensures { layout_of result ≡ borrowed_layout kind self.now }
+        ensures layout { layout_of result ≡ borrowed_layout kind self.now }
+        ensures means { values_number result ≡ logical_number kind }
     {
         let (views, buffers) = (placed(self.views), placed(self.buffers));
         let (offsets32, offsets64) = (placed(self.offsets32), placed(self.offsets64));
@@ -79,6 +82,15 @@ impl<'a> BorrowedColumn<'a> {
                 data,
             },
             Kind::BinaryView => ArrowValues::BinaryView { views, buffers },
+            Kind::F64 => ArrowValues::Float64(placed(self.i64s)),
+            Kind::F32 => ArrowValues::Float32(placed(self.i32s)),
+            Kind::Date => ArrowValues::Date(placed(self.i32s)),
+            Kind::Timestamp => ArrowValues::Timestamp(placed(self.i64s)),
+            Kind::Decimal { precision, scale } => ArrowValues::Decimal {
+                precision,
+                scale,
+                values: placed(self.i64s),
+            },
         }
     }
 

@@ -8,11 +8,13 @@ ghost use Rattle.yurkije_columns.specs.Batches.{ServesIfRead, RefusesIfRead};
 ghost use Rattle.yurkije_columns.specs.Checking.{IsFlat};
 
 use crate::batch::{ColumnError, ColumnFault, check_count, check_shape, read_field};
+use crate::kinds::number_at;
 use std::alloc::Global;
 use vortex_arrow::{ArrowColumn, ArrowError, ArrowValues, to_column};
 use vortex_columns::{DType, StructFields};
+use vortex_logical::kind::Kind as LogicalKind;
 
-/// Whether the column is of truth values or of integers, and ends at a place that a usize holds.
+/// Whether the column is of truth values or of values that integers stand for, and ends at a place that a usize holds.
 pub fn is_flat(column: &ArrowColumn<'_>) -> bool
     ensures { IsTrue result ↔ IsFlat column.now }
 {
@@ -25,7 +27,12 @@ pub fn is_flat(column: &ArrowColumn<'_>) -> bool
         | ArrowValues::UInt8(_)
         | ArrowValues::UInt16(_)
         | ArrowValues::UInt32(_)
-        | ArrowValues::UInt64(_) => column.offset.checked_add(column.length).is_some(),
+        | ArrowValues::UInt64(_)
+        | ArrowValues::Date(_)
+        | ArrowValues::Timestamp(_)
+        | ArrowValues::Decimal { .. }
+        | ArrowValues::Float64(_)
+        | ArrowValues::Float32(_) => column.offset.checked_add(column.length).is_some(),
         _ => false,
     }
 }
@@ -87,19 +94,20 @@ fn check_flat(alloc: Global, column: &ArrowColumn<'_>) -> Result<(), ArrowError>
 fn check_field(
     alloc: Global,
     dtype: &DType,
+    number: u32,
     column: &ArrowColumn<'_>,
     rows: usize,
 ) -> Result<(), ColumnFault>
-    ensures { MatchResult result (λ _. Serves (type_of dtype.now) rows column.now)
-        (RefusesColumn (type_of dtype.now) rows column.now) }
+    ensures { MatchResult result (λ _. Serves (type_of dtype.now) number rows column.now)
+        (RefusesColumn (type_of dtype.now) number rows column.now) }
 {
     if !is_flat(column) {
-        return match read_field(alloc, dtype, column, rows) {
+        return match read_field(alloc, dtype, number, column, rows) {
             Ok(_) => Ok(()),
             Err(fault) => Err(fault),
         };
     }
-    check_shape(dtype, column, rows)?;
+    check_shape(dtype, number, column, rows)?;
     match check_flat(alloc, column) {
         Ok(()) => Ok(()),
         Err(error) => Err(ColumnFault::Unread(error)),
@@ -110,14 +118,15 @@ fn check_field(
 fn check_if_some(
     alloc: Global,
     dtype: &DType,
+    number: u32,
     column: &Option<ArrowColumn<'_>>,
     rows: usize,
 ) -> Result<(), ColumnFault>
-    ensures { MatchResult result (λ _. ServesIfRead (type_of dtype.now) rows column.now)
-        (RefusesIfRead (type_of dtype.now) rows column.now) }
+    ensures { MatchResult result (λ _. ServesIfRead (type_of dtype.now) number rows column.now)
+        (RefusesIfRead (type_of dtype.now) number rows column.now) }
 {
     match column {
-        Some(column) => check_field(alloc, dtype, column, rows),
+        Some(column) => check_field(alloc, dtype, number, column, rows),
         None => Ok(()),
     }
 }
@@ -127,15 +136,17 @@ fn check_if_some(
 pub fn check_batch(
     alloc: Global,
     scope: &StructFields,
+    kinds: &[LogicalKind],
     columns: &[Option<ArrowColumn<'_>>],
     rows: usize,
 ) -> Result<(), ColumnError>
-    ensures { MatchResult result (λ _. AllServe (struct_fields scope.now) rows columns.now)
-        (RefusesBatch (struct_fields scope.now) rows columns.now) }
+    ensures { MatchResult result
+        (λ _. AllServe (struct_fields scope.now) kinds.now rows columns.now)
+        (RefusesBatch (struct_fields scope.now) kinds.now rows columns.now) }
 {
     check_count(scope, columns)?;
     for (k, column) in columns.iter().enumerate() {
-        match check_if_some(alloc, scope.dtype(k), column, rows) {
+        match check_if_some(alloc, scope.dtype(k), number_at(kinds, k), column, rows) {
             Ok(()) => {}
             Err(fault) => return Err(ColumnError { column: k, fault }),
         }

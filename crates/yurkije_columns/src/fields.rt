@@ -1,15 +1,17 @@
 //! The fields of a scope, as a C caller lends them.
-ghost use Rattle.std.specs.Prelude.{◌≡◌, ◌≢◌, MatchResult};
+ghost use Rattle.std.specs.Prelude.{◌≡◌, ◌≢◌, MatchResult, IfOk, map};
 ghost use Rattle.vortex_types.specs.TypeOf.{struct_fields};
 ghost use Rattle.vortex_types.specs.LogicalTypes.{find_field};
 ghost use Rattle.yurkije_columns.specs.declared.fields.ScopeFault.TheVariants.{OutOfMemory};
 ghost use Rattle.yurkije_columns.specs.Kinds.{kind_type};
 ghost use Rattle.yurkije_columns.specs.Scopes.{answers, refuses, if_new, with_borrowed, scope_borrowed};
+ghost use Rattle.yurkije_columns.specs.Scopes.{field_kind};
 
 use crate::kinds::{Kind, kind_numbered};
 use std::alloc::{AllocError, AllocFailed, Global};
 use std::str;
 use vortex_columns::{StructFields, VortexError};
+use vortex_logical::kind::Kind as LogicalKind;
 
 /// A field of a scope, as C has it: a name in UTF-8, the number of a kind, and whether it has null.
 #[repr(C)]
@@ -120,4 +122,28 @@ pub fn read_fields(alloc: Global, fields: &[BorrowedField<'_>]) -> Result<Struct
         }
     }
     Ok(scope)
+}
+
+/// What the values of a field mean; plain where its kind is none.
+fn field_kind(field: &BorrowedField<'_>) -> LogicalKind
+    ensures { result ≡ field_kind field.now }
+{
+    match kind_numbered(field.kind) {
+        Some(kind) => kind.logical_kind(),
+        None => LogicalKind::Plain,
+    }
+}
+
+/// What the values of each field mean.
+pub fn read_kinds(
+    alloc: Global,
+    fields: &[BorrowedField<'_>],
+) -> Result<Vec<LogicalKind>, AllocError>
+    ensures { IfOk result (λ kinds. kinds.items ≡ map field_kind fields.now) }
+{
+    let mut kinds = Vec::new(alloc);
+    for field in fields {
+        kinds.push(field_kind(field))?;
+    }
+    Ok(kinds)
 }

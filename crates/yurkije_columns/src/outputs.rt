@@ -5,7 +5,10 @@ ghost use Rattle.yurkije_columns.specs.Outputs.{IsSize, RefusesSize, StandsIn, R
 ghost use Rattle.yurkije_columns.specs.Outputs.{IsCopied, RefusesCopy, IsOfKind, KeepsLoans};
 
 use crate::kinds::{Kind, kind_numbered};
-use vortex_arrow::{CopyError, byte_count, bytes_for, copy_bools, copy_integers, copy_texts};
+use vortex_arrow::{
+    CopyError, byte_count, bytes_for, copy_bools, copy_integers, copy_narrow_floats, copy_texts,
+    copy_wide_floats,
+};
 use vortex_columns::{Column, DType};
 
 /// What an answer takes: how long buffers have to be at least.
@@ -32,7 +35,9 @@ pub struct Room<'a> {
     pub bools: &'a mut [u8],
     pub i8s: &'a mut [i8],
     pub i16s: &'a mut [i16],
+    /// Integers, days, or patterns of floats.
     pub i32s: &'a mut [i32],
+    /// Integers, microseconds, decimals, or patterns of floats.
     pub i64s: &'a mut [i64],
     pub u8s: &'a mut [u8],
     pub u16s: &'a mut [u16],
@@ -116,6 +121,11 @@ fn copy_into(column: &Column, kind: Kind, room: &mut Room<'_>) -> Result<(), Cop
         Kind::LargeUtf8 => copy_texts(column, room.validity, room.offsets64, room.data),
         Kind::Binary => copy_texts(column, room.validity, room.offsets32, room.data),
         Kind::LargeBinary => copy_texts(column, room.validity, room.offsets64, room.data),
+        Kind::F64 => copy_wide_floats(column, room.validity, room.i64s),
+        Kind::F32 => copy_narrow_floats(column, room.validity, room.i32s),
+        Kind::Date => copy_integers(column, room.validity, room.i32s),
+        Kind::Timestamp => copy_integers(column, room.validity, room.i64s),
+        Kind::Decimal { .. } => copy_integers(column, room.validity, room.i64s),
         Kind::Utf8View | Kind::BinaryView => Err(CopyError::OtherType),
     }
 }
@@ -129,11 +139,12 @@ pub enum RoomError {
     Uncopied(CopyError),
 }
 
-/// Copies an answer into the caller's buffers, each from its first item on. What lies behind stays
-/// as it was, and so do the buffers of other kinds, and all where the copy is refused.
-pub fn copy_answer(column: &Column, room: &mut Room<'_>) -> Result<(), RoomError>
-    ensures copied { OnOk result (IsCopied column.now room.old room.new) }
-    ensures refused { MatchResult result (λ _. ⊤) (RefusesCopy column.now room.old) }
+/// Copies an answer, whose values mean what the number says, into the caller's buffers, each from
+/// its first item on. What lies behind stays as it was, and so do the buffers of other kinds, and all
+/// where the copy is refused.
+pub fn copy_answer(column: &Column, number: u32, room: &mut Room<'_>) -> Result<(), RoomError>
+    ensures copied { OnOk result (IsCopied column.now number room.old room.new) }
+    ensures refused { MatchResult result (λ _. ⊤) (RefusesCopy column.now number room.old) }
     ensures kept { OnErr result (room.new ≡ room.old) }
     ensures loans { KeepsLoans room.old room.new }
 {
@@ -141,6 +152,9 @@ pub fn copy_answer(column: &Column, room: &mut Room<'_>) -> Result<(), RoomError
         return Err(RoomError::UnknownKind);
     };
     if !is_of_kind(kind, column) {
+        return Err(RoomError::Uncopied(CopyError::OtherType));
+    }
+    if kind.logical_number() != number {
         return Err(RoomError::Uncopied(CopyError::OtherType));
     }
     match copy_into(column, kind, room) {

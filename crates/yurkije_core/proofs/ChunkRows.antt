@@ -17,6 +17,7 @@ use Rattle.vortex_expressions.specs.Items.{Tree, meaning}
 use Rattle.vortex_arrow.specs.declared.column.ArrowColumn.{ArrowColumn}
 use Rattle.vortex_arrow.specs.Layouts.{layout_of, value_at}
 use Rattle.vortex_arrow.specs.Columns.{arrow_column, arrow_validity}
+use Rattle.vortex_logical.specs.declared.kind.Kind.{Kind}
 use Rattle.vortex_program.specs.Reads.{BothAt}
 use Rattle.vortex_program.specs.Rows.{HasRows}
 use Rattle.vortex_program.proofs.Answered.{all_head, all_tail, all_cons, all_more}
@@ -124,36 +125,36 @@ at_is [] i d lt = absurd (omega (arith, lt))
 at_is (c ∷ cs) zero d lt = refl
 at_is (c ∷ cs) (suc i) d lt = at_is cs i d (omega (arith, lt))
 
-module _ (scope : Fields) (n : ℕ) (cs : List (Option ArrowColumn)) (serve : AllServe scope n cs)
-  where
-    length_if : (o : Option ArrowColumn) (i : ℕ) → i < length cs → slice_get cs i ≡ Some o
-        → IfSome o (λ c. c.length ≡ n)
-    length_if None i lt there = tt
-    length_if (Some c) i lt there = (serve.serve i lt c there).rows
+module _ (scope : Fields) (kinds : List Kind) (n : ℕ) (cs : List (Option ArrowColumn))
+    (serve : AllServe scope kinds n cs) where
+  length_if : (o : Option ArrowColumn) (i : ℕ) → i < length cs → slice_get cs i ≡ Some o
+      → IfSome o (λ c. c.length ≡ n)
+  length_if None i lt there = tt
+  length_if (Some c) i lt there = (serve.serve i lt c there).rows
 
-    pub served_counted : All (λ o. IfSome o (λ c. c.length ≡ n)) cs
-    served_counted i d lt = length_if (get_or cs i d) i lt (at_is cs i d lt)
+  pub served_counted : All (λ o. IfSome o (λ c. c.length ≡ n)) cs
+  served_counted i d lt = length_if (get_or cs i d) i lt (at_is cs i d lt)
 
-    place_if : (o : Option ArrowColumn) → IfSome o IsFlat → IfSome o (λ c. c.length ≡ n)
-        → IfSome o (λ c. c.offset + n < 2 ^ 64)
-    place_if None flat counted = tt
-    place_if (Some c) flat counted = omega (arith, flat.end, counted)
+  place_if : (o : Option ArrowColumn) → IfSome o IsFlat → IfSome o (λ c. c.length ≡ n)
+      → IfSome o (λ c. c.offset + n < 2 ^ 64)
+  place_if None flat counted = tt
+  place_if (Some c) flat counted = omega (arith, flat.end, counted)
 
-    pub served_place : All (λ o. IfSome o IsFlat) cs
-        → All (λ o. IfSome o (λ c. c.offset + n < 2 ^ 64)) cs
-    served_place flat i d lt = place_if (get_or cs i d) (flat i d lt) (served_counted i d lt)
+  pub served_place : All (λ o. IfSome o IsFlat) cs
+      → All (λ o. IfSome o (λ c. c.offset + n < 2 ^ 64)) cs
+  served_place flat i d lt = place_if (get_or cs i d) (flat i d lt) (served_counted i d lt)
 
-    chunk_if : (o : Option ArrowColumn) → IfSome o (λ c. c.offset + n < 2 ^ 64)
-        → IfSome o (λ c. c.length ≡ n) → HasChunkIfRead 0 n o
-    chunk_if None place counted = tt
-    chunk_if (Some c) place counted = record {
-      place = omega (arith, place);
-      within = omega (arith, counted);
-    }
+  chunk_if : (o : Option ArrowColumn) → IfSome o (λ c. c.offset + n < 2 ^ 64)
+      → IfSome o (λ c. c.length ≡ n) → HasChunkIfRead 0 n o
+  chunk_if None place counted = tt
+  chunk_if (Some c) place counted = record {
+    place = omega (arith, place);
+    within = omega (arith, counted);
+  }
 
-    pub served_chunk : All (λ o. IfSome o IsFlat) cs → All (HasChunkIfRead 0 n) cs
-    served_chunk flat i d lt =
-        chunk_if (get_or cs i d) (served_place flat i d lt) (served_counted i d lt)
+  pub served_chunk : All (λ o. IfSome o IsFlat) cs → All (HasChunkIfRead 0 n) cs
+  served_chunk flat i d lt =
+      chunk_if (get_or cs i d) (served_place flat i d lt) (served_counted i d lt)
 
 -- one column more of which P holds
 module _ (P : Option ArrowColumn → Type 0) where

@@ -15,9 +15,9 @@ use Rattle.yurkije_core.specs.declared.reading.ProgramError.TheVariants as progr
 use Rattle.yurkije_core.specs.declared.running.BatchRunError.{BatchRunError}
 use Rattle.yurkije_core.specs.declared.running.BatchRunError.TheVariants as run
 
--- a text that is none of a kind is a literal that is no value; else kinds are types that do not fit
+-- a text that is none of a kind has a status of its own; else kinds are types that do not fit
 abbrev pub kinds_status : lowering.Refusal → ℕ
-kinds_status (unlowered.NotOfKind k) = 114
+kinds_status (unlowered.NotOfKind k) = 119
 kinds_status (unlowered.Binding e) = number_of e
 kinds_status r = 3
 

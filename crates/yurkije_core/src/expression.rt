@@ -1,5 +1,5 @@
 //! Expressions: programs, with the columns that their answers read.
-ghost use Rattle.std.specs.Prelude.{◌≡◌, ◌++◌, ◌∷◌, []};
+ghost use Rattle.std.specs.Prelude.{◌≡◌, ◌++◌, ◌∷◌, [], map};
 ghost use Rattle.vortex_errors.specs.Answers.{AnswersUnlessMemory};
 ghost use Rattle.vortex_types.specs.LogicalTypes.{field_count};
 ghost use Rattle.vortex_types.specs.TypeOf.{struct_fields};
@@ -9,7 +9,8 @@ ghost use Rattle.yurkije_core.specs.Fields.{marked_places};
 
 use std::alloc::Global;
 use vortex_columns::VortexResult;
-use vortex_program::{Program, columns_read};
+use vortex_logical::kind::Kind;
+use vortex_program::{Answer, Program, columns_read};
 
 /// A program, and for each field of its scope whether an answer reads it, as it was written.
 #[derive(Drop)]
@@ -58,4 +59,15 @@ impl Expression {
     {
         marked_places(alloc, &self.reads)
     }
+}
+
+/// What the values of each answer mean. E9 where an allocation fails.
+pub fn kinds_of(alloc: Global, answers: &[Answer]) -> VortexResult<Vec<Kind>>
+    ensures { AnswersUnlessMemory result (λ kinds. kinds.items ≡ map (λ a. a.kind) answers.now) }
+{
+    let mut kinds = Vec::new(alloc);
+    for answer in answers {
+        kinds.push(answer.kind)?;
+    }
+    Ok(kinds)
 }

@@ -10,7 +10,7 @@ pub mod running;
 pub mod statuses;
 mod words;
 
-pub use expression::Expression;
+pub use expression::{Expression, kinds_of};
 pub use reading::{ProgramError, read_program};
 pub use report::{ErrorNumbers, NONE, Report};
 pub use running::{BatchRunError, run_program};

@@ -21,7 +21,7 @@ pub enum BatchRunError {
     Program(vortex_program::RunError),
 }
 
-/// Whether a column is of truth values or of integers, if it is read.
+/// Whether a column is of truth values or of what integers stand for, if it is read.
 fn is_flat_if_read(column: &Option<ArrowColumn<'_>>) -> bool
     ensures { IsTrue result → IfSome column.now IsFlat }
 {
@@ -31,7 +31,7 @@ fn is_flat_if_read(column: &Option<ArrowColumn<'_>>) -> bool
     }
 }
 
-/// Whether all columns that are read are of truth values or of integers.
+/// Whether all columns that are read are of truth values or of what integers stand for.
 fn are_flat(columns: &[Option<ArrowColumn<'_>>]) -> bool
     ensures { IsTrue result → All (λ o. IfSome o IsFlat) columns.now }
 {
@@ -52,12 +52,12 @@ fn run_whole(
 ) -> Result<Vec<Column>, BatchRunError>
     ensures { AreRewrites program.now.written.items program.now.optimized.items
         → MatchResult result
-        (λ answers. AnswersBatch (struct_fields program.now.scope) rows columns.now
-        (trees_of program.now.written.items) answers.items)
-        (RefusesRun (struct_fields program.now.scope) rows columns.now
+        (λ answers. AnswersBatch (struct_fields program.now.scope) program.now.kinds.items rows
+        columns.now (trees_of program.now.written.items) answers.items)
+        (RefusesRun (struct_fields program.now.scope) program.now.kinds.items rows columns.now
         (trees_of program.now.written.items) (trees_of program.now.optimized.items)) }
 {
-    let columns = match read_batch(alloc, &program.scope, columns, rows) {
+    let columns = match read_batch(alloc, &program.scope, &program.kinds, columns, rows) {
         Ok(columns) => columns,
         Err(error) => return Err(BatchRunError::Batch(error)),
     };
@@ -67,7 +67,7 @@ fn run_whole(
     }
 }
 
-/// What `run_program` answers, where the columns that are read are of truth values or of integers:
+/// What `run_program` answers, where the columns that are read are of truth values or of what integers stand for:
 /// chunk by chunk, where the answers are so too.
 fn run_flat(
     alloc: Global,
@@ -79,12 +79,12 @@ fn run_flat(
     requires some { 0 < rows }
     ensures { AreRewrites program.now.written.items program.now.optimized.items
         → MatchResult result
-        (λ answers. AnswersBatch (struct_fields program.now.scope) rows columns.now
-        (trees_of program.now.written.items) answers.items)
-        (RefusesRun (struct_fields program.now.scope) rows columns.now
+        (λ answers. AnswersBatch (struct_fields program.now.scope) program.now.kinds.items rows
+        columns.now (trees_of program.now.written.items) answers.items)
+        (RefusesRun (struct_fields program.now.scope) program.now.kinds.items rows columns.now
         (trees_of program.now.written.items) (trees_of program.now.optimized.items)) }
 {
-    match check_batch(alloc, &program.scope, columns, rows) {
+    match check_batch(alloc, &program.scope, &program.kinds, columns, rows) {
         Ok(()) => {}
         Err(error) => return Err(BatchRunError::Batch(error)),
     }
@@ -115,9 +115,9 @@ pub fn run_program(
 ) -> Result<Vec<Column>, BatchRunError>
     ensures { AreRewrites program.now.written.items program.now.optimized.items
         → MatchResult result
-        (λ answers. AnswersBatch (struct_fields program.now.scope) rows columns.now
-        (trees_of program.now.written.items) answers.items)
-        (RefusesRun (struct_fields program.now.scope) rows columns.now
+        (λ answers. AnswersBatch (struct_fields program.now.scope) program.now.kinds.items rows
+        columns.now (trees_of program.now.written.items) answers.items)
+        (RefusesRun (struct_fields program.now.scope) program.now.kinds.items rows columns.now
         (trees_of program.now.written.items) (trees_of program.now.optimized.items)) }
 {
     if rows > WHOLE && are_flat(columns) {

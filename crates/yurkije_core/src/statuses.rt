@@ -24,7 +24,7 @@ fn kinds_status(refusal: &vortex_lowering::Refusal) -> u32
     match refusal {
         vortex_lowering::Refusal::NoCommonKind(_, _) => 3,
         vortex_lowering::Refusal::NotShipped(_, _) => 3,
-        vortex_lowering::Refusal::NotOfKind(_) => 114,
+        vortex_lowering::Refusal::NotOfKind(_) => 119,
         vortex_lowering::Refusal::NotStored(_) => 3,
         vortex_lowering::Refusal::Binding(error) => error_status(error),
     }

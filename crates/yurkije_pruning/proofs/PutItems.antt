@@ -1,6 +1,6 @@
 -- Items that are written one after another, and what is behind them.
-use Rattle.std.proofs.Common.{◌≡◌, ◌⊎◌, inl, inr, ◌+◌, ◌<◌, ℕ, List, [], ◌∷◌, ◌++◌, length, map}
-use Rattle.std.proofs.Common.{take, drop, set, get_or, sym, ap, ◌∙◌, arith, refl}
+use Rattle.std.proofs.Common.{◌≡◌, inl, inr, ◌+◌, ◌<◌, ℕ, List, [], ◌∷◌, ◌++◌, length, map}
+use Rattle.std.proofs.Common.{take, set, get_or, sym, ap, ◌∙◌, arith, refl}
 use Rattle.std.proofs.lemmas.List.{take_more, take_more_set, map_push, drop-set-lt}
 use Rattle.vortex_arrow.specs.Written.{SameBehind}
 use Rattle.vortex_arrow.proofs.Parts.{drop_further}

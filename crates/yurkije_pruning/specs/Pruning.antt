@@ -2,6 +2,7 @@
 use Rattle.std.specs.Prelude.{◌≡◌, ◌⊎◌, ℕ, List, length, Some, true, false}
 use Rattle.vortex_errors.specs.declared.error.VortexError.TheVariants.{OutOfMemory}
 use Rattle.vortex_types.specs.LogicalTypes.{LogicalType, Fields, is_bool_type}
+use Rattle.vortex_logical.specs.declared.kind.Kind.{Kind}
 use Rattle.vortex_interface.specs.Meaning.{Meaning}
 use Rattle.vortex_interface.specs.Trees.{Tree}
 use Rattle.vortex_interface.specs.Eval.{tree_type}
@@ -26,12 +27,13 @@ module _ {V O : Type 0} (m : Meaning V O) where
     pub typed : tree_type m t ≡ Some dtype
     pub no_truths : is_bool_type dtype ≡ false
 
-  module _ (scope : Fields) (ss : List BorrowedStatistics) (t : Tree V O) (ns : List ℕ) where
+  module _ (scope : Fields) (kinds : List Kind) (ss : List BorrowedStatistics) (t : Tree V O)
+      (ns : List ℕ) where
     -- each group, of so many rows, is pruned by the statistics that are lent of it
     pub record PrunesLent (ps : List Pruned) : Type 0 where
       pub condition : IsCondition t
       pub fields : List FieldStatistics
-      pub read : AreFields scope (length ns) ss fields
+      pub read : AreFields scope kinds (length ns) ss fields
       pub pruned : PruneAll m fields t ns ps
 
     -- the tree is no condition, or the statistics are refused, or those of a group contradict
@@ -40,8 +42,8 @@ module _ {V O : Type 0} (m : Meaning V O) where
     RefusesLent error.NoCondition = IsNoCondition t
     RefusesLent (error.Groups e) =
         (e ≡ Refused OutOfMemory)
-        ⊎ ((fs : List FieldStatistics) × AreFields scope (length ns) ss fs
+        ⊎ ((fs : List FieldStatistics) × AreFields scope kinds (length ns) ss fs
         × RefusesGroups m fs t ns e)
-    RefusesLent (error.Missing k) = RefusesStatistics scope (length ns) ss (error.Missing k)
-    RefusesLent (error.Unasked k) = RefusesStatistics scope (length ns) ss (error.Unasked k)
-    RefusesLent (error.Column k p f) = RefusesStatistics scope (length ns) ss (error.Column k p f)
+    RefusesLent (error.Missing k) = RefusesStatistics scope kinds (length ns) ss (error.Missing k)
+    RefusesLent (error.Unasked k) = RefusesStatistics scope kinds (length ns) ss (error.Unasked k)
+    RefusesLent (error.Column k p f) = RefusesStatistics scope kinds (length ns) ss (error.Column k p f)

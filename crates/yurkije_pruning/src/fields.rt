@@ -12,8 +12,9 @@ use crate::lent::BorrowedStatistics;
 use std::alloc::Global;
 use vortex_arrow::to_column;
 use vortex_columns::{Column, DType, Nullability, PType, StructFields};
+use vortex_logical::kind::Kind as LogicalKind;
 use vortex_pruning::FieldStatistics;
-use yurkije_columns::{BorrowedColumn, Kind, kind_numbered};
+use yurkije_columns::{BorrowedColumn, Kind, kind_numbered, number_at};
 
 /// Whether values of the kind have the type, with null or without.
 fn is_of_type(kind: Kind, dtype: &DType) -> bool
@@ -22,15 +23,18 @@ fn is_of_type(kind: Kind, dtype: &DType) -> bool
     kind.dtype(dtype.is_nullable()) == *dtype
 }
 
-/// Refuses a column of another type.
-fn check_type(dtype: &DType, column: &BorrowedColumn<'_>) -> Result<(), PartFault>
-    ensures { MatchResult result (λ _. IsTyped (type_of dtype.now) column.now)
-        (RefusesType (type_of dtype.now) column.now) }
+/// Refuses a column of another type, or whose values mean something else than the number says.
+fn check_type(dtype: &DType, number: u32, column: &BorrowedColumn<'_>) -> Result<(), PartFault>
+    ensures { MatchResult result (λ _. IsTyped (type_of dtype.now) number column.now)
+        (RefusesType (type_of dtype.now) number column.now) }
 {
     let Some(kind) = kind_numbered(column.kind) else {
         return Err(PartFault::UnknownKind);
     };
-    if is_of_type(kind, dtype) {
+    if !is_of_type(kind, dtype) {
+        return Err(PartFault::OtherType);
+    }
+    if kind.logical_number() == number {
         Ok(())
     } else {
         Err(PartFault::OtherType)
@@ -50,21 +54,22 @@ fn read_column(alloc: Global, column: &BorrowedColumn<'_>) -> Result<Column, Par
     }
 }
 
-/// A column of statistics of that type, with an item for each of so many groups; none where it has
+/// A column of statistics of that type and meaning, with an item for each of so many groups; none where it has
 /// no rows.
 fn read_part(
     alloc: Global,
     dtype: &DType,
+    number: u32,
     column: &BorrowedColumn<'_>,
     groups: usize,
 ) -> Result<Option<Column>, PartFault>
-    ensures { MatchResult result (IsPart (type_of dtype.now) groups column.now)
-        (RefusesPart (type_of dtype.now) groups column.now) }
+    ensures { MatchResult result (IsPart (type_of dtype.now) number groups column.now)
+        (RefusesPart (type_of dtype.now) number groups column.now) }
 {
     if column.rows == 0 {
         return Ok(None);
     }
-    match check_type(dtype, column) {
+    match check_type(dtype, number, column) {
         Ok(()) => {}
         Err(fault) => return Err(fault),
     }
@@ -83,39 +88,41 @@ fn read_named(
     field: usize,
     part: Part,
     dtype: &DType,
+    number: u32,
     column: &BorrowedColumn<'_>,
     groups: usize,
 ) -> Result<Option<Column>, PruneError>
-    ensures { MatchResult result (IsPart (type_of dtype.now) groups column.now)
-        (IsWrong field part (type_of dtype.now) groups column.now) }
+    ensures { MatchResult result (IsPart (type_of dtype.now) number groups column.now)
+        (IsWrong field part (type_of dtype.now) number groups column.now) }
 {
-    match read_part(alloc, dtype, column, groups) {
+    match read_part(alloc, dtype, number, column, groups) {
         Ok(column) => Ok(column),
         Err(fault) => Err(PruneError::Column { field, part, fault }),
     }
 }
 
-/// The statistics of a field of that type.
+/// The statistics of a field of that type, whose values mean what the number says.
 fn read_field(
     alloc: Global,
     field: usize,
     dtype: &DType,
+    number: u32,
     lent: &BorrowedStatistics<'_>,
     groups: usize,
 ) -> Result<FieldStatistics, PruneError>
-    ensures { MatchResult result (IsField (type_of dtype.now) groups lent.now)
-        (RefusesField field (type_of dtype.now) groups lent.now) }
+    ensures { MatchResult result (IsField (type_of dtype.now) number groups lent.now)
+        (RefusesField field (type_of dtype.now) number groups lent.now) }
 {
     let count = DType::Primitive(PType::U64, Nullability::NonNullable);
-    let low = match read_named(alloc, field, Part::Low, dtype, &lent.low, groups) {
+    let low = match read_named(alloc, field, Part::Low, dtype, number, &lent.low, groups) {
         Ok(low) => low,
         Err(error) => return Err(error),
     };
-    let high = match read_named(alloc, field, Part::High, dtype, &lent.high, groups) {
+    let high = match read_named(alloc, field, Part::High, dtype, number, &lent.high, groups) {
         Ok(high) => high,
         Err(error) => return Err(error),
     };
-    let nulls = match read_named(alloc, field, Part::Nulls, &count, &lent.nulls, groups) {
+    let nulls = match read_named(alloc, field, Part::Nulls, &count, 0, &lent.nulls, groups) {
         Ok(nulls) => nulls,
         Err(error) => return Err(error),
     };
@@ -146,18 +153,20 @@ fn check_count(scope: &StructFields, lent: &[BorrowedStatistics<'_>]) -> Result<
 }
 
 /// The statistics of the fields of a scope in so many groups, each column copied once; none in the
-/// place of a column without rows. Refuses statistics of fewer or more fields than the scope has;
+/// place of a column without rows. What the values of the fields mean is told by place; further fields
+/// are plain. Refuses statistics of fewer or more fields than the scope has;
 /// else the first column that is wrong: of its kind, of its type, of its number of items, or of its
 /// buffers. E9 where an allocation fails.
 pub fn read_statistics(
     alloc: Global,
     scope: &StructFields,
+    kinds: &[LogicalKind],
     lent: &[BorrowedStatistics<'_>],
     groups: usize,
 ) -> Result<Vec<FieldStatistics>, PruneError>
     ensures { MatchResult result
-        (λ fields. AreFields (struct_fields scope.now) groups lent.now fields.items)
-        (RefusesStatistics (struct_fields scope.now) groups lent.now) }
+        (λ fields. AreFields (struct_fields scope.now) kinds.now groups lent.now fields.items)
+        (RefusesStatistics (struct_fields scope.now) kinds.now groups lent.now) }
 {
     match check_count(scope, lent) {
         Ok(()) => {}
@@ -165,7 +174,14 @@ pub fn read_statistics(
     }
     let mut fields = Vec::new(alloc);
     for k in 0..lent.len() {
-        let field = match read_field(alloc, k, scope.dtype(k), &lent[k], groups) {
+        let field = match read_field(
+            alloc,
+            k,
+            scope.dtype(k),
+            number_at(kinds, k),
+            &lent[k],
+            groups,
+        ) {
             Ok(field) => field,
             Err(error) => return Err(error),
         };

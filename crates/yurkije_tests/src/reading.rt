@@ -10,7 +10,7 @@ use yurkije_core::{ErrorNumbers, Program, ProgramError, program_words, read_prog
 /// that is not UTF-8.
 pub fn program_of(alloc: Global, text: &[u8]) -> Result<Program, ProgramError> {
     match read_fields(alloc, &fields()) {
-        Ok(scope) => read_program(alloc, scope, text),
+        Ok(scope) => read_program(alloc, scope, Vec::new(alloc), text),
         Err(_) => Err(ProgramError::NotUtf8),
     }
 }

@@ -60,7 +60,7 @@ fn is_copied(rt: HostRuntime, answer: Option<Box<Column>>) -> bool {
         offsets64: &mut [],
         data: &mut [],
     };
-    let copied = copy_answer(&column, &mut room).is_ok();
+    let copied = copy_answer(&column, 0, &mut room).is_ok();
     same(
         rt,
         (copied, validity, numbers),

@@ -33,7 +33,7 @@ pub fn answers_of(
 }
 
 /// Whether an answer's text is this one.
-fn is_text(rt: HostRuntime, answers: &[Column], answer: usize, expected: &str) -> bool {
+pub fn is_text(rt: HostRuntime, answers: &[Column], answer: usize, expected: &str) -> bool {
     match answers.get(answer) {
         Some(column) => match column.text(rt.alloc()) {
             Ok(text) => same(rt, text.as_str(), expected),

@@ -4,6 +4,7 @@ use Rattle.vortex_types.specs.declared.dtype.PType.TheVariants.{U64}
 use Rattle.vortex_columns.specs.ValidityView.{validity_of}
 use Rattle.vortex_arrow.specs.declared.column.ArrowValues.{ArrowValues}
 use Rattle.vortex_arrow.specs.Values.{buffers_of}
+use Rattle.vortex_arrow.specs.Floats.{wide_key, narrow_key}
 use Rattle.vortex_arrow.specs.Layouts.{bits, numbers, offsets, views, layout_of}
 use Rattle.std.proofs.Common.{true, false}
 use Rattle.vortex_arrow.proofs.Answered.{AnswersValues, plain_answer, texts_answer, bytes_answer}
@@ -89,6 +90,51 @@ returns-in-UInt64 c =
     (sym c.in-UInt64.is)
     (plain_answer (numbers U64 (map pos c.in-UInt64.values.now)) v c.args.from c.args.count c.read_integers-in-UInt64.result
     (record { lie = λ i h. tt; room = tt; texts = λ i h. tt }) c.read_integers-in-UInt64.ensures)
+
+pub returns-in-Date : goal.returns-in-Date
+returns-in-Date c =
+    let v = validity_of c.args.validity in
+    subst
+    (λ (w : ArrowValues). AnswersValues c.read_integers-in-Date.result (layout_of w) v c.args.from c.args.count)
+    (sym c.in-Date.is)
+    (plain_answer (numbers I32 (map (λ x. x) c.in-Date.days.now)) v c.args.from c.args.count c.read_integers-in-Date.result
+    (record { lie = λ i h. tt; room = tt; texts = λ i h. tt }) c.read_integers-in-Date.ensures)
+
+pub returns-in-Timestamp : goal.returns-in-Timestamp
+returns-in-Timestamp c =
+    let v = validity_of c.args.validity in
+    subst
+    (λ (w : ArrowValues). AnswersValues c.read_integers-in-Timestamp.result (layout_of w) v c.args.from c.args.count)
+    (sym c.in-Timestamp.is)
+    (plain_answer (numbers I64 (map (λ x. x) c.in-Timestamp.times.now)) v c.args.from c.args.count c.read_integers-in-Timestamp.result
+    (record { lie = λ i h. tt; room = tt; texts = λ i h. tt }) c.read_integers-in-Timestamp.ensures)
+
+pub returns-in-Decimal : goal.returns-in-Decimal
+returns-in-Decimal c =
+    let v = validity_of c.args.validity in
+    subst
+    (λ (w : ArrowValues). AnswersValues c.read_integers-in-Decimal.result (layout_of w) v c.args.from c.args.count)
+    (sym c.in-Decimal.is)
+    (plain_answer (numbers I64 (map (λ x. x) c.in-Decimal.values.now)) v c.args.from c.args.count c.read_integers-in-Decimal.result
+    (record { lie = λ i h. tt; room = tt; texts = λ i h. tt }) c.read_integers-in-Decimal.ensures)
+
+pub returns-in-Float64 : goal.returns-in-Float64
+returns-in-Float64 c =
+    let v = validity_of c.args.validity in
+    subst
+    (λ (w : ArrowValues). AnswersValues c.read_wide_floats.result (layout_of w) v c.args.from c.args.count)
+    (sym c.in-Float64.is)
+    (plain_answer (numbers I64 (map wide_key c.in-Float64.patterns.now)) v c.args.from c.args.count c.read_wide_floats.result
+    (record { lie = λ i h. tt; room = tt; texts = λ i h. tt }) c.read_wide_floats.ensures)
+
+pub returns-in-Float32 : goal.returns-in-Float32
+returns-in-Float32 c =
+    let v = validity_of c.args.validity in
+    subst
+    (λ (w : ArrowValues). AnswersValues c.read_narrow_floats.result (layout_of w) v c.args.from c.args.count)
+    (sym c.in-Float32.is)
+    (plain_answer (numbers I32 (map narrow_key c.in-Float32.patterns.now)) v c.args.from c.args.count c.read_narrow_floats.result
+    (record { lie = λ i h. tt; room = tt; texts = λ i h. tt }) c.read_narrow_floats.ensures)
 
 pub returns-in-Utf8 : goal.returns-in-Utf8
 returns-in-Utf8 c =

@@ -1,11 +1,12 @@
-use Rattle.std.proofs.Common.{◌≡◌, Bool, List, Option, subst, sym}
+use Rattle.std.proofs.Common.{◌≡◌, Bool, List, Option, map, subst, sym}
 use Rattle.vortex_arrow.specs.declared.column.ArrowColumn.{ArrowColumn}
 use Rattle.yurkije_columns.specs.Borrowed.{AllSay, RefusesBorrowed}
 use Rattle.yurkije_columns.specs.Messages.{borrowed_words}
 use Rattle.yurkije_core.specs.Reports.{borrowed_told, run_told}
 use Rattle.yurkije_core.specs.Messages.{IsRunWords}
 use Rattle.yurkije.specs.Views.{program_view}
-use Rattle.yurkije.specs.Answering.{no_kind, refused}
+use Rattle.vortex_program.specs.declared.answer.Answer.{Answer}
+use Rattle.yurkije.specs.Answering.{no_kind, refused, KeepsOrWants}
 use Rattle.yurkije.proofs.RunHeld.{run_holds}
 use Rattle.yurkije.proofs.ErrorNumbers.{refuses_in}
 use Rattle.yurkije.proofs.running.run.Goals as goal
@@ -30,7 +31,12 @@ returns-in-Ok-run_program c =
     c.deref.ensures.value c.in-Ok.ensures) in
     run_holds (program_view c.args.expression.now) c.args.columns.now c.args.rows
     c.hold.new.answers.held c.hold.result c.args.error.now c.hold.new.error c.deref-2.result.now
-    c.in-Ok-run_program.columns.items say c.in-Ok-run_program.ensures c.hold.ensures
+    c.in-Ok-run_program.columns.items say c.in-Ok-run_program.ensures
+    (subst
+    (λ (written : List Answer).
+    KeepsOrWants c.in-Ok-run_program.columns.items (map (λ a. a.kind) written)
+    c.hold.new.answers.held c.hold.result c.args.error.now c.hold.new.error)
+    c.deref-in-Ok-run_program.ensures.value c.hold.ensures)
 
 pub returns : goal.returns
 returns c =

@@ -6,14 +6,14 @@ use Rattle.yurkije_columns.proofs.batch.read_batch.Goals as goal
 
 pub returns-in-Err : goal.returns-in-Err
 returns-in-Err c =
-    wrong_at _ _ _ _ _ _ _ c.loop-k-test.true c.in_ok-check_count.ensures c.dtype.ensures
+    wrong_at _ _ _ _ _ _ _ _ _ c.loop-k-test.true c.in_ok-check_count.ensures c.dtype.ensures c.number_at.ensures
     c.in-Err.ensures c.loop-k.invariant.serve
 
 pub loop-k-preserved : goal.loop-k-preserved
 loop-k-preserved c = record {
   count = omega (arith, c.push_reserved.ensures.len, c.loop-k.invariant.count);
   place = c.push_reserved.ensures.capacity ∙ c.loop-k.invariant.place;
-  serve = first_serve_more _ _ _ _ _ _ c.loop-k-test.true c.dtype.ensures
+  serve = first_serve_more _ _ _ _ _ _ _ _ c.loop-k-test.true c.dtype.ensures c.number_at.ensures
       c.in-Ok-read_if_some.ensures.0
       c.loop-k.invariant.serve;
   columns = c.push_reserved.ensures.items

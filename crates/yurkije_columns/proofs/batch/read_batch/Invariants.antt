@@ -9,6 +9,6 @@ abbrev pub invariant-loop-k : goal.invariant-loop-k
 invariant-loop-k l = record {
   count : vec_len l.read ≡ l.k;
   place : vec_capacity l.read ≡ length l.columns;
-  serve : FirstServe (struct_fields l.scope) l.rows l.columns l.k;
+  serve : FirstServe (struct_fields l.scope) l.kinds l.rows l.columns l.k;
   columns : l.read.items ≡ map (batch_column l.rows) (take l.k l.columns);
 }

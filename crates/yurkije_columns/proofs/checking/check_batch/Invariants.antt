@@ -4,4 +4,4 @@ use Rattle.yurkije_columns.proofs.checking.check_batch.Given as goal
 
 -- the columns so far serve
 abbrev pub invariant-loop-k : goal.invariant-loop-k
-invariant-loop-k l = FirstServe (struct_fields l.scope) l.rows l.columns l.k
+invariant-loop-k l = FirstServe (struct_fields l.scope) l.kinds l.rows l.columns l.k

@@ -8,6 +8,7 @@ returns-in-Ok-clause-copied c =
       kind = c.in-Some.kind;
       numbered = sym c.kind_numbered.ensures ∙ c.in-Some.is;
       dtype = same;
+      means = search rules;
       stands = c.in-Ok.ensures.copied;
     }
 
@@ -16,5 +17,5 @@ returns-in-Err-clause-refused c =
     let same : IsOfKind c.in-Some.kind c.args.column.now.dtype = search rules in (
       c.in-Some.kind,
       sym c.kind_numbered.ensures ∙ c.in-Some.is,
-      inr (same, c.in-Err.ensures.refused),
+      inr ((same, search rules), c.in-Err.ensures.refused),
     )

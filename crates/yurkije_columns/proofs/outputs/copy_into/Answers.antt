@@ -7,7 +7,7 @@ use Rattle.yurkije_columns.proofs.outputs.copy_into.Goals as goal
 pub returns-in-Utf8-clause-copied : goal.returns-in-Utf8-clause-copied
 returns-in-Utf8-clause-copied c =
     texts_stand _ c.args.kind kind.Utf8 c.args.column.now c.args.room.now _ true _ _ _ _
-    c.in-Utf8.is refl
+    c.in-Utf8.is refl refl
     (text_of_kind c.args.kind kind.Utf8 c.args.column.now.dtype c.in-Utf8.is c.requires)
     c.copy_texts.ensures.copied c.copy_texts.ensures.behind
     (λ offsets bytes. (offsets, bytes)) refl
@@ -15,7 +15,7 @@ returns-in-Utf8-clause-copied c =
 pub returns-in-LargeUtf8-clause-copied : goal.returns-in-LargeUtf8-clause-copied
 returns-in-LargeUtf8-clause-copied c =
     texts_stand _ c.args.kind kind.LargeUtf8 c.args.column.now c.args.room.now _ true _ _ _ _
-    c.in-LargeUtf8.is refl
+    c.in-LargeUtf8.is refl refl
     (text_of_kind c.args.kind kind.LargeUtf8 c.args.column.now.dtype c.in-LargeUtf8.is c.requires)
     c.copy_texts-in-LargeUtf8.ensures.copied c.copy_texts-in-LargeUtf8.ensures.behind
     (λ offsets bytes. (offsets, bytes)) refl
@@ -23,7 +23,7 @@ returns-in-LargeUtf8-clause-copied c =
 pub returns-in-Binary-clause-copied : goal.returns-in-Binary-clause-copied
 returns-in-Binary-clause-copied c =
     texts_stand _ c.args.kind kind.Binary c.args.column.now c.args.room.now _ false _ _ _ _
-    c.in-Binary.is refl
+    c.in-Binary.is refl refl
     (text_of_kind c.args.kind kind.Binary c.args.column.now.dtype c.in-Binary.is c.requires)
     c.copy_texts-in-Binary.ensures.copied c.copy_texts-in-Binary.ensures.behind
     (λ offsets bytes. (offsets, bytes)) refl
@@ -31,7 +31,7 @@ returns-in-Binary-clause-copied c =
 pub returns-in-LargeBinary-clause-copied : goal.returns-in-LargeBinary-clause-copied
 returns-in-LargeBinary-clause-copied c =
     texts_stand _ c.args.kind kind.LargeBinary c.args.column.now c.args.room.now _ false _ _ _ _
-    c.in-LargeBinary.is refl
+    c.in-LargeBinary.is refl refl
     (text_of_kind c.args.kind kind.LargeBinary c.args.column.now.dtype c.in-LargeBinary.is
     c.requires)
     c.copy_texts-in-LargeBinary.ensures.copied c.copy_texts-in-LargeBinary.ensures.behind
@@ -167,3 +167,48 @@ returns-in-LargeBinary-clause-kept c =
     room.validity.now c.copy_texts-in-LargeBinary.new.validity room.offsets64.now
     c.copy_texts-in-LargeBinary.new.offsets room.data.now c.copy_texts-in-LargeBinary.new.bytes
     c.copy_texts-in-LargeBinary.ensures.kept
+
+pub returns-in-F64-clause-kept : goal.returns-in-F64-clause-kept
+returns-in-F64-clause-kept c =
+    let room = c.args.room.now in
+    same_of_two c.copy_wide_floats.result
+    (λ v xs. record room { validity = holding room.validity v; i64s = holding room.i64s xs })
+    room.validity.now c.copy_wide_floats.new.validity room.i64s.now
+    c.copy_wide_floats.new.patterns
+    c.copy_wide_floats.ensures.kept
+
+pub returns-in-F32-clause-kept : goal.returns-in-F32-clause-kept
+returns-in-F32-clause-kept c =
+    let room = c.args.room.now in
+    same_of_two c.copy_narrow_floats.result
+    (λ v xs. record room { validity = holding room.validity v; i32s = holding room.i32s xs })
+    room.validity.now c.copy_narrow_floats.new.validity room.i32s.now
+    c.copy_narrow_floats.new.patterns
+    c.copy_narrow_floats.ensures.kept
+
+pub returns-in-Date-clause-kept : goal.returns-in-Date-clause-kept
+returns-in-Date-clause-kept c =
+    let room = c.args.room.now in
+    same_of_two c.copy_integers-in-Date.result
+    (λ v xs. record room { validity = holding room.validity v; i32s = holding room.i32s xs })
+    room.validity.now c.copy_integers-in-Date.new.validity room.i32s.now
+    c.copy_integers-in-Date.new.values
+    c.copy_integers-in-Date.ensures.kept
+
+pub returns-in-Timestamp-clause-kept : goal.returns-in-Timestamp-clause-kept
+returns-in-Timestamp-clause-kept c =
+    let room = c.args.room.now in
+    same_of_two c.copy_integers-in-Timestamp.result
+    (λ v xs. record room { validity = holding room.validity v; i64s = holding room.i64s xs })
+    room.validity.now c.copy_integers-in-Timestamp.new.validity room.i64s.now
+    c.copy_integers-in-Timestamp.new.values
+    c.copy_integers-in-Timestamp.ensures.kept
+
+pub returns-in-Decimal-clause-kept : goal.returns-in-Decimal-clause-kept
+returns-in-Decimal-clause-kept c =
+    let room = c.args.room.now in
+    same_of_two c.copy_integers-in-Decimal.result
+    (λ v xs. record room { validity = holding room.validity v; i64s = holding room.i64s xs })
+    room.validity.now c.copy_integers-in-Decimal.new.validity room.i64s.now
+    c.copy_integers-in-Decimal.new.values
+    c.copy_integers-in-Decimal.ensures.kept

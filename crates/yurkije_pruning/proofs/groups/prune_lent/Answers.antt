@@ -14,7 +14,7 @@ returns-in-Ok-prune_groups g c = record {
   fields = c.deref.result.now;
   read = subst
       (λ (fs : List FieldStatistics).
-      AreFields (struct_fields c.args.scope.now) (length c.args.rows.now) c.args.lent.now fs)
+      AreFields (struct_fields c.args.scope.now) c.args.kinds.now (length c.args.rows.now) c.args.lent.now fs)
       (sym c.deref.ensures.value) c.in-Ok.ensures;
   pruned = c.in-Ok-prune_groups.ensures;
 }
@@ -25,7 +25,7 @@ returns g c =
       c.deref.result.now,
       subst
           (λ (fs : List FieldStatistics).
-          AreFields (struct_fields c.args.scope.now) (length c.args.rows.now) c.args.lent.now fs)
+          AreFields (struct_fields c.args.scope.now) c.args.kinds.now (length c.args.rows.now) c.args.lent.now fs)
           (sym c.deref.ensures.value) c.in-Ok.ensures,
       c.in-Err-prune_groups.ensures,
     )

@@ -1,13 +1,13 @@
 -- `empty` lends nothing.
-use Rattle.std.proofs.Common.{◌≡◌, List, [], ◌∷◌, refl}
+use Rattle.std.proofs.Common.{◌≡◌, [], ◌∷◌, refl}
 use mathlib.Core.Bool.{false}
 use mir.Val.{Val, vbool}
 use base.Logic.{SProp, emp}
 use base.Fml.{ftrue}
 use base.Fraction.{full_share}
-use types.Kit.{‵, raw, ◌⊛◌, ◌$◌, ◌∵◌, !, qed, by, move, keep, split, fjoin, use0, drop}
+use types.Kit.{‵, raw, ◌⊛◌, ◌$◌, ◌∵◌, !, qed, by, keep, split, use0}
 use types.Run.{lit, false_lit, no_more, and_then, returns, enter}
-use types.ByLocal.{alloc_all, pass_all, free_all, look_at, get, sets}
+use types.ByLocal.{alloc_all, pass_all, free_all, look_at, sets}
 use types.Part.{agg}
 use contract.Monad.{fact, fact_i}
 use contract.Running.{tables}
@@ -18,7 +18,7 @@ use denote.Steps.{nothing}
 use denote.Triple.Walked.{Stays, walk_of}
 use Rattle.std.specs.declared.option.Option.TheVariants.{None}
 use Rattle.std.proofs.raw_atomic.Walks.{proved_at, leaves}
-use Rattle.yurkije.proofs.LoanValues.{two, H, lent_good, none_in}
+use Rattle.yurkije.proofs.LoanValues.{two, lent_good, none_in}
 use Rattle.yurkije.specs.contracts.lent_handle.LentHandle.empty.{ended, clauses}
 use Rattle.yurkije.specs.contracts.lent_handle.LentHandle.empty.Key.{name as #self}
 use Rattle.yurkije.proofs.lent_handle.LentHandle.empty.Statement.{statement}

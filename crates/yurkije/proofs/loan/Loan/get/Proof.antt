@@ -1,13 +1,12 @@
 -- `get` follows the pointer to what is lent. Assumes `Logic`.
-use Rattle.std.proofs.Common.{◌≡◌, ℕ, ◌+◌, List, [], ◌∷◌, ◌++◌, refl, sym, subst}
-use seplogic.Ra.Ura.{Ura}
+use Rattle.std.proofs.Common.{ℕ, ◌+◌, List, [], ◌∷◌, ◌++◌, refl, sym, subst}
 use mir.Syntax.{named, ty_ptr}
 use mir.Val.{Val, vptr}
 use base.Logic.{SProp, ent, emp, via, never, fst∗, id⊢}
 use base.Fml.{Lft, Share, ftrue, fat, flft}
-use prog.Wp.{Calls, Env, Loops, WpFn}
-use types.Logic.{Logic, sem}
-use types.Kit.{Item, ⋆, ‵, ◌⊛◌, at_ret, ◌$◌, ◌∵◌, !, qed, by, move, keep, drop, split, join}
+use prog.Wp.{WpFn}
+use types.Logic.{sem}
+use types.Kit.{‵, ◌⊛◌, at_ret, ◌$◌, ◌∵◌, !, qed, move, keep, drop, split, join}
 use types.Kit.{rewrite, fsplit, fjoin, feq_i, feq_l, suffices, frame, done}
 use types.Run.{look, stop, hop, fld, of_opd, addr, first, blocks, exec, returns, enter}
 use types.ByLocal.{alloc_all, pass_all, free_all, look_at, get, through, sets, sets_last, env}
@@ -15,14 +14,13 @@ use contract.Running.{tables}
 use denote.Exit.{yes}
 use denote.RattleType.{owns}
 use denote.Builtin.{RefOf}
-use denote.Memory.{shared_of, hidden_shr}
+use denote.Memory.{shared_of}
 use denote.RawPtr.{Ptr, ptr_val, in_a_block}
 use denote.Ref.{Bor, ShrRef}
 use denote.Signature.{plain}
 use denote.Opens.{hide, unhide}
 use denote.Steps.{nothing}
 use denote.Struct.Lending.{lent_at}
-use denote.Triple.Entry.{on_entry}
 use denote.Triple.Walked.{says, Stays, stay_dropped, walk_of, ends_at, Goes-dropped}
 use Rattle.std.proofs.alloc.Shapes.{after}
 use Rattle.std.proofs.raw_atomic.Walks.{proved_at}

@@ -1,0 +1,10 @@
+use Rattle.std.proofs.Common.{◌≡◌, map, take, drop}
+use Rattle.vortex_arrow.specs.Floats.{narrow_key}
+use Rattle.vortex_arrow.proofs.floats.make_narrow_keys.Given as goal
+
+-- the numbers so far are changed, and the others are as they were
+abbrev pub invariant-loop-i : goal.invariant-loop-i
+invariant-loop-i l = record {
+  changed : take l.i l.values ≡ map narrow_key (take l.i l.initial.values);
+  behind : drop l.i l.values ≡ drop l.i l.initial.values;
+}
