@@ -9,7 +9,13 @@ use std::alloc::Global;
 fn refusal_of(alloc: Global) -> Option<String> {
     let question = read_asked(alloc, "a i8, b bool: a")?;
     let fields: [Option<&[u8]>; 5] = [Some(b"1"), Some(b"true"), Some(b"2"), None, Some(b"3")];
-    match read_columns(alloc, &question.program.scope, &question.program.kinds, &fields, 2) {
+    match read_columns(
+        alloc,
+        &question.program.scope,
+        &question.program.kinds,
+        &fields,
+        2,
+    ) {
         Ok(_) => None,
         Err(error) => format!(in alloc; "{error}").ok(),
     }
