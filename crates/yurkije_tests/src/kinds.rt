@@ -81,7 +81,13 @@ fn means(rt: HostRuntime, text: &[u8], expected: u32) -> bool {
 
 #[test]
 fn dates_and_floats_are_run(rt: HostRuntime) {
-    assert!(rt; answers(rt, b"day + 1, value > 1.0", ["i32: 1 19724", "bool: true false"]));
+    assert!(rt;
+        answers(
+            rt,
+            b"day + 1, value > 1.0",
+            ["i32: 1 19724", "bool: true false"]
+        )
+    );
     assert!(rt; answers_of(rt.alloc(), b"day", 4).is_none());
 }
 
