@@ -35,11 +35,12 @@ impl MixedColumn {
     }
 }
 
-/// Whether a text begins as a number does, as `02134` or `+1`, so that it is none for null.
+/// Whether a text begins as a number does, as `02134` or `+1`, or is empty, in quotes: so it is none
+/// for null.
 fn is_like_number(text: &str) -> bool {
     match text.as_bytes().first() {
         Some(first) => matches!(*first, b'0'..=b'9' | b'+' | b'-' | b'.'),
-        None => false,
+        None => true,
     }
 }
 
