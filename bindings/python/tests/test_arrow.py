@@ -1,7 +1,7 @@
-"""Arrow's capsules: what Yurkije exports it can import datetime
-import again, and so are GDAL's, an independent
+"""Arrow's capsules: what Yurkije exports it can import again, and so are GDAL's, an independent
 producer."""
 import ctypes
+import datetime
 import gc
 import os
 import tempfile
