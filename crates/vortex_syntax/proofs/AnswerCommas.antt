@@ -202,6 +202,8 @@ mutual
       both d d d (spelling a) (sign sign.Typed ∷ type_token w n ∷ []) (tree_stays a f.1 d)
       (first d d (sign sign.Typed) (type_token w n ∷ []) refl
       (type_first d d w n [] (passes_none d)))
+  tree_stays (tree.titled w bs) f d =
+      first d d (name w) (text bs ∷ []) refl (first d d (text bs) [] refl (passes_none d))
   tree_stays (tree.grouped a) f d =
       first d d (sign sign.Open) (spelling a ++ (sign sign.Close ∷ [])) refl
       (last (suc d) (suc d) (spelling a) (sign sign.Close) (tree_stays a f (suc d)) refl)
@@ -275,6 +277,13 @@ mutual
       (both (suc d) (suc d) d (all_spelled args) (spelling a ++ (sign sign.Close ∷ []))
       (all_stay args f.0 d)
       (last (suc d) (suc d) (spelling a) (sign sign.Close) (tree_stays a f.1 (suc d)) refl))
+  tree_stays (tree.extracted p g w a) f d =
+      let end : List Token = spelling a ++ (sign sign.Close ∷ []) in
+      both d (suc d) d (function_tokens p g) (name w ∷ sign sign.From ∷ end)
+      (function_opens p g d)
+      (first (suc d) d (name w) (sign sign.From ∷ end) refl
+      (first (suc d) d (sign sign.From) end refl
+      (last (suc d) (suc d) (spelling a) (sign sign.Close) (tree_stays a f (suc d)) refl)))
 
   all_stay : (args : Arguments) → AllFit args → (d : ℕ) → Passes (suc d) (suc d) (all_spelled args)
   all_stay tree.no_arguments f d = passes_none (suc d)

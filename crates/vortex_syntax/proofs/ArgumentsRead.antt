@@ -5,7 +5,7 @@ use Rattle.std.proofs.lemmas.List.{append-nil}
 use Rattle.vortex_syntax.specs.declared.token.Sign.TheVariants as sign
 use Rattle.vortex_syntax.specs.Frames.{Frame, hole, top_hole, ceiling, top_ceiling, guard, whole}
 use Rattle.vortex_syntax.specs.Frames as frame
-use Rattle.vortex_syntax.specs.Tokens.{Token, sign}
+use Rattle.vortex_syntax.specs.Tokens.{Token, name, text, sign}
 use Rattle.vortex_syntax.specs.Syntax as tree
 use Rattle.vortex_syntax.specs.Syntax.{Syntax, Tested, Arguments, Branches}
 use Rattle.vortex_syntax.specs.Levels.{sign_level, level}
@@ -14,7 +14,7 @@ use Rattle.vortex_syntax.specs.Levels.{atom_level, literal_level}
 use Rattle.vortex_syntax.specs.Spelling.{spelling, all_spelled}
 use Rattle.vortex_syntax.specs.Spelling.{in_tokens}
 use Rattle.vortex_syntax.specs.Spelling.{function_tokens}
-use Rattle.vortex_syntax.specs.Postfix.{Step, applied, listed}
+use Rattle.vortex_syntax.specs.Postfix.{Step, operand, applied, listed}
 use Rattle.vortex_syntax.specs.Postfix.{argument_count, postfix, all_postfix}
 use Rattle.vortex_syntax.proofs.Tables.{level_literal}
 use Rattle.vortex_syntax.proofs.Tables.{ceiling_below}
@@ -22,7 +22,7 @@ use Rattle.vortex_syntax.proofs.Tables.{reach}
 use Rattle.vortex_syntax.proofs.Closes.{want, have, IsRead}
 use Rattle.vortex_syntax.proofs.StepsRead.{step_function}
 use Rattle.vortex_syntax.proofs.StepsRead.{step_nullary, step_comma, step_applied, step_in}
-use Rattle.vortex_syntax.proofs.StepsRead.{step_item, step_listed}
+use Rattle.vortex_syntax.proofs.StepsRead.{step_item, step_listed, step_word, step_extracted}
 
 pub regrouped_2 : (out a : List Step) (x : Step) → (out ++ a) ++ (x ∷ []) ≡ out ++ (a ++ (x ∷ []))
 regrouped_2 out a x = append_assoc out a (x ∷ [])
@@ -111,6 +111,21 @@ read_applied p w args a ias ia = λ fs out rest top under end.
     ∙ step_applied w n (level a) fs ((out ++ all_postfix args) ++ postfix a) rest
     ∙ ap (λ xs. have atom_level fs xs rest)
     (regrouped_3 out (all_postfix args) (postfix a) (applied w (suc n)))
+
+pub read_extracted : (p : Bool) (f w : List ℕ) (a : Syntax) → IsRead a
+    → IsRead (tree.extracted p f w a)
+read_extracted p f w a ia = λ fs out rest top under end.
+    let end : List Token = spelling a ++ (sign sign.Close ∷ []) in
+    let word : List Step = operand (text w) ∷ [] in
+    ap (want fs out) (append_assoc (function_tokens p f) (name w ∷ sign sign.From ∷ end) rest)
+    ∙ step_function p f fs out (name w ∷ sign sign.From ∷ (end ++ rest))
+    ∙ step_word f w fs out (end ++ rest)
+    ∙ ap (want (frame.Extract f ∷ fs) (out ++ word))
+    (append_assoc (spelling a) (sign sign.Close ∷ []) rest)
+    ∙ ia (frame.Extract f ∷ fs) (out ++ word) (sign sign.Close ∷ rest) (omega arith)
+    (level_literal a) (omega arith)
+    ∙ step_extracted f (level a) fs ((out ++ word) ++ postfix a) rest
+    ∙ ap (λ xs. have atom_level fs xs rest) (regrouped_3 out word (postfix a) (applied f 2))
 
 reach_in : (n : Bool) (ts : List Token) → reach (in_tokens n ++ ts) ≡ predicate_level
 reach_in true ts = refl

@@ -19,6 +19,7 @@ use Rattle.vortex_syntax.specs.Spelling.{spelling, type_token, with_not, is_toke
 use Rattle.vortex_syntax.specs.Postfix.{Step, operand, cast, argument_count, postfix}
 use Rattle.vortex_syntax.specs.Reading.{State, Operand, settled}
 use Rattle.vortex_syntax.proofs.Held.{Held, opened, casting, lower, matching, calling, listing}
+use Rattle.vortex_syntax.proofs.Held.{extracting}
 use Rattle.vortex_syntax.proofs.Held.{frame_of, written, held, IsSound, frames_of, all_written}
 use Rattle.vortex_syntax.proofs.Held.{all_held, Nested, Settles, settled_sound}
 
@@ -163,6 +164,14 @@ call_is w n (calling p v args) e = (
   called_count w v n (argument_count args) e,
 )
 call_is w n h e = absurd cc
+
+pub extract_name : (f g : List ℕ) → frame.Extract f ≡ frame.Extract g → f ≡ g
+extract_name f g e = cc
+
+pub extract_is : (f : List ℕ) (h : Held) → frame.Extract f ≡ frame_of h
+    → (p : Bool) × (w : List ℕ) × (h ≡ extracting p f w)
+extract_is f (extracting p g w) e = (p, w, ap (λ v. extracting p v w) (sym (extract_name f g e)))
+extract_is f h e = absurd cc
 
 pub item_mark : (n m : Bool) (k i : ℕ) → frame.Items n k ≡ frame.Items m i → n ≡ m
 item_mark n m k i e = cc

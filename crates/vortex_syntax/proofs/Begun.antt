@@ -20,7 +20,7 @@ use Rattle.vortex_syntax.specs.Postfix.{Step, postfix}
 use Rattle.vortex_syntax.specs.Refusals.{Begins}
 use Rattle.vortex_syntax.proofs.Tables.{top_atom, top_sign, own_right, whole_atom, atom_ceiling}
 use Rattle.vortex_syntax.proofs.Held.{Held, opened, casting, negating, minusing, joining}
-use Rattle.vortex_syntax.proofs.Held.{plusing, inverting}
+use Rattle.vortex_syntax.proofs.Held.{plusing, inverting, extracting}
 use Rattle.vortex_syntax.proofs.Held.{distinguishing, lower, upper, matching, calling, listing}
 use Rattle.vortex_syntax.proofs.Held.{frame_of, written, choosing, asking, answering, defaulting}
 use Rattle.vortex_syntax.proofs.Held.{IsSound, frames_of, all_written, Nested, Plugged, plugged}
@@ -143,6 +143,14 @@ filled (defaulting bs c v) e s f le under = record {
   more = sign sign.End ∷ [];
   tokens = defaulted (branches_spelled bs) (spelling c) (spelling v) (spelling e)
       (sign sign.End ∷ []);
+}
+filled (extracting p g w) e s f le under = record {
+  tree = tree.extracted p g w e;
+  fits = f;
+  level = refl;
+  more = sign sign.Close ∷ [];
+  tokens = call_closed (function_tokens p g) (name w ∷ sign sign.From ∷ []) (spelling e)
+      (sign sign.Close ∷ []);
 }
 filled (calling p w args) e s f le under = record {
   tree = tree.applied p w args e;

@@ -1,13 +1,13 @@
 -- What closing brackets and commas do to what was read.
 use Rattle.std.proofs.Common.{◌≡◌, ℕ, suc, Bool, List, [], ◌∷◌, ◌++◌, Some, ap, sym, subst, ◌∙◌}
-use Rattle.std.proofs.Common.{append_assoc}
+use Rattle.std.proofs.Common.{append_assoc, refl, lit≤}
 use Rattle.std.proofs.lemmas.List.{append-nil}
 use Rattle.vortex_syntax.specs.declared.token.Sign.{Sign}
 use Rattle.vortex_syntax.specs.declared.token.Sign.TheVariants as sign
 use Rattle.vortex_syntax.specs.Frames.{Frame}
 use Rattle.vortex_syntax.specs.Frames as frame
 use Rattle.vortex_syntax.specs.declared.frame.Mode.TheVariants as mode
-use Rattle.vortex_syntax.specs.Tokens.{Token, sign}
+use Rattle.vortex_syntax.specs.Tokens.{Token, name, sign}
 use Rattle.vortex_syntax.specs.Syntax as tree
 use Rattle.vortex_syntax.specs.Syntax.{Syntax, Arguments}
 use Rattle.vortex_syntax.specs.Levels.{Fits, AllFit, predicate_level, atom_level}
@@ -15,11 +15,12 @@ use Rattle.vortex_syntax.specs.Spelling.{spelling, all_spelled, function_tokens}
 use Rattle.vortex_syntax.specs.Postfix.{Step, applied, listed, argument_count, postfix, all_postfix}
 use Rattle.vortex_syntax.specs.Reading.{State, state, close_behind, comma_behind}
 use Rattle.vortex_syntax.proofs.Tables.{top_atom, atom_ceiling}
-use Rattle.vortex_syntax.proofs.Held.{Held, opened, calling, listing, written, held, IsSound}
+use Rattle.vortex_syntax.proofs.Held.{Held, opened, calling, extracting, listing, written, held}
+use Rattle.vortex_syntax.proofs.Held.{IsSound}
 use Rattle.vortex_syntax.proofs.Before.{Behind, more, more_tokens, as_tokens, as_steps, pushed}
 use Rattle.vortex_syntax.proofs.Before.{popped, open_is, call_is, items_are, HasOperand, HoldsIn}
-use Rattle.vortex_syntax.proofs.Before.{along, operand_is}
-use Rattle.vortex_syntax.proofs.Grown.{holding_as, sound_as}
+use Rattle.vortex_syntax.proofs.Before.{along, operand_is, extract_is}
+use Rattle.vortex_syntax.proofs.Grown.{Holding, holding_as, sound_as, completed}
 use Rattle.vortex_syntax.proofs.ItemsSound.{item_is, listed_is}
 
 pub grouped_is : (a : Syntax) (h : Held) (fs : List Frame) (out : List Step) (before : List Token)
@@ -90,6 +91,16 @@ applied_is p w n args a fs out before e s f b =
     (more fs out before (all_postfix args ++ postfix a)
     (written (calling p w args) ++ (spelling a ++ [])) last close b)))
 
+pub extracted_is : (p : Bool) (f w : List ℕ) (a : Syntax) (fs : List Frame) (out : List Step)
+    (before : List Token) → Fits a → Holding (extracting p f w) a fs out before
+    → HasOperand atom_level fs (out ++ (applied f 2 ∷ [])) (before ++ (sign sign.Close ∷ [])) []
+extracted_is p f w a fs out before fit b =
+    completed (extracting p f w) a (tree.extracted p f w a) (applied f 2) sign.Close fs out before
+    refl
+    (append_assoc (function_tokens p f) (name w ∷ sign sign.From ∷ [])
+    (spelling a ++ (sign sign.Close ∷ [])))
+    fit (top_atom fs) (lit≤ tt) b
+
 pub argument_is : (p : Bool) (w : List ℕ) (n : ℕ) (args : Arguments) (a : Syntax) (fs : List Frame)
     (out : List Step) (before : List Token) → n ≡ argument_count args → AllFit args → Fits a
     → Called p w args a fs out before
@@ -140,6 +151,14 @@ close_sound l (frame.Arguments w n ∷ fs) out s before e a =
     (before ++ (sign sign.Close ∷ [])) e
     (applied_is i.1 w n i.0 a.tree fs out before i.3 (all_fit_is i.1 w i.0 r.h i.2 r.sound) a.fits
     (called_is i.1 w i.0 a.tree r.h fs out before i.2 r.behind))
+close_sound l (frame.Extract f ∷ fs) out s before e a =
+    let r = popped (frame.Extract f) fs out before (postfix a.tree) (spelling a.tree ++ [])
+    a.behind in
+    let i = extract_is f r.h r.is in
+    along (state (mode.Have atom_level) fs (out ++ (applied f 2 ∷ []))) s
+    (before ++ (sign sign.Close ∷ [])) e
+    (extracted_is i.0 f i.1 a.tree fs out before a.fits
+    (holding_as r.h (extracting i.0 f i.1) a.tree fs out before i.2 r.behind))
 close_sound l (frame.Items n k ∷ fs) out s before e a =
     let r = popped (frame.Items n k) fs out before (postfix a.tree)
     (spelling a.tree ++ []) a.behind in

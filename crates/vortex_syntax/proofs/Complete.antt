@@ -38,10 +38,11 @@ use Rattle.vortex_syntax.proofs.StepsRead.{step_join, step_between, step_like, s
 use Rattle.vortex_syntax.proofs.StepsRead.{step_test, step_distinct, step_close, step_typed}
 use Rattle.vortex_syntax.proofs.StepsRead.{step_cast, step_escape, step_operand, step_negative}
 use Rattle.vortex_syntax.proofs.StepsRead.{step_not, step_open, step_cast_open}
-use Rattle.vortex_syntax.proofs.StepsRead.{step_plus, step_bit_not}
+use Rattle.vortex_syntax.proofs.StepsRead.{step_plus, step_bit_not, step_titled}
 use Rattle.vortex_syntax.proofs.StepsRead.{step_null_test}
 use Rattle.vortex_syntax.proofs.ArgumentsRead.{beneath, AreRead, read_no_arguments, read_argument}
-use Rattle.vortex_syntax.proofs.ArgumentsRead.{read_nullary, read_applied, read_listed}
+use Rattle.vortex_syntax.proofs.ArgumentsRead.{read_nullary, read_applied, read_extracted}
+use Rattle.vortex_syntax.proofs.ArgumentsRead.{read_listed}
 use Rattle.vortex_syntax.proofs.ArgumentsRead.{regrouped_2, regrouped_3, regrouped_4}
 
 waits_closed : (l : ℕ) (f : Frame) (fs : List Frame) (out : List Step) (rest : List Token)
@@ -104,6 +105,9 @@ read_typed a w n h ia = λ fs out rest top under end.
     (omega (arith, level_literal a, typed_ceiling fs under)) (omega (arith, h))
     ∙ step_typed (level a) fs (out ++ postfix a) w n rest h
     ∙ ap (λ xs. have typed_level fs xs rest) (regrouped_2 out (postfix a) (typed w n))
+
+read_titled : (w bs : List ℕ) → IsRead (tree.titled w bs)
+read_titled w bs = λ fs out rest top under end. step_titled w bs fs out rest
 
 read_converted : (a : Syntax) (w : List ℕ) (n : Bool) → atom_level ≤ level a
     → level a ≤ typed_level → IsRead a → IsRead (tree.converted a w n)
@@ -294,6 +298,7 @@ mutual
   is_read (tree.negative ds) h = read_negative ds
   is_read (tree.minus a) h = read_minus a h.0 h.1 (is_read a h.2)
   is_read (tree.typed a w n) h = read_typed a w n h.0 (is_read a h.1)
+  is_read (tree.titled w bs) h = read_titled w bs
   is_read (tree.grouped a) h = read_grouped a (is_read a h)
   is_read (tree.negated a) h = read_negated a h.0 (is_read a h.1)
   is_read (tree.joined o a b) h = read_joined o a b h.0 h.1 (is_read a h.2) (is_read b h.3)
@@ -316,6 +321,7 @@ mutual
       (is_read e h.3)
   is_read (tree.nullary p w) h = read_nullary p w
   is_read (tree.applied p w args a) h = read_applied p w args a (are_read args h.0) (is_read a h.1)
+  is_read (tree.extracted p f w a) h = read_extracted p f w a (is_read a h)
 
   are_read : (args : Arguments) → AllFit args → AreRead args
   are_read tree.no_arguments h = read_no_arguments

@@ -12,7 +12,7 @@ use Rattle.vortex_syntax.specs.declared.frame.CasePart.TheVariants as part
 use Rattle.vortex_syntax.specs.Frames.{Frame, hole, top_hole, ceiling, top_ceiling, guard, whole}
 use Rattle.vortex_syntax.specs.Frames.{closing}
 use Rattle.vortex_syntax.specs.Frames as frame
-use Rattle.vortex_syntax.specs.Tokens.{Token, sign}
+use Rattle.vortex_syntax.specs.Tokens.{Token, name, text, sign}
 use Rattle.vortex_syntax.specs.Syntax as tree
 use Rattle.vortex_syntax.specs.Syntax.{Syntax, Arguments, Branches}
 use Rattle.vortex_syntax.specs.Levels.{left, level, Fits, AllFit, BranchesFit, is_level}
@@ -20,7 +20,8 @@ use Rattle.vortex_syntax.specs.Levels.{concat_level}
 use Rattle.vortex_syntax.specs.Spelling.{spelling, all_spelled, operator_sign}
 use Rattle.vortex_syntax.specs.Spelling.{distinct_tokens, in_tokens, like_sign, branches_spelled}
 use Rattle.vortex_syntax.specs.Spelling.{function_tokens, between_tokens, cast_sign}
-use Rattle.vortex_syntax.specs.Postfix.{Step, called, argument_count, has_operand, branch_count}
+use Rattle.vortex_syntax.specs.Postfix.{Step, operand, called, argument_count, has_operand}
+use Rattle.vortex_syntax.specs.Postfix.{branch_count}
 use Rattle.vortex_syntax.specs.Postfix.{postfix, all_postfix, branches_postfix}
 use Rattle.vortex_syntax.specs.Reading.{Operand, operand_of, settled}
 use Rattle.vortex_syntax.proofs.Tables.{whole_atom, atom_ceiling}
@@ -38,6 +39,7 @@ pub data Held : Type 0 where
   upper : BetweenKind → Syntax → Syntax → Held
   matching : LikeKind → Syntax → Held
   calling : Bool → List ℕ → Arguments → Held
+  extracting : Bool → List ℕ → List ℕ → Held
   listing : Bool → Syntax → Arguments → Held
   choosing : Held
   asking : Branches → Held
@@ -57,6 +59,7 @@ frame_of (lower k a) = frame.Between k
 frame_of (upper k a b) = frame.Bounded k
 frame_of (matching k a) = frame.Like k
 frame_of (calling p w args) = frame.Arguments w (argument_count args)
+frame_of (extracting p f w) = frame.Extract f
 frame_of (listing n a args) = frame.Items n (argument_count args)
 frame_of choosing = frame.Case part.Operand false 0
 frame_of (asking bs) = frame.Case part.When (has_operand bs) (branch_count bs)
@@ -77,6 +80,7 @@ written (upper k a b) =
     spelling a ++ (between_tokens k ++ (spelling b ++ (sign sign.And ∷ [])))
 written (matching k a) = spelling a ++ like_sign k
 written (calling p w args) = function_tokens p w ++ all_spelled args
+written (extracting p f w) = function_tokens p f ++ (name w ∷ sign sign.From ∷ [])
 written (listing n a args) = spelling a ++ (in_tokens n ++ all_spelled args)
 written choosing = sign sign.Case ∷ []
 written (asking bs) = branches_spelled bs ++ (sign sign.When ∷ [])
@@ -99,6 +103,7 @@ held (lower n a) = postfix a
 held (upper n a b) = postfix a ++ postfix b
 held (matching k a) = postfix a
 held (calling p w args) = all_postfix args
+held (extracting p f w) = operand (text w) ∷ []
 held (listing n a args) = postfix a ++ all_postfix args
 held choosing = []
 held (asking bs) = branches_postfix bs
@@ -118,6 +123,7 @@ IsSound (lower n a) = (concat_level ≤ level a) × Fits a
 IsSound (upper n a b) = (concat_level ≤ level a) × (concat_level ≤ level b) × Fits a × Fits b
 IsSound (matching k a) = (concat_level ≤ level a) × Fits a
 IsSound (calling p w args) = AllFit args
+IsSound (extracting p f w) = Unit {0}
 IsSound (listing n a args) = (concat_level ≤ level a) × Fits a × AllFit args
 IsSound choosing = Unit {0}
 IsSound (asking bs) = BranchesFit bs
@@ -197,6 +203,7 @@ plugged (matching k a) e g s f le under = record {
       ∙ ap (λ ts. spelling a ++ (like_sign k ++ ts)) (sym (append-nil (spelling e)));
 }
 plugged (calling p w args) e g s f le under = absurd (let k : ⊥ = omega (arith, g) in k)
+plugged (extracting p v w) e g s f le under = absurd (let k : ⊥ = omega (arith, g) in k)
 plugged (listing n a args) e g s f le under = absurd (let k : ⊥ = omega (arith, g) in k)
 plugged choosing e g s f le under = absurd (let k : ⊥ = omega (arith, g) in k)
 plugged (asking bs) e g s f le under = absurd (let k : ⊥ = omega (arith, g) in k)

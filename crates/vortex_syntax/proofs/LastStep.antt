@@ -1,15 +1,16 @@
 -- Whether the last step is a bare name.
 use Rattle.std.proofs.Common.{◌≡◌, ℕ, ◌-◌, List, [], ◌∷◌, ◌++◌, map, take, reverse, Some, None, refl}
-use Rattle.std.proofs.Common.{ap, sym, ◌∙◌}
+use Rattle.std.proofs.Common.{ap, sym, ◌∙◌, append_assoc, false}
 use Rattle.std.specs.Option.{option_map}
 use Rattle.std.proofs.lemmas.List.{append-nil, map-append, reverse-append}
 use Rattle.vortex_syntax.specs.declared.step.Step as read
 use Rattle.vortex_syntax.specs.Frames.{Frame}
 use Rattle.vortex_syntax.specs.Frames as frame
 use Rattle.vortex_syntax.specs.declared.frame.Mode.TheVariants as mode
-use Rattle.vortex_syntax.specs.Tokens.{name}
-use Rattle.vortex_syntax.specs.Postfix.{Step, step_in, operand, name_back, last_name}
-use Rattle.vortex_syntax.specs.Reading.{state, call_of}
+use Rattle.vortex_syntax.specs.Tokens.{name, text}
+use Rattle.vortex_syntax.specs.Postfix.{Step, step_in, operand, typed, name_back, last_name}
+use Rattle.vortex_syntax.specs.Levels.{atom_level}
+use Rattle.vortex_syntax.specs.Reading.{state, call_of, literal_of, word_of}
 use Rattle.vortex_syntax.proofs.LastName.{name_last}
 
 no_front : (xs : List read.Step) → take (0 - 1) xs ≡ []
@@ -68,3 +69,25 @@ opened fs gs xs zs out w e k h =
     ap (λ hs. Some (state mode.Want hs zs)) e
     ∙ ap (λ ys. Some (state mode.Want (frame.Arguments w 0 ∷ fs) ys)) k
     ∙ sym (ap (call_of fs) (ap last_name h ∙ name_last xs w))
+
+-- a literal of the type of that name
+pub named_literal : (fs gs : List Frame) (xs ys zs out : List Step) (w bs : List ℕ)
+    → gs ≡ fs → ys ≡ xs ++ (operand (text bs) ∷ []) → zs ≡ ys ++ (typed w false ∷ [])
+    → out ≡ xs ++ (operand (name w) ∷ [])
+    → Some (state (mode.Have atom_level) gs zs) ≡ literal_of fs bs (last_name out)
+named_literal fs gs xs ys zs out w bs e k j h =
+    ap (λ hs. Some (state (mode.Have atom_level) hs zs)) e
+    ∙ ap (λ us. Some (state (mode.Have atom_level) fs us))
+    (j ∙ ap (λ us. us ++ (typed w false ∷ [])) k
+    ∙ append_assoc xs (operand (text bs) ∷ []) (typed w false ∷ []))
+    ∙ sym (ap (literal_of fs bs) (ap last_name h ∙ name_last xs w))
+
+-- a word before `from`
+pub word_taken : (f w : List ℕ) (fs gs hs : List Frame) (xs ys zs out : List Step) → gs ≡ fs
+    → hs ≡ frame.Extract f ∷ gs → ys ≡ xs ++ (operand (text w) ∷ []) → zs ≡ ys
+    → out ≡ xs ++ (operand (name w) ∷ [])
+    → Some (state mode.Want hs zs) ≡ word_of f fs (last_name out)
+word_taken f w fs gs hs xs ys zs out e k j i h =
+    ap (λ us. Some (state mode.Want us zs)) (k ∙ ap (λ us. frame.Extract f ∷ us) e)
+    ∙ ap (λ us. Some (state mode.Want (frame.Extract f ∷ fs) us)) (i ∙ j)
+    ∙ sym (ap (word_of f fs) (ap last_name h ∙ name_last xs w))

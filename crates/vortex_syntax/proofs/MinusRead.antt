@@ -49,6 +49,7 @@ signed_read (tree.negative ds) h k fs out ts = refl
 signed_read (tree.minus a) h k fs out ts = refl
 signed_read (tree.plus a) h k fs out ts = refl
 signed_read (tree.typed a w n) h k fs out ts = absurd (let j : ⊥ = omega (arith, k) in j)
+signed_read (tree.titled w bs) h k fs out ts = refl
 signed_read (tree.grouped a) h k fs out ts = refl
 signed_read (tree.negated a) h k fs out ts = refl
 signed_read (tree.joined o a b) h k fs out ts =
@@ -64,6 +65,8 @@ signed_read (tree.nullary true w) h k fs out ts = refl
 signed_read (tree.nullary false w) h k fs out ts = refl
 signed_read (tree.applied true w args a) h k fs out ts = refl
 signed_read (tree.applied false w args a) h k fs out ts = refl
+signed_read (tree.extracted true f w a) h k fs out ts = refl
+signed_read (tree.extracted false f w a) h k fs out ts = refl
 signed_read (tree.chosen bs c v) h k fs out ts =
     case_signed bs
     (sign sign.When ∷ (spelling c ++ (sign sign.Then ∷ (spelling v ++ (sign sign.End ∷ [])))))

@@ -1,27 +1,38 @@
 -- What a token after a bare name does to what was read.
-use Rattle.std.proofs.Common.{◌≡◌, ℕ, true, List, [], ◌∷◌, ◌++◌, Some, refl, ap, sym, ◌∙◌}
-use Rattle.std.proofs.Common.{append_assoc}
+use Rattle.std.proofs.Common.{◌≡◌, ℕ, zero, Bool, true, false, List, [], ◌∷◌, ◌++◌, Some, refl, ap, sym, ◌∙◌}
+use Rattle.std.proofs.Common.{append_assoc, subst}
 use Rattle.std.proofs.lemmas.List.{append-nil}
 use Rattle.vortex_syntax.specs.declared.token.Sign.TheVariants as sign
 use Rattle.vortex_syntax.specs.Frames.{Frame}
 use Rattle.vortex_syntax.specs.Frames as frame
 use Rattle.vortex_syntax.specs.declared.frame.Mode.TheVariants as mode
-use Rattle.vortex_syntax.specs.Tokens.{Token, name, sign}
+use Rattle.vortex_syntax.specs.Tokens.{Token, name, text, sign}
 use Rattle.vortex_syntax.specs.Syntax as tree
 use Rattle.vortex_syntax.specs.Levels.{atom_level}
-use Rattle.vortex_syntax.specs.Postfix.{Step, operand, last_name}
-use Rattle.vortex_syntax.specs.Reading.{State, state, call_of, open_call, after_name}
+use Rattle.vortex_syntax.specs.Postfix.{Step, operand, typed, last_name}
+use Rattle.vortex_syntax.specs.Reading.{State, state, call_of, open_call, literal_of, text_named}
+use Rattle.vortex_syntax.specs.Reading.{word_of, from_named, after_name}
 use Rattle.vortex_syntax.proofs.Tables.{top_atom, atom_ceiling}
 use Rattle.vortex_syntax.proofs.LastName.{name_last}
-use Rattle.vortex_syntax.proofs.Held.{calling, all_held, all_written}
+use Rattle.vortex_syntax.specs.Syntax.{Arguments}
+use Rattle.vortex_syntax.specs.Spelling.{function_tokens}
+use Rattle.vortex_syntax.specs.Postfix.{argument_count}
+use Rattle.vortex_syntax.proofs.Held.{Held, calling, extracting, written, held, all_held}
+use Rattle.vortex_syntax.proofs.Held.{all_written}
 use Rattle.vortex_syntax.proofs.Before.{Behind, pushed, HasOperand, Holds, HoldsIn, along}
-use Rattle.vortex_syntax.proofs.Before.{operand_is}
+use Rattle.vortex_syntax.proofs.Before.{operand_is, as_tokens, popped, call_is}
+use Rattle.vortex_syntax.proofs.OperandsSound.{none_are}
 use Rattle.vortex_syntax.proofs.SignsSound.{behind_sound}
 
 pub named_operand : (fs : List Frame) (out : List Step) (before : List Token)
     → Holds mode.Named fs out before → HasOperand atom_level fs out before []
 named_operand fs out before h =
     operand_is (tree.operand (name h.0)) fs out before refl (top_atom fs) (atom_ceiling fs) h.1
+
+-- the steps before the name
+named_last : (w : List ℕ) (fs : List Frame) (out : List Step) (before ts : List Token)
+    → (b : Behind fs out before (operand (name w) ∷ []) ts) → last_name out ≡ Some (all_held b.hs, w)
+named_last w fs out before ts b = ap last_name b.steps ∙ name_last (all_held b.hs) w
 
 -- what was read before the name, and a call of it
 call_begun : (w : List ℕ) (fs : List Frame) (out : List Step) (before : List Token)
@@ -44,16 +55,90 @@ open_sound : (fs : List Frame) (out : List Step) (s : State) (before : List Toke
     → open_call fs out ≡ Some s → Holds mode.Named fs out before
     → HoldsIn s (before ++ (sign sign.Open ∷ []))
 open_sound fs out s before e h =
-    let b = h.1 in
-    let is : last_name out ≡ Some (all_held b.hs, h.0) =
-    ap last_name b.steps ∙ name_last (all_held b.hs) h.0 in
-    along (state mode.Want (frame.Arguments h.0 0 ∷ fs) (all_held b.hs)) s
-    (before ++ (sign sign.Open ∷ [])) (sym (ap (call_of fs) is) ∙ e)
-    (call_begun h.0 fs out before b)
+    along (state mode.Want (frame.Arguments h.0 0 ∷ fs) (all_held h.1.hs)) s
+    (before ++ (sign sign.Open ∷ []))
+    (sym (ap (call_of fs) (named_last h.0 fs out before _ h.1)) ∙ e)
+    (call_begun h.0 fs out before h.1)
+
+titled_is : (w bs : List ℕ) (fs : List Frame) (out : List Step) (before : List Token)
+    → (b : Behind fs out before (operand (name w) ∷ []) (name w ∷ []))
+    → HasOperand atom_level fs (all_held b.hs ++ (operand (text bs) ∷ typed w false ∷ []))
+    (before ++ (text bs ∷ [])) []
+titled_is w bs fs out before b =
+    operand_is (tree.titled w bs) fs (all_held b.hs ++ (operand (text bs) ∷ typed w false ∷ []))
+    (before ++ (text bs ∷ [])) tt (top_atom fs) (atom_ceiling fs)
+    (record {
+      hs = b.hs;
+      frames = b.frames;
+      steps = refl;
+      tokens =
+          ap (λ ts. ts ++ (text bs ∷ [])) b.tokens
+          ∙ append_assoc (all_written b.hs) (name w ∷ []) (text bs ∷ []);
+      nested = b.nested;
+    })
+
+text_sound : (fs : List Frame) (out : List Step) (bs : List ℕ) (s : State) (before : List Token)
+    → text_named fs out bs ≡ Some s → Holds mode.Named fs out before
+    → HoldsIn s (before ++ (text bs ∷ []))
+text_sound fs out bs s before e h =
+    along
+    (state (mode.Have atom_level) fs
+    (all_held h.1.hs ++ (operand (text bs) ∷ typed h.0 false ∷ []))) s (before ++ (text bs ∷ []))
+    (sym (ap (literal_of fs bs) (named_last h.0 fs out before _ h.1)) ∙ e)
+    (titled_is h.0 bs fs out before h.1)
+
+-- the word in a call, with no argument before it
+word_in : (p : Bool) (f w : List ℕ) (args : Arguments) (h : Held) (fs : List Frame)
+    (out : List Step) (before : List Token) → h ≡ calling p f args → 0 ≡ argument_count args
+    → Behind fs out before (held h ++ (operand (name w) ∷ [])) (written h ++ (name w ∷ []))
+    → Behind fs out before (operand (name w) ∷ []) (function_tokens p f ++ (name w ∷ []))
+word_in p f w args h fs out before e k r =
+    let is : h ≡ calling p f tree.no_arguments = e ∙ ap (calling p f) (none_are args k) in
+    as_tokens fs out before (operand (name w) ∷ [])
+    ((function_tokens p f ++ []) ++ (name w ∷ [])) (function_tokens p f ++ (name w ∷ []))
+    (ap (λ ts. ts ++ (name w ∷ [])) (append-nil (function_tokens p f)))
+    (subst (λ (v : Held).
+    Behind fs out before (held v ++ (operand (name w) ∷ [])) (written v ++ (name w ∷ []))) is r)
+
+extract_begun : (p : Bool) (f w : List ℕ) (fs : List Frame) (out : List Step)
+    (before : List Token)
+    → (b : Behind fs out before (operand (name w) ∷ []) (function_tokens p f ++ (name w ∷ [])))
+    → Behind (frame.Extract f ∷ fs) (all_held b.hs ++ (operand (text w) ∷ []))
+    (before ++ (sign sign.From ∷ [])) [] []
+extract_begun p f w fs out before b =
+    let from : List Token = sign sign.From ∷ [] in
+    pushed (extracting p f w) fs (all_held b.hs ++ (operand (text w) ∷ [])) (before ++ from)
+    (record {
+      hs = b.hs;
+      frames = b.frames;
+      steps = refl;
+      tokens =
+          ap (λ ts. ts ++ from) b.tokens
+          ∙ append_assoc (all_written b.hs) (function_tokens p f ++ (name w ∷ [])) from
+          ∙ ap (λ ts. all_written b.hs ++ ts)
+          (append_assoc (function_tokens p f) (name w ∷ []) from);
+      nested = b.nested;
+    }) tt (top_atom fs)
+
+from_sound : (fs : List Frame) (out : List Step) (s : State) (before : List Token)
+    → from_named fs out ≡ Some s → Holds mode.Named fs out before
+    → HoldsIn s (before ++ (sign sign.From ∷ []))
+from_sound (frame.Arguments f zero ∷ fs) out s before e h =
+    let w = h.0 in
+    let r = popped (frame.Arguments f 0) fs out before (operand (name w) ∷ []) (name w ∷ []) h.1 in
+    let i = call_is f 0 r.h r.is in
+    let b = word_in i.1 f w i.0 r.h fs out before i.2 i.3 r.behind in
+    along (state mode.Want (frame.Extract f ∷ fs) (all_held b.hs ++ (operand (text w) ∷ []))) s
+    (before ++ (sign sign.From ∷ []))
+    (sym (ap (word_of f fs) (named_last w fs out before _ b)) ∙ e)
+    (extract_begun i.1 f w fs out before b)
+from_sound fs out s before e h = absurd cc
 
 pub named_sound : (fs : List Frame) (out : List Step) (t : Token) (s : State)
     (before : List Token) → after_name fs out t ≡ Some s → Holds mode.Named fs out before
     → HoldsIn s (before ++ (t ∷ []))
 named_sound fs out (sign sign.Open) s before e h = open_sound fs out s before e h
+named_sound fs out (sign sign.From) s before e h = from_sound fs out s before e h
+named_sound fs out (text bs) s before e h = text_sound fs out bs s before e h
 named_sound fs out t s before e h =
     behind_sound atom_level fs out t s before e (named_operand fs out before h)

@@ -66,7 +66,7 @@ bit_not_sound fs out s before e b =
     (more_tokens fs out before [] [] (sign sign.BitNot ∷ []) b) tt
     (fits_below (top_hole fs) bit_not_level c.0))
 
-none_are : (args : Arguments) → 0 ≡ argument_count args → args ≡ tree.no_arguments
+pub none_are : (args : Arguments) → 0 ≡ argument_count args → args ≡ tree.no_arguments
 none_are tree.no_arguments e = refl
 none_are (tree.argument args a) e = absurd (let k : ⊥ = omega (arith, e) in k)
 

@@ -27,7 +27,8 @@ use Rattle.vortex_syntax.specs.Reading as specs
 use Rattle.vortex_syntax.specs.Reading.{state, settled, shifted, joining, and_behind, predicate}
 use Rattle.std.proofs.Common.{cond}
 use Rattle.vortex_syntax.specs.Reading.{between_kind}
-use Rattle.vortex_syntax.specs.Reading.{word_after, next, finish, run, call_of, mode_behind}
+use Rattle.vortex_syntax.specs.Reading.{word_after, next, finish, run, call_of, literal_of}
+use Rattle.vortex_syntax.specs.Reading.{mode_behind, word_of}
 use Rattle.vortex_syntax.proofs.Tables.{reach, at_most, over, atom_ceiling}
 use Rattle.vortex_syntax.proofs.LastName.{name_last}
 use Rattle.vortex_syntax.proofs.Closes.{settled_none, shifts, ran, want, have}
@@ -48,6 +49,7 @@ and_joins l (frame.Distinct n ∷ fs) out h k = absurd (let j : ⊥ = omega (ari
 and_joins l (frame.Bounded n ∷ fs) out h k = absurd (let j : ⊥ = omega (arith, k) in j)
 and_joins l (frame.Like n ∷ fs) out h k = absurd (let j : ⊥ = omega (arith, k) in j)
 and_joins l (frame.Arguments w n ∷ fs) out h k = rw (at_most and_level l h) refl
+and_joins l (frame.Extract w ∷ fs) out h k = rw (at_most and_level l h) refl
 and_joins l (frame.Items m n ∷ fs) out h k = rw (at_most and_level l h) refl
 and_joins l (frame.Case p m n ∷ fs) out h k = rw (at_most and_level l h) refl
 
@@ -241,12 +243,14 @@ pub step_escape : (k : LikeKind) (e : List ℕ) (l : ℕ) (fs : List Frame) (out
 unfolding run next word_after settled
 step_escape k e l fs out ts = refl
 
--- after a bare name all but a bracket does what it does after another operand
+-- after a bare name all but a bracket, a text and `from` does what it does after another operand
 named_read : (fs : List Frame) (out : List Step) (ts : List Token) → reach ts ≤ atom_level
     → run (state mode.Named fs out) ts ≡ have atom_level fs out ts
 unfolding run next finish
 named_read fs out [] h = refl
 named_read fs out (sign sign.Open ∷ ts) h = absurd (let j : ⊥ = omega (arith, h) in j)
+named_read fs out (sign sign.From ∷ ts) h = absurd (let j : ⊥ = omega (arith, h) in j)
+named_read fs out (text bs ∷ ts) h = absurd (let j : ⊥ = omega (arith, h) in j)
 named_read fs out (t ∷ ts) h = refl
 
 step_name : (w : List ℕ) (fs : List Frame) (out : List Step) (ts : List Token)
@@ -275,6 +279,18 @@ apart_read : (w : List ℕ) (fs : List Frame) (out : List Step) (ts : List Token
     ≡ want (frame.Arguments w 0 ∷ fs) out ts
 unfolding run next
 apart_read w fs out ts = ap (λ o. ran ts (call_of fs o)) (name_last out w)
+
+text_read : (w bs : List ℕ) (fs : List Frame) (out : List Step) (ts : List Token)
+    → run (state mode.Named fs (out ++ (operand (name w) ∷ []))) (text bs ∷ ts)
+    ≡ have atom_level fs (out ++ (operand (text bs) ∷ typed w false ∷ [])) ts
+unfolding run next
+text_read w bs fs out ts = ap (λ o. ran ts (literal_of fs bs o)) (name_last out w)
+
+pub step_titled : (w bs : List ℕ) (fs : List Frame) (out : List Step) (ts : List Token)
+    → want fs out (name w ∷ text bs ∷ ts)
+    ≡ have atom_level fs (out ++ (operand (text bs) ∷ typed w false ∷ [])) ts
+step_titled w bs fs out ts =
+    step_name w fs out (text bs ∷ ts) (atom_ceiling fs) ∙ text_read w bs fs out ts
 
 pub step_negative : (ds : List ℕ) (fs : List Frame) (out : List Step) (ts : List Token)
     → literal_level ≤ top_ceiling fs
@@ -338,6 +354,26 @@ pub step_applied : (w : List ℕ) (n l : ℕ) (fs : List Frame) (out : List Step
     ≡ have atom_level fs (out ++ (applied w (suc n) ∷ [])) ts
 unfolding run next word_after settled
 step_applied w n l fs out ts = refl
+
+word_read : (f w : List ℕ) (fs : List Frame) (out : List Step) (ts : List Token)
+    → run (state mode.Named (frame.Arguments f 0 ∷ fs) (out ++ (operand (name w) ∷ [])))
+    (sign sign.From ∷ ts)
+    ≡ want (frame.Extract f ∷ fs) (out ++ (operand (text w) ∷ [])) ts
+unfolding run next
+word_read f w fs out ts = ap (λ o. ran ts (word_of f fs o)) (name_last out w)
+
+pub step_word : (f w : List ℕ) (fs : List Frame) (out : List Step) (ts : List Token)
+    → want (frame.Arguments f 0 ∷ fs) out (name w ∷ sign sign.From ∷ ts)
+    ≡ want (frame.Extract f ∷ fs) (out ++ (operand (text w) ∷ [])) ts
+step_word f w fs out ts =
+    let gs : List Frame = frame.Arguments f 0 ∷ fs in
+    step_name w gs out (sign sign.From ∷ ts) (atom_ceiling gs) ∙ word_read f w fs out ts
+
+pub step_extracted : (f : List ℕ) (l : ℕ) (fs : List Frame) (out : List Step) (ts : List Token)
+    → have l (frame.Extract f ∷ fs) out (sign sign.Close ∷ ts)
+    ≡ have atom_level fs (out ++ (applied f 2 ∷ [])) ts
+unfolding run next word_after settled
+step_extracted f l fs out ts = refl
 
 pub step_item : (n : Bool) (k l : ℕ) (fs : List Frame) (out : List Step) (ts : List Token)
     → have l (frame.Items n k ∷ fs) out (sign sign.Comma ∷ ts)

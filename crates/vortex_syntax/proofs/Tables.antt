@@ -8,7 +8,7 @@ use Rattle.vortex_syntax.specs.declared.token.Sign.{Sign}
 use Rattle.vortex_syntax.specs.declared.token.Sign.TheVariants as sign
 use Rattle.vortex_syntax.specs.Frames.{Frame, hole, top_hole, ceiling, top_ceiling, guard, whole}
 use Rattle.vortex_syntax.specs.Frames as frame
-use Rattle.vortex_syntax.specs.Tokens.{Token, name, sign}
+use Rattle.vortex_syntax.specs.Tokens.{Token, name, text, sign}
 use Rattle.vortex_syntax.specs.Syntax as tree
 use Rattle.vortex_syntax.specs.Syntax.{Syntax}
 use Rattle.vortex_syntax.specs.Levels.{level, operand_level, sign_level, typed_level, own, left}
@@ -59,6 +59,7 @@ guard_hole (frame.Between m) = lit≤ tt
 guard_hole (frame.Bounded m) = lit≤ tt
 guard_hole (frame.Like k) = lit≤ tt
 guard_hole (frame.Arguments w n) = lit≤ tt
+guard_hole (frame.Extract w) = lit≤ tt
 guard_hole (frame.Items m n) = lit≤ tt
 guard_hole (frame.Case p m n) = lit≤ tt
 
@@ -105,8 +106,8 @@ level_literal (tree.joined o a b) = omega (arith, own_product o)
 level_literal (tree.converted a w n) = level_literal a
 level_literal t = lit≤ tt
 
--- the level of the sign that comes after an operand: only frames above it are closed. A bracket
--- comes after none but a bare name, which is no operand then
+-- the level of the sign that comes after an operand: only frames above it are closed. A bracket, a
+-- text or `from` comes after none but a bare name, which is no operand then
 abbrev pub reach_of : Sign → ℕ
 reach_of sign.And = and_level
 reach_of sign.Is = is_level
@@ -137,10 +138,12 @@ reach_of sign.Divide = product_level
 reach_of sign.Modulo = product_level
 reach_of sign.Typed = atom_level
 reach_of sign.Open = 15
+reach_of sign.From = 15
 reach_of _ = or_level
 
 abbrev pub token_reach : Token → ℕ
 token_reach (sign s) = reach_of s
+token_reach (text bs) = 15
 token_reach t = 0
 
 abbrev pub reach : List Token → ℕ

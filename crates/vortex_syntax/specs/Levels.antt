@@ -9,7 +9,7 @@ use Rattle.vortex_syntax.specs.Keywords.{same_word}
 use Rattle.vortex_syntax.specs.Syntax.{Syntax, operand, negative, minus, typed, grouped, negated}
 use Rattle.vortex_syntax.specs.Syntax.{joined, tested, distinct, between, matched, listed, cast}
 use Rattle.vortex_syntax.specs.Syntax.{plus, bit_not, null_tested, Tested, Null, True, False}
-use Rattle.vortex_syntax.specs.Syntax.{Unknown, converted}
+use Rattle.vortex_syntax.specs.Syntax.{Unknown, converted, titled, extracted}
 use Rattle.vortex_syntax.specs.Syntax.{nullary, chosen, chosen_else, applied, Arguments}
 use Rattle.vortex_syntax.specs.Syntax.{no_arguments, argument, Branches, without_operand}
 use Rattle.vortex_syntax.specs.Syntax.{of_operand, branch}
@@ -56,7 +56,7 @@ product_level = 10
 abbrev pub sign_level : ℕ
 sign_level = 11
 
--- columns, brackets, casts, calls and CASE
+-- columns, brackets, casts, calls, CASE, and literals behind the name of their type
 abbrev pub atom_level : ℕ
 atom_level = 12
 
@@ -146,6 +146,7 @@ level (minus a) = sign_level
 level (plus a) = sign_level
 level (bit_not a) = bit_not_level
 level (typed a w n) = typed_level
+level (titled w bs) = atom_level
 level (grouped a) = atom_level
 level (negated a) = not_level
 level (joined o a b) = own o
@@ -161,6 +162,7 @@ level (chosen bs c v) = atom_level
 level (chosen_else bs c v e) = atom_level
 level (nullary p w) = atom_level
 level (applied p w args a) = atom_level
+level (extracted p f w a) = atom_level
 
 -- the word of a test is the right one
 abbrev pub IsTested : Tested → Type 0
@@ -178,6 +180,7 @@ abbrev mutual
   Fits (plus a) = (sign_level ≤ level a) × Fits a
   Fits (bit_not a) = (bit_not_level ≤ level a) × Fits a
   Fits (typed a w n) = (literal_level ≤ level a) × Fits a
+  Fits (titled w bs) = Unit {0}
   Fits (grouped a) = Fits a
   Fits (negated a) = (not_level ≤ level a) × Fits a
   Fits (joined o a b) = (left o ≤ level a) × (right o ≤ level b) × Fits a × Fits b
@@ -195,6 +198,7 @@ abbrev mutual
   Fits (chosen_else bs c v e) = BranchesFit bs × Fits c × Fits v × Fits e
   Fits (nullary p w) = Unit {0}
   Fits (applied p w args a) = AllFit args × Fits a
+  Fits (extracted p f w a) = Fits a
 
   pub AllFit : Arguments → Type 0
   AllFit no_arguments = Unit {0}

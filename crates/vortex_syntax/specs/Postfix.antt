@@ -8,7 +8,7 @@ use Rattle.vortex_syntax.specs.declared.step.Call.{Call}
 use Rattle.vortex_syntax.specs.declared.step.Call.TheVariants as call
 use Rattle.vortex_syntax.specs.declared.step.Step as read
 use Rattle.vortex_syntax.specs.declared.step.Step.TheVariants as variant
-use Rattle.vortex_syntax.specs.Tokens.{Token, name, token_in}
+use Rattle.vortex_syntax.specs.Tokens.{Token, name, text, token_in}
 use Rattle.vortex_syntax.specs.Syntax as tree
 use Rattle.vortex_syntax.specs.Syntax.{Syntax, Tested, Arguments, Branches}
 
@@ -66,6 +66,7 @@ abbrev mutual
   postfix (tree.plus a) = postfix a ++ (called call.Plus ∷ [])
   postfix (tree.bit_not a) = postfix a ++ (called call.BitNot ∷ [])
   postfix (tree.typed a w n) = postfix a ++ (typed w n ∷ [])
+  postfix (tree.titled w bs) = operand (text bs) ∷ typed w false ∷ []
   postfix (tree.grouped a) = postfix a
   postfix (tree.negated a) = postfix a ++ (called call.Not ∷ [])
   postfix (tree.joined o a b) = postfix a ++ (postfix b ++ (called (call.Join o) ∷ []))
@@ -88,6 +89,7 @@ abbrev mutual
   postfix (tree.nullary p w) = applied w 0 ∷ []
   postfix (tree.applied p w args a) =
       all_postfix args ++ (postfix a ++ (applied w (suc (argument_count args)) ∷ []))
+  postfix (tree.extracted p f w a) = operand (text w) ∷ (postfix a ++ (applied f 2 ∷ []))
 
   pub all_postfix : Arguments → List Step
   all_postfix tree.no_arguments = []

@@ -123,6 +123,8 @@ close_behind [] out = None
 close_behind (frame.Open ∷ fs) out = Some (state (mode.Have atom_level) fs out)
 close_behind (frame.Arguments w n ∷ fs) out =
     Some (state (mode.Have atom_level) fs (out ++ (applied w (suc n) ∷ [])))
+close_behind (frame.Extract w ∷ fs) out =
+    Some (state (mode.Have atom_level) fs (out ++ (applied w 2 ∷ [])))
 close_behind (frame.Items n k ∷ fs) out =
     Some (state (mode.Have predicate_level) fs (out ++ (listed n (suc k) ∷ [])))
 close_behind (f ∷ fs) out = None
@@ -245,8 +247,30 @@ call_of fs (Some x) = Some (state mode.Want (frame.Arguments x.1 0 ∷ fs) x.0)
 abbrev pub open_call : List Frame → List Step → Option State
 open_call fs out = call_of fs (last_name out)
 
+-- a text after a bare name is a literal of the type of that name
+abbrev pub literal_of : List Frame → List ℕ → Option (List Step × List ℕ) → Option State
+literal_of fs bs None = None
+literal_of fs bs (Some x) =
+    Some (state (mode.Have atom_level) fs (x.0 ++ (operand (text bs) ∷ typed x.1 false ∷ [])))
+
+abbrev pub text_named : List Frame → List Step → List ℕ → Option State
+text_named fs out bs = literal_of fs bs (last_name out)
+
+-- a bare name before `from` is a text, the first argument of a call
+abbrev pub word_of : List ℕ → List Frame → Option (List Step × List ℕ) → Option State
+word_of f fs None = None
+word_of f fs (Some x) =
+    Some (state mode.Want (frame.Extract f ∷ fs) (x.0 ++ (operand (text x.1) ∷ [])))
+
+abbrev pub from_named : List Frame → List Step → Option State
+from_named [] out = None
+from_named (frame.Arguments f zero ∷ fs) out = word_of f fs (last_name out)
+from_named (f ∷ fs) out = None
+
 abbrev pub after_name : List Frame → List Step → Token → Option State
 after_name fs out (sign sign.Open) = open_call fs out
+after_name fs out (sign sign.From) = from_named fs out
+after_name fs out (text bs) = text_named fs out bs
 after_name fs out t = behind atom_level fs out t
 
 abbrev pub negating : ℕ → List Frame → List Step → Token → Option State

@@ -11,7 +11,7 @@ use Rattle.vortex_syntax.specs.Tokens.{Token, name, nullable, function, number, 
 use Rattle.vortex_syntax.specs.Syntax.{Syntax, operand, negative, minus, typed, grouped, negated}
 use Rattle.vortex_syntax.specs.Syntax.{joined, tested, distinct, between, matched, listed, cast}
 use Rattle.vortex_syntax.specs.Syntax.{plus, bit_not, null_tested, Tested, Null, True, False}
-use Rattle.vortex_syntax.specs.Syntax.{Unknown, converted}
+use Rattle.vortex_syntax.specs.Syntax.{Unknown, converted, titled, extracted}
 use Rattle.vortex_syntax.specs.Syntax.{nullary, chosen, chosen_else, applied, Arguments}
 use Rattle.vortex_syntax.specs.Syntax.{no_arguments, argument, Branches, without_operand}
 use Rattle.vortex_syntax.specs.Syntax.{of_operand, branch}
@@ -118,6 +118,7 @@ abbrev mutual
   spelling (plus a) = sign sign.Plus ∷ spelling a
   spelling (bit_not a) = sign sign.BitNot ∷ spelling a
   spelling (typed a w n) = spelling a ++ (sign sign.Typed ∷ type_token w n ∷ [])
+  spelling (titled w bs) = name w ∷ text bs ∷ []
   spelling (grouped a) = sign sign.Open ∷ (spelling a ++ (sign sign.Close ∷ []))
   spelling (negated a) = sign sign.Not ∷ spelling a
   spelling (joined o a b) = spelling a ++ (sign (operator_sign o) ∷ spelling b)
@@ -143,6 +144,8 @@ abbrev mutual
   spelling (nullary p w) = function_tokens p w ++ (sign sign.Close ∷ [])
   spelling (applied p w args a) =
       function_tokens p w ++ (all_spelled args ++ (spelling a ++ (sign sign.Close ∷ [])))
+  spelling (extracted p f w a) =
+      function_tokens p f ++ (name w ∷ sign sign.From ∷ (spelling a ++ (sign sign.Close ∷ [])))
 
   -- a comma follows each
   pub all_spelled : Arguments → List Token

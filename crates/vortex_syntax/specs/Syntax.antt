@@ -18,6 +18,7 @@ pub data Tested : Type 0 where
 -- plus: a tree with a plus sign before it
 -- bit_not: a tree with a tilde before it
 -- typed: a literal of the type of that name, nullable if the flag is true
+-- titled: a literal of the type of that name, which comes before its text
 -- grouped: a tree in brackets
 -- tested: IS NOT with that test, or IS where the flag is false
 -- null_tested: NOTNULL, or ISNULL where the flag is false
@@ -33,6 +34,8 @@ pub data Tested : Type 0 where
 -- nullary: the function of that name, without arguments; its bracket stands apart where the flag is
 -- true
 -- applied: the function of that name, of some arguments and a last one; its bracket is as above
+-- extracted: the function of that name, of a word before `from`, as a text, and a tree after it; its
+-- bracket is as above
 mutual
   pub data Syntax : Type 0 where
     operand : Token → Syntax
@@ -41,6 +44,7 @@ mutual
     plus : Syntax → Syntax
     bit_not : Syntax → Syntax
     typed : Syntax → List ℕ → Bool → Syntax
+    titled : List ℕ → List ℕ → Syntax
     grouped : Syntax → Syntax
     negated : Syntax → Syntax
     joined : WrittenOperator → Syntax → Syntax → Syntax
@@ -56,6 +60,7 @@ mutual
     chosen_else : Branches → Syntax → Syntax → Syntax → Syntax
     nullary : Bool → List ℕ → Syntax
     applied : Bool → List ℕ → Arguments → Syntax → Syntax
+    extracted : Bool → List ℕ → List ℕ → Syntax → Syntax
 
   -- the arguments or items before the last one
   pub data Arguments : Type 0 where

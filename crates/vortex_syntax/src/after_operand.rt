@@ -137,6 +137,12 @@ impl<'a> Reading<'a> {
                 self.emit(Step::Apply(name, one_more(count)?))?;
                 Ok(Some(Mode::Have(ATOM)))
             }
+            Some(Frame::Extract(name)) => {
+                self.at = self.top_sign();
+                self.drop_top();
+                self.emit(Step::Apply(name, 2))?;
+                Ok(Some(Mode::Have(ATOM)))
+            }
             Some(Frame::Items(negated, count)) => {
                 self.at = self.top_sign();
                 self.drop_top();
@@ -314,32 +320,6 @@ impl<'a> Reading<'a> {
         match token {
             Token::Sign(sign) => self.sign_after(level, sign),
             _ => Ok(None),
-        }
-    }
-
-    /// A bracket after a bare name, with a gap between them.
-    fn open_call(&mut self) -> Result<Option<Mode>, AllocError>
-        ensures { Gives result self.new
-            (specs.open_call (frames_in self.old) (steps_in self.old)) }
-    {
-        match self.tree.pop_name() {
-            Some((name, place)) => {
-                self.at = place;
-                self.wait(Frame::Arguments(name, 0))?;
-                Ok(Some(Mode::Want))
-            }
-            None => Ok(None),
-        }
-    }
-
-    /// A token after a bare name.
-    pub fn after_name(&mut self, token: Token<'a>) -> Result<Option<Mode>, AllocError>
-        ensures { Gives result self.new
-            (specs.after_name (frames_in self.old) (steps_in self.old) (token_in token.entry)) }
-    {
-        match token {
-            Token::Sign(Sign::Open) => self.open_call(),
-            _ => self.behind(ATOM, token),
         }
     }
 

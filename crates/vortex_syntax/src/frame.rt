@@ -45,6 +45,8 @@ pub enum Frame<'a> {
     Like(LikeKind),
     /// A call of the function of that name, after as many arguments.
     Arguments(&'a [u8], usize),
+    /// A call of the function of that name, after a word and `from`.
+    Extract(&'a [u8]),
     /// The bracket of IN, or of NOT IN, after as many items.
     Items(bool, usize),
     /// A CASE with an operand if the flag is true, after as many values.
@@ -60,7 +62,8 @@ pub enum Mode {
     Signed,
     /// What follows an operand of that level.
     Have(u8),
-    /// What follows a bare name, of which a bracket makes a call.
+    /// What follows a bare name: a bracket makes a call of it, a text is a literal of that type,
+    /// and `from` makes a text of it, the first argument of a call.
     Named,
     /// The type after two colons that follow a literal without a type.
     Typing,
@@ -89,8 +92,12 @@ pub fn hole(frame: Frame<'_>) -> u8
     ensures { result ≡ specs.hole (frame_in frame.entry) }
 {
     match frame {
-        Frame::Open | Frame::Cast(_) | Frame::Arguments(..) | Frame::Items(..) | Frame::Case(..) =>
-            OR,
+        Frame::Open
+        | Frame::Cast(_)
+        | Frame::Arguments(..)
+        | Frame::Extract(_)
+        | Frame::Items(..)
+        | Frame::Case(..) => OR,
         Frame::Not => NOT,
         Frame::Join(operator) => right(operator),
         Frame::Minus | Frame::Plus => SIGN,
@@ -125,7 +132,8 @@ pub fn whole(frame: Frame<'_>) -> u8
     ensures { result ≡ specs.whole (frame_in frame.entry) }
 {
     match frame {
-        Frame::Open | Frame::Cast(_) | Frame::Arguments(..) | Frame::Case(..) => ATOM,
+        Frame::Open | Frame::Cast(_) | Frame::Arguments(..) | Frame::Extract(_) | Frame::Case(..) =>
+            ATOM,
         Frame::Not => NOT,
         Frame::Join(operator) => own(operator),
         Frame::Minus | Frame::Plus => SIGN,
@@ -143,6 +151,7 @@ pub fn closing(frame: Frame<'_>) -> Call
         | Frame::Cast(_)
         | Frame::Not
         | Frame::Arguments(..)
+        | Frame::Extract(_)
         | Frame::Items(..)
         | Frame::Case(..) => Call::Not,
         Frame::Join(operator) => Call::Join(operator),

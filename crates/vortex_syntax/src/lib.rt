@@ -1,6 +1,7 @@
 //! SQL expressions as people write them: texts, tokens, and trees in postfix order.
 #![tactic(auto)]
 
+mod after_name;
 mod after_operand;
 pub mod answer_list;
 mod before_operand;

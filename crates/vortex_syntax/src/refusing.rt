@@ -57,7 +57,7 @@ impl<'a> Reading<'a> {
     fn expected_after(&self, whole: Expected) -> Expected {
         for frame in self.frames.iter().rev() {
             match frame {
-                Frame::Open => return Expected::OperatorOrClose,
+                Frame::Open | Frame::Extract(_) => return Expected::OperatorOrClose,
                 Frame::Cast(_) => return Expected::OperatorOrAs,
                 Frame::Arguments(..) | Frame::Items(..) => return Expected::OperatorOrComma,
                 Frame::Case(part, ..) => return expected_in(*part),
