@@ -1,0 +1,9 @@
+pub mod CalendarLaws
+pub mod Casts
+pub mod CountedDays
+pub mod CountedLaws
+pub mod Instants
+pub mod PartLaws
+pub mod Parts
+pub mod StoredRows
+pub mod Truncations
