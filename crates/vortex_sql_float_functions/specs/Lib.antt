@@ -1,0 +1,4 @@
+pub mod FloatFunctions
+pub mod FloatRows
+pub mod FunctionFits
+pub mod RootFaults
