@@ -205,11 +205,8 @@ impl StreamError {
 fn write_error<W: fmt::Write>(f: &mut fmt::Formatter<W>, error: &VortexError) -> fmt::Result {
     let (number, name) = (error.number(), error.name());
     write!(f, "E{number} {name}")?;
-    match ErrorText::new(error).fault() {
-        Some(fault) => {
-            let text = fault.text();
-            write!(f, ": {text}")
-        }
+    match ErrorText::new(error).text() {
+        Some(text) => write!(f, ": {text}"),
         None => Ok(()),
     }
 }

@@ -16,7 +16,12 @@ use Rattle.vortex_sql_texts.specs.declared.trims.Trim.TheVariants.{Both, Start, 
 use Rattle.vortex_standard.specs.declared.standard.Standard.{Standard}
 use Rattle.vortex_standard.specs.declared.standard.Standard.TheVariants as standard
 use Rattle.vortex_sql_texts.specs.declared.texts.Measure.TheVariants.{Characters, Bytes}
+use Rattle.vortex_sql_float_functions.specs.declared.functions.FloatFunction.TheVariants as function
 use Rattle.vortex_sql_floats.specs.declared.floats.FloatOperator.TheVariants as float
+use Rattle.vortex_sql_dates.specs.declared.parts.Part.{Part}
+use Rattle.vortex_sql_dates.specs.declared.parts.Part.TheVariants as part
+use Rattle.vortex_sql_dates.specs.declared.truncations.Unit.{Unit}
+use Rattle.vortex_sql_dates.specs.declared.truncations.Unit.TheVariants as unit
 use Rattle.vortex_standard.specs.declared.names.TheConstants.{FUNCTIONS}
 use Rattle.vortex_standard.specs.declared.scales.DecimalScale.{DecimalScale}
 use Rattle.vortex_standard.specs.declared.scales.DecimalScale.TheVariants as scale
@@ -118,6 +123,58 @@ first_decimal scale.S16 = refl
 first_decimal scale.S17 = refl
 first_decimal scale.S18 = refl
 
+first_date_part : (p : Part) → IsFirst (standard.DatePart (record { part = p }))
+first_date_part part.Year = refl
+first_date_part part.Quarter = refl
+first_date_part part.Month = refl
+first_date_part part.Week = refl
+first_date_part part.Day = refl
+first_date_part part.DayOfWeek = refl
+first_date_part part.IsoDayOfWeek = refl
+first_date_part part.DayOfYear = refl
+first_date_part part.Epoch = refl
+first_date_part part.Hour = refl
+first_date_part part.Minute = refl
+first_date_part part.Second = refl
+first_date_part part.Millisecond = refl
+first_date_part part.Microsecond = refl
+
+first_timestamp_part : (p : Part) → IsFirst (standard.TimestampPart (record { part = p }))
+first_timestamp_part part.Year = refl
+first_timestamp_part part.Quarter = refl
+first_timestamp_part part.Month = refl
+first_timestamp_part part.Week = refl
+first_timestamp_part part.Day = refl
+first_timestamp_part part.DayOfWeek = refl
+first_timestamp_part part.IsoDayOfWeek = refl
+first_timestamp_part part.DayOfYear = refl
+first_timestamp_part part.Epoch = refl
+first_timestamp_part part.Hour = refl
+first_timestamp_part part.Minute = refl
+first_timestamp_part part.Second = refl
+first_timestamp_part part.Millisecond = refl
+first_timestamp_part part.Microsecond = refl
+
+first_date_trunc : (u : Unit) → IsFirst (standard.DateTrunc (record { unit = u }))
+first_date_trunc unit.Year = refl
+first_date_trunc unit.Quarter = refl
+first_date_trunc unit.Month = refl
+first_date_trunc unit.Week = refl
+first_date_trunc unit.Day = refl
+first_date_trunc unit.Hour = refl
+first_date_trunc unit.Minute = refl
+first_date_trunc unit.Second = refl
+
+first_timestamp_trunc : (u : Unit) → IsFirst (standard.TimestampTrunc (record { unit = u }))
+first_timestamp_trunc unit.Year = refl
+first_timestamp_trunc unit.Quarter = refl
+first_timestamp_trunc unit.Month = refl
+first_timestamp_trunc unit.Week = refl
+first_timestamp_trunc unit.Day = refl
+first_timestamp_trunc unit.Hour = refl
+first_timestamp_trunc unit.Minute = refl
+first_timestamp_trunc unit.Second = refl
+
 first : (f : Standard) → IsFirst f
 first standard.Coalesce = refl
 first standard.NullIf = refl
@@ -146,6 +203,8 @@ first standard.RegexpLike = refl
 first standard.FloatNegate = refl
 first standard.IntToFloat = refl
 first standard.WidenFloat = refl
+first standard.DateToTimestamp = refl
+first standard.TimestampToDate = refl
 first (standard.Extreme Greatest) = refl
 first (standard.Extreme Least) = refl
 first (standard.TruthTest IsTrue) = refl
@@ -177,6 +236,17 @@ first (standard.FloatOperator float.Multiply) = refl
 first (standard.FloatOperator float.Divide) = refl
 first (standard.DecimalToFloat s) = first_decimal s
 first (standard.FloatToInt f) = first_float_cast f.ptype
+first (standard.FloatFunction function.Round) = refl
+first (standard.FloatFunction function.Floor) = refl
+first (standard.FloatFunction function.Ceil) = refl
+first (standard.FloatFunction function.Trunc) = refl
+first (standard.FloatFunction function.Sqrt) = refl
+first (standard.FloatFunction function.Abs) = refl
+first (standard.FloatFunction function.Sign) = refl
+first (standard.DatePart f) = first_date_part f.part
+first (standard.TimestampPart f) = first_timestamp_part f.part
+first (standard.DateTrunc f) = first_date_trunc f.unit
+first (standard.TimestampTrunc f) = first_timestamp_trunc f.unit
 
 -- a function's name names that function
 pub named_back : (f : Standard) → standard_named (name_of f) ≡ Some f

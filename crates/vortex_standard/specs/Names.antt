@@ -45,10 +45,10 @@ standard_named w = option_or (find (has_name w) functions) (alias_of w)
 abbrev pub is_name_byte : ℕ → Bool
 is_name_byte b = is_ascii_lowercase b || is_ascii_digit b || (b == 95)
 
--- a lower-case letter, and lower-case letters, digits and `_`; at most 19 bytes
+-- a lower-case letter, and lower-case letters, digits and `_`; at most 23 bytes
 abbrev pub is_name : List ℕ → Bool
 is_name [] = false
-is_name (b ∷ bs) = is_ascii_lowercase b && list_all is_name_byte bs && nat_le (length bs) 18
+is_name (b ∷ bs) = is_ascii_lowercase b && list_all is_name_byte bs && nat_le (length bs) 22
 
 -- at most 16 bytes
 abbrev pub is_short : List ℕ → Bool

@@ -35,6 +35,12 @@ use Rattle.vortex_sql_texts.specs.Trims.{trim_row, trim_lawful}
 use Rattle.vortex_sql_try_casts.specs.TryCasts.{try_cast_row, try_cast_lawful, try_text_row}
 use Rattle.vortex_sql_try_casts.specs.TryCasts.{try_text_lawful, try_truth_row, try_truth_lawful}
 use Rattle.vortex_sql_texts.specs.Texts.{begins_row, begins_lawful, measure_row, measure_lawful}
+use Rattle.vortex_sql_float_functions.specs.FloatRows as float_functions
+use Rattle.vortex_sql_dates.specs.Casts as date_casts
+use Rattle.vortex_sql_dates.specs.Parts.{date_part_row, timestamp_part_row}
+use Rattle.vortex_sql_dates.specs.PartLaws.{date_part_lawful, timestamp_part_lawful}
+use Rattle.vortex_sql_dates.specs.Truncations.{date_trunc_row, date_trunc_lawful}
+use Rattle.vortex_sql_dates.specs.Truncations.{timestamp_trunc_row, timestamp_trunc_lawful}
 use Rattle.vortex_sql_floats.specs.ArithmeticRows as floats
 use Rattle.vortex_sql_floats.specs.Conversions as conversions
 use Rattle.vortex_sql_floats.specs.Decimals.{decimal_row, decimal_lawful}
@@ -70,6 +76,8 @@ row_of standard.RegexpLike = regexp_like_row
 row_of standard.FloatNegate = negate_row
 row_of standard.IntToFloat = conversions.from_int_row
 row_of standard.WidenFloat = conversions.widen_row
+row_of standard.DateToTimestamp = date_casts.beginning_row
+row_of standard.TimestampToDate = date_casts.day_row
 row_of (standard.Extreme x) = extreme_row x
 row_of (standard.TruthTest t) = test_row t
 row_of (standard.BitOperator o) = operator_row o
@@ -87,6 +95,11 @@ row_of (standard.Letters l) = letters_row l
 row_of (standard.FloatOperator o) = floats.operator_row o
 row_of (standard.DecimalToFloat s) = decimal_row (scale_number s)
 row_of (standard.FloatToInt f) = to_int_row f.ptype
+row_of (standard.FloatFunction f) = float_functions.function_row f
+row_of (standard.DatePart f) = date_part_row f.part
+row_of (standard.TimestampPart f) = timestamp_part_row f.part
+row_of (standard.DateTrunc f) = date_trunc_row f.unit
+row_of (standard.TimestampTrunc f) = timestamp_trunc_row f.unit
 
 pub lawful_of : (f : Standard) → LawfulRow (row_of f)
 lawful_of standard.Coalesce = coalesce_lawful
@@ -116,6 +129,8 @@ lawful_of standard.RegexpLike = regexp_like_lawful
 lawful_of standard.FloatNegate = negate_lawful
 lawful_of standard.IntToFloat = conversions.from_int_lawful
 lawful_of standard.WidenFloat = conversions.widen_lawful
+lawful_of standard.DateToTimestamp = date_casts.beginning_lawful
+lawful_of standard.TimestampToDate = date_casts.day_lawful
 lawful_of (standard.Extreme x) = extreme_lawful x
 lawful_of (standard.TruthTest t) = test_lawful t
 lawful_of (standard.BitOperator o) = operator_lawful o
@@ -133,6 +148,11 @@ lawful_of (standard.Letters l) = letters_lawful l
 lawful_of (standard.FloatOperator o) = floats.operator_lawful o
 lawful_of (standard.DecimalToFloat s) = decimal_lawful (scale_number s)
 lawful_of (standard.FloatToInt f) = to_int_lawful f.ptype
+lawful_of (standard.FloatFunction f) = float_functions.function_lawful f
+lawful_of (standard.DatePart f) = date_part_lawful f.part
+lawful_of (standard.TimestampPart f) = timestamp_part_lawful f.part
+lawful_of (standard.DateTrunc f) = date_trunc_lawful f.unit
+lawful_of (standard.TimestampTrunc f) = timestamp_trunc_lawful f.unit
 
 -- What follows comes of the list.
 

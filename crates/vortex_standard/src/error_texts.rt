@@ -1,7 +1,22 @@
 //! The texts of errors, those of this list's functions included.
+ghost use Rattle.std.specs.Prelude.{◌≡◌};
+ghost use Rattle.std.specs.Option.{option_map};
+ghost use Rattle.vortex_standard.specs.ErrorTexts.{number_text};
+
 use std::fmt;
 use vortex_columns::VortexError;
+use vortex_sql_float_functions::functions::root_text;
 use vortex_sql_rows::faults::RowFault;
+
+/// The text of the fault with that number.
+fn number_text(number: u64) -> Option<&'static str>
+    ensures { option_map (λ t. t.now) result ≡ number_text number }
+{
+    match RowFault::of_number(number) {
+        Some(fault) => Some(fault.text()),
+        None => root_text(number),
+    }
+}
 
 /// An error, displayed with the text of its fault: E10 alone has the number.
 #[derive(Clone, Copy)]
@@ -11,7 +26,8 @@ pub struct ErrorText<'a> {
 
 impl<'a> ErrorText<'a> {
     ghost use Rattle.std.specs.Prelude.{◌≡◌};
-    ghost use Rattle.vortex_standard.specs.ErrorTexts.{fault_in};
+    ghost use Rattle.std.specs.Option.{option_map};
+    ghost use Rattle.vortex_standard.specs.ErrorTexts.{fault_in, text_in};
 
     pub fn new(error: &'a VortexError) -> ErrorText<'a>
         ensures { result.error.now ≡ error.now }
@@ -19,12 +35,22 @@ impl<'a> ErrorText<'a> {
         ErrorText { error }
     }
 
-    /// The fault of a function of the list: that with the number that E10 has.
+    /// The fault of a row: that with the number that E10 has. That of a root is none of them.
     pub fn fault(self) -> Option<RowFault>
         ensures { result ≡ fault_in self.entry.error.now }
     {
         match self.error {
             VortexError::Custom(code) => RowFault::of_number(*code),
+            _ => None,
+        }
+    }
+
+    /// The text of the fault whose number E10 has, of each function of the list.
+    pub fn text(self) -> Option<&'static str>
+        ensures { option_map (λ t. t.now) result ≡ text_in self.entry.error.now }
+    {
+        match self.error {
+            VortexError::Custom(code) => number_text(*code),
             _ => None,
         }
     }
@@ -38,11 +64,9 @@ impl<'a> fmt::Display for ErrorText<'a> {
 
     fn fmt<W: fmt::Write>(&self, f: &mut fmt::Formatter<W>) -> fmt::Result {
         let error = self.error;
-        if let VortexError::Custom(code) = error {
-            if let Some(fault) = RowFault::of_number(*code) {
-                return f.write_str(fault.text());
-            }
+        match self.text() {
+            Some(text) => f.write_str(text),
+            None => write!(f, "{error}"),
         }
-        write!(f, "{error}")
     }
 }

@@ -10,6 +10,9 @@ use vortex_columns::PType;
 use vortex_functions::ScalarFnVTable;
 use vortex_sql_choices::extremes::Extreme;
 use vortex_sql_choices::truth_tests::TruthTest;
+use vortex_sql_dates::parts::{DatePart, Part, TimestampPart};
+use vortex_sql_dates::truncations::{DateTrunc, TimestampTrunc, Unit};
+use vortex_sql_float_functions::functions::FloatFunction;
 use vortex_sql_floats::floats::FloatOperator;
 use vortex_sql_floats::integers::FloatToInt;
 use vortex_sql_numbers::bits::{BitOperator, Shift};
@@ -116,8 +119,9 @@ pub const FUNCTIONS: [Standard; 91] = [
     Standard::Letters(Letters::Upper),
 ];
 
-/// The functions on stored keys, each once: what arithmetic over columns of floats calls.
-pub const KEY_FUNCTIONS: [Standard; 34] = [
+/// The functions on stored keys, each once: what arithmetic over columns of floats and parts of
+/// dates and timestamps call.
+pub const KEY_FUNCTIONS: [Standard; 87] = [
     Standard::FloatNegate,
     Standard::IntToFloat,
     Standard::WidenFloat,
@@ -152,6 +156,87 @@ pub const KEY_FUNCTIONS: [Standard; 34] = [
     Standard::FloatToInt(FloatToInt { ptype: PType::U16 }),
     Standard::FloatToInt(FloatToInt { ptype: PType::U32 }),
     Standard::FloatToInt(FloatToInt { ptype: PType::U64 }),
+    Standard::FloatFunction(FloatFunction::Round),
+    Standard::FloatFunction(FloatFunction::Floor),
+    Standard::FloatFunction(FloatFunction::Ceil),
+    Standard::FloatFunction(FloatFunction::Trunc),
+    Standard::FloatFunction(FloatFunction::Sqrt),
+    Standard::FloatFunction(FloatFunction::Abs),
+    Standard::FloatFunction(FloatFunction::Sign),
+    Standard::DateToTimestamp,
+    Standard::TimestampToDate,
+    Standard::DatePart(DatePart { part: Part::Year }),
+    Standard::DatePart(DatePart {
+        part: Part::Quarter,
+    }),
+    Standard::DatePart(DatePart { part: Part::Month }),
+    Standard::DatePart(DatePart { part: Part::Week }),
+    Standard::DatePart(DatePart { part: Part::Day }),
+    Standard::DatePart(DatePart {
+        part: Part::DayOfWeek,
+    }),
+    Standard::DatePart(DatePart {
+        part: Part::IsoDayOfWeek,
+    }),
+    Standard::DatePart(DatePart {
+        part: Part::DayOfYear,
+    }),
+    Standard::DatePart(DatePart { part: Part::Epoch }),
+    Standard::DatePart(DatePart { part: Part::Hour }),
+    Standard::DatePart(DatePart { part: Part::Minute }),
+    Standard::DatePart(DatePart { part: Part::Second }),
+    Standard::DatePart(DatePart {
+        part: Part::Millisecond,
+    }),
+    Standard::DatePart(DatePart {
+        part: Part::Microsecond,
+    }),
+    Standard::TimestampPart(TimestampPart { part: Part::Year }),
+    Standard::TimestampPart(TimestampPart {
+        part: Part::Quarter,
+    }),
+    Standard::TimestampPart(TimestampPart { part: Part::Month }),
+    Standard::TimestampPart(TimestampPart { part: Part::Week }),
+    Standard::TimestampPart(TimestampPart { part: Part::Day }),
+    Standard::TimestampPart(TimestampPart {
+        part: Part::DayOfWeek,
+    }),
+    Standard::TimestampPart(TimestampPart {
+        part: Part::IsoDayOfWeek,
+    }),
+    Standard::TimestampPart(TimestampPart {
+        part: Part::DayOfYear,
+    }),
+    Standard::TimestampPart(TimestampPart { part: Part::Epoch }),
+    Standard::TimestampPart(TimestampPart { part: Part::Hour }),
+    Standard::TimestampPart(TimestampPart { part: Part::Minute }),
+    Standard::TimestampPart(TimestampPart { part: Part::Second }),
+    Standard::TimestampPart(TimestampPart {
+        part: Part::Millisecond,
+    }),
+    Standard::TimestampPart(TimestampPart {
+        part: Part::Microsecond,
+    }),
+    Standard::DateTrunc(DateTrunc { unit: Unit::Year }),
+    Standard::DateTrunc(DateTrunc {
+        unit: Unit::Quarter,
+    }),
+    Standard::DateTrunc(DateTrunc { unit: Unit::Month }),
+    Standard::DateTrunc(DateTrunc { unit: Unit::Week }),
+    Standard::DateTrunc(DateTrunc { unit: Unit::Day }),
+    Standard::DateTrunc(DateTrunc { unit: Unit::Hour }),
+    Standard::DateTrunc(DateTrunc { unit: Unit::Minute }),
+    Standard::DateTrunc(DateTrunc { unit: Unit::Second }),
+    Standard::TimestampTrunc(TimestampTrunc { unit: Unit::Year }),
+    Standard::TimestampTrunc(TimestampTrunc {
+        unit: Unit::Quarter,
+    }),
+    Standard::TimestampTrunc(TimestampTrunc { unit: Unit::Month }),
+    Standard::TimestampTrunc(TimestampTrunc { unit: Unit::Week }),
+    Standard::TimestampTrunc(TimestampTrunc { unit: Unit::Day }),
+    Standard::TimestampTrunc(TimestampTrunc { unit: Unit::Hour }),
+    Standard::TimestampTrunc(TimestampTrunc { unit: Unit::Minute }),
+    Standard::TimestampTrunc(TimestampTrunc { unit: Unit::Second }),
 ];
 
 fn is_same_word(word: &[u8], other: &[u8]) -> bool
@@ -230,7 +315,7 @@ pub fn names_are_read_back()
     ensures { (f : Standard) → standard_named (name_of f) ≡ Some f }
 {}
 
-/// A function's name is a lower-case letter, and lower-case letters, digits and `_`: at most 19, of
+/// A function's name is a lower-case letter, and lower-case letters, digits and `_`: at most 23, of
 /// those that texts are written with at most 16.
 #[tactic(auto, using(crate::specs::NameLaws::name_is_word, crate::specs::NameLaws::short_names))]
 pub fn names_are_words()

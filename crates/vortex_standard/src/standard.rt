@@ -17,7 +17,10 @@ use vortex_sql_calls::call::{execute_rows, row_dtype};
 use vortex_sql_calls::maker::{execute_texts, text_dtype};
 use vortex_sql_choices::extremes::Extreme;
 use vortex_sql_choices::truth_tests::TruthTest;
+use vortex_sql_dates::parts::{DatePart, TimestampPart};
+use vortex_sql_dates::truncations::{DateTrunc, TimestampTrunc};
 use vortex_sql_float_columns::execute_float_operator;
+use vortex_sql_float_functions::functions::FloatFunction;
 use vortex_sql_floats::decimals::DecimalToFloat;
 use vortex_sql_floats::floats::FloatOperator;
 use vortex_sql_floats::integers::FloatToInt;
@@ -162,6 +165,14 @@ macro_rules! with_row {
                 let $f = &DecimalToFloat { scale: scale.number() };
                 $rows
             }
+            Standard::DateToTimestamp => {
+                let $f = &vortex_sql_dates::casts::DateToTimestamp;
+                $rows
+            }
+            Standard::TimestampToDate => {
+                let $f = &vortex_sql_dates::casts::TimestampToDate;
+                $rows
+            }
             Standard::Extreme($f) => $rows,
             Standard::TruthTest($f) => $rows,
             Standard::BitOperator($f) => $rows,
@@ -176,6 +187,11 @@ macro_rules! with_row {
             Standard::Letters($f) => $texts,
             Standard::FloatOperator($f) => $rows,
             Standard::FloatToInt($f) => $rows,
+            Standard::FloatFunction($f) => $rows,
+            Standard::DatePart($f) => $rows,
+            Standard::TimestampPart($f) => $rows,
+            Standard::DateTrunc($f) => $rows,
+            Standard::TimestampTrunc($f) => $rows,
         }
     };
 }
@@ -210,6 +226,8 @@ pub enum Standard {
     FloatNegate,
     IntToFloat,
     WidenFloat,
+    DateToTimestamp,
+    TimestampToDate,
     Extreme(Extreme),
     TruthTest(TruthTest),
     BitOperator(BitOperator),
@@ -227,6 +245,11 @@ pub enum Standard {
     FloatOperator(FloatOperator),
     DecimalToFloat(DecimalScale),
     FloatToInt(FloatToInt),
+    FloatFunction(FloatFunction),
+    DatePart(DatePart),
+    TimestampPart(TimestampPart),
+    DateTrunc(DateTrunc),
+    TimestampTrunc(TimestampTrunc),
 }
 
 impl Standard {
