@@ -1,1 +1,2 @@
 mod ShippedCalls
+pub mod RowMeanings

@@ -6,3 +6,5 @@ pub mod Bounds
 pub mod Computation
 pub mod Literals
 pub mod Alignment
+pub mod Intervals
+pub mod RowLaws

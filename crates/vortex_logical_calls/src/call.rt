@@ -10,7 +10,7 @@ use vortex_lowering::Refusal;
 use vortex_standard::Standard;
 
 /// The call of a function on trees.
-fn call_on(
+pub(crate) fn call_on(
     alloc: Global,
     function: ScalarFnRef<Standard>,
     trees: Vec<BoundExpression<Standard>>,

@@ -1,4 +1,4 @@
-//! What an operand becomes next to another: a float, or an integer of another type.
+//! What an operand becomes next to another: a float, an integer of another type, or an instant.
 ghost use Rattle.std.specs.Prelude.{◌≡◌};
 ghost use Rattle.vortex_types.specs.TypeEquality.{ptype_eq};
 ghost use Rattle.vortex_lowering.specs.Rows.{lowered};
@@ -24,6 +24,8 @@ pub(crate) enum Conversion {
     Float,
     /// An integer of that type.
     Integer(PType),
+    /// The instant of a date's midnight.
+    Instant,
 }
 
 /// Whether operands meet in a float of 64 bits.
@@ -33,13 +35,15 @@ pub(crate) fn meet_in_float(left: &Operand, right: &Operand) -> bool
     matches!(common_operand(left, right), Some(Operand::Of(Kind::F64)))
 }
 
-/// The integer type that a whole number takes next to an operand.
-fn integer_conversion(operand: &Operand, other: &Operand) -> Conversion
-    ensures { result ≡ specs.integer_conversion operand.now other.now }
+/// What an operand becomes next to another without being rounded: a whole number takes an integer
+/// type, and a date is its midnight next to a timestamp.
+fn exact_conversion(operand: &Operand, other: &Operand) -> Conversion
+    ensures { result ≡ specs.exact_conversion operand.now other.now }
 {
     match (operand, other) {
         (Operand::Whole(_), Operand::Of(Kind::Decimal(_))) => Conversion::Integer(PType::I64),
         (Operand::Whole(_), Operand::Of(Kind::Date)) => Conversion::Integer(PType::I32),
+        (Operand::Of(Kind::Date), Operand::Of(Kind::Timestamp)) => Conversion::Instant,
         _ => Conversion::Keep,
     }
 }
@@ -51,7 +55,7 @@ pub(crate) fn conversion_beside(operand: &Operand, other: &Operand) -> Conversio
     if meet_in_float(operand, other) {
         Conversion::Float
     } else {
-        integer_conversion(operand, other)
+        exact_conversion(operand, other)
     }
 }
 
@@ -63,7 +67,7 @@ pub(crate) fn conversion_by_two(operand: &Operand, first: &Operand, second: &Ope
         return Conversion::Float;
     }
     match conversion_beside(operand, first) {
-        Conversion::Keep => integer_conversion(operand, second),
+        Conversion::Keep => exact_conversion(operand, second),
         other => other,
     }
 }
@@ -162,6 +166,20 @@ fn as_integer(
     after(alloc, function, Operand::Whole(ptype), item)
 }
 
+/// A date as the instant of its midnight; the fault `IntegerOutOfRange` in rows where 64 bits do not
+/// hold its microseconds.
+fn as_instant(alloc: Global, item: Lowered<Standard>) -> Result<Lowered<Standard>, Refusal>
+    ensures { Makes (λ x. lowered x.tree x.operand) result
+        (specs.as_instant (lowered item.tree item.operand)) }
+{
+    after(
+        alloc,
+        Some(Standard::DateToTimestamp),
+        Operand::Of(Kind::Timestamp),
+        item,
+    )
+}
+
 /// What the operand becomes.
 pub(crate) fn converted(
     alloc: Global,
@@ -175,5 +193,6 @@ pub(crate) fn converted(
         Conversion::Keep => Ok(item),
         Conversion::Float => as_float(alloc, item),
         Conversion::Integer(ptype) => as_integer(alloc, ptype, item),
+        Conversion::Instant => as_instant(alloc, item),
     }
 }

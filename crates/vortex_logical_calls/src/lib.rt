@@ -7,11 +7,14 @@ mod call;
 pub mod comparison;
 pub mod computation;
 pub mod conversions;
+pub mod intervals;
+pub mod laws;
 pub mod literals;
 
 pub use alignment::{align, meet_next};
 pub use bounds::between;
 pub use comparison::compare;
 pub use computation::compute;
+pub use intervals::{interval_of, shift};
 pub use literals::{kind_beside, literal};
 pub use vortex_lowering::{Lowered, Refusal};

@@ -5,6 +5,6 @@ mod StoredLiterals
 mod TreeTypes
 mod LengthenedTrees
 mod LengthenedRows
-mod RowComparisons
-mod RowResults
-mod RowBounds
+pub mod RowComparisons
+pub mod RowResults
+pub mod RowBounds
