@@ -26,6 +26,7 @@ use Rattle.vortex_expressions.specs.Literals.{Literal, own_type, number_type, ty
 use Rattle.vortex_expressions.specs.Outcomes.{answers, and_then, or_refuses}
 use Rattle.vortex_expressions.specs.declared.refusal.Refusal.TheVariants.{UntypedNull}
 use Rattle.vortex_expressions.specs.Items.{Item, literal, bound, kinded, Tree, meaning}
+use Rattle.vortex_expressions.specs.Items.{fraction, interval}
 use Rattle.vortex_expressions.specs.Items.{bound_type}
 use Rattle.vortex_expressions.specs.Kinded.{is_kinded, stored_item}
 use Rattle.vortex_expressions.specs.Items.{literal_type, first_some, common_type, constant_at}
@@ -78,6 +79,8 @@ settles o (bound u) t ty st e h =
     ap (λ v. meeting o (tree_type meaning v) v) st ∙ ap (λ p. meeting o p t) e
     ∙ stays_there o t ty h
 settles o (kinded k u) t ty st e h = absurd st
+settles o (fraction w) t ty st e h = absurd st
+settles o (interval z) t ty st e h = absurd st
 settles o (literal l) t ty st e h =
     let s = st.0 in
     let is : s.dtype ≡ ty = some_is s.dtype ty (ap (tree_type meaning) st.1 ∙ e) in
@@ -90,23 +93,31 @@ pub stands_plain : (i : Item) (t : Tree) → Stands i t → is_kinded i ≡ fals
 stands_plain (bound u) t st = refl
 stands_plain (literal l) t st = refl
 stands_plain (kinded k u) t st = absurd st
+stands_plain (fraction w) t st = absurd st
+stands_plain (interval z) t st = absurd st
 
 pub stands_stored : (i : Item) (t : Tree) → Stands i t → stored_item i ≡ i
 stands_stored (bound u) t st = refl
 stands_stored (literal l) t st = refl
 stands_stored (kinded k u) t st = absurd st
+stands_stored (fraction w) t st = absurd st
+stands_stored (interval z) t st = absurd st
 
 -- the type of an item, if it has one
 pub bound_is : (i : Item) (t : Tree) (ty u : LogicalType) → Stands i t → tree_type meaning t ≡ Some ty
     → bound_type i ≡ Some u → u ≡ ty
 bound_is (bound v) t ty u st e h = some_is u ty (sym h ∙ ap (tree_type meaning) st ∙ e)
 bound_is (kinded k v) t ty u st e h = absurd st
+bound_is (fraction w) t ty u st e h = absurd st
+bound_is (interval z) t ty u st e h = absurd st
 bound_is (literal l) t ty u st e h = absurd cc
 
 pub literal_type_is : (i : Item) (t : Tree) (ty u : LogicalType) → Stands i t
     → tree_type meaning t ≡ Some ty → literal_type i ≡ Some u → u ≡ ty
 literal_type_is (bound v) t ty u st e h = absurd cc
 literal_type_is (kinded k v) t ty u st e h = absurd st
+literal_type_is (fraction w) t ty u st e h = absurd st
+literal_type_is (interval z) t ty u st e h = absurd st
 literal_type_is (literal l) t ty u st e h =
     some_is u ty (sym h ∙ st.2 ∙ ap (tree_type meaning) st.1 ∙ e)
 

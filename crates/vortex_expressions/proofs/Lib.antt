@@ -8,6 +8,7 @@ pub mod Quoting
 pub mod Walking
 pub mod Options
 mod KindPlaces
+pub mod FirstKinds
 pub mod MetTypes
 pub mod FunctionNames
 pub mod NamedSyntax
@@ -33,8 +34,10 @@ pub mod Saying
 pub mod Finding
 pub mod SureCalls
 pub mod SureKinds
+pub mod SureKindFunctions
 pub mod Sure
 pub mod Why
 pub mod Likened
 pub mod Counted
 pub mod Listing
+mod TextRows

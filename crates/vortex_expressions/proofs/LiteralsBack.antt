@@ -43,6 +43,7 @@ use Rattle.vortex_expressions.specs.Literals.{Literal, own_type}
 use Rattle.vortex_expressions.specs.Outcomes.{answers, and_then, or_refuses}
 use Rattle.vortex_expressions.specs.declared.refusal.Refusal.TheVariants.{UnknownType}
 use Rattle.vortex_expressions.specs.Items.{Item, literal, bound, kinded, Tree, constant_at}
+use Rattle.vortex_expressions.specs.Items.{fraction, interval}
 use Rattle.vortex_expressions.specs.Calls.{unquoted_behind, unquoted, text_of, between_quotes}
 use Rattle.vortex_expressions.specs.Calls.{as_item, field_found, column_of, operand_item}
 use Rattle.vortex_expressions.specs.Calls.{type_of_name, typed_item}
@@ -74,6 +75,8 @@ quoted_text q bs u = ap text_of (unquoted_doubled q bs) ∙ utf8_text bs u
 abbrev pub Stands : Item → Tree → Type 0
 Stands (bound u) t = u ≡ t
 Stands (kinded k u) t = ⊥
+Stands (fraction w) t = ⊥
+Stands (interval z) t = ⊥
 Stands (literal l) t = (s : ScalarView) × (constant s ≡ t) × (own_type l ≡ Some s.dtype)
     × (constant_at l s.dtype ≡ answers (constant s))
 

@@ -33,7 +33,7 @@ use Rattle.vortex_expressions.specs.Items.{settled, all_settled, call_of, as_ite
 use Rattle.vortex_expressions.specs.Applied.{values_of, cases_settled, arguments_settled}
 use Rattle.vortex_expressions.specs.Applied.{function_call}
 use Rattle.vortex_expressions.specs.Functions.{function_item, applied_item}
-use Rattle.vortex_expressions.proofs.PlainItems.{AllPlain, function_plain}
+use Rattle.vortex_expressions.proofs.PlainItems.{AllPlain, function_plain, applied_plain}
 use Rattle.vortex_expressions.specs.Binding.{with_item, of_items, item_of, items_of}
 use Rattle.vortex_expressions.specs.Writing.{syntax_of, syntaxes_of, all_present, applied_from}
 use Rattle.vortex_expressions.specs.Writing.{named_syntax}
@@ -287,6 +287,7 @@ module _ (scope : Fields) where
       let b = bound_there ts m.a k m.there in
       tree_standing scope a (call (custom f c) ts)
       (ap (item_of scope) (sym m.made) ∙ named_item (name_of f) m.a b.items b.bound
+      ∙ applied_plain (name_of f) b.items (all_plain b.items ts b.stands)
       ∙ ap (λ o. and_then (or_refuses NoFunction o) (λ f. function_item f b.items))
       (named_back f)
       ∙ function_plain f b.items (all_plain b.items ts b.stands)

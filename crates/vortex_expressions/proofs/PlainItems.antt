@@ -1,5 +1,5 @@
 -- Items without kinds are joined as trees are, and functions take them as trees.
-use Rattle.std.proofs.Common.{◌≡◌, ◌||◌, Bool, true, false, refl, ap, List, [], ◌∷◌}
+use Rattle.std.proofs.Common.{◌≡◌, ◌||◌, Bool, true, false, refl, ap, List, [], ◌∷◌, ℕ}
 use Rattle.std.specs.Prelude.{if◌then◌else◌}
 use Rattle.vortex_logical.specs.declared.kind.Kind.TheVariants.{Plain}
 use Rattle.vortex_sql_rows.specs.declared.types.Takes.{Takes}
@@ -8,10 +8,13 @@ use Rattle.vortex_standard.specs.declared.standard.Standard.{Standard}
 use Rattle.vortex_standard.specs.Standard.{row_of}
 use Rattle.vortex_syntax.specs.declared.step.WrittenOperator as written
 use Rattle.vortex_expressions.specs.Items.{Item, literal, bound, kinded, as_item}
+use Rattle.vortex_expressions.specs.Items.{fraction, interval}
 use Rattle.vortex_expressions.specs.Applied.{values_of, function_call}
 use Rattle.vortex_expressions.specs.Kinded.{first_kind, is_plain}
 use Rattle.vortex_expressions.specs.Functions.{is_choice, is_test, values_in, call_kind, kinded_call}
-use Rattle.vortex_expressions.specs.Functions.{function_item}
+use Rattle.vortex_expressions.specs.Functions.{function_item, standard_item, meant_item}
+use Rattle.vortex_expressions.specs.Functions.{applied_item}
+use Rattle.vortex_expressions.specs.KindWords.{kind_word}
 use Rattle.vortex_expressions.specs.Calls.{is_kinded, joined_item, plain_joined, between_three}
 use Rattle.vortex_expressions.specs.Calls.{between_all}
 
@@ -32,6 +35,8 @@ first_plain [] h = refl
 first_plain (literal l ∷ is) h = first_plain is h.1
 first_plain (bound t ∷ is) h = first_plain is h.1
 first_plain (kinded k t ∷ is) h = let e : true ≡ false = h.0 in cc
+first_plain (fraction w ∷ is) h = let e : true ≡ false = h.0 in cc
+first_plain (interval z ∷ is) h = let e : true ≡ false = h.0 in cc
 
 values_plain : (is : List Item) → AllPlain is → AllPlain (values_of is)
 values_plain [] h = tt
@@ -56,3 +61,9 @@ pub function_plain : (f : Standard) (is : List Item) → AllPlain is
 function_plain f is h =
     ap (λ k. if is_plain k then as_item (function_call f is) else kinded_call f k is)
     (call_plain f is h)
+
+pub applied_plain : (w : List ℕ) (is : List Item) → AllPlain is
+    → applied_item w is ≡ standard_item w is
+applied_plain w is h =
+    ap (λ k. if is_plain k then standard_item w is else meant_item (kind_word w) w is)
+    (first_plain is h)

@@ -33,7 +33,7 @@ use Rattle.vortex_syntax.specs.Tokens as token
 use Rattle.vortex_syntax.specs.Syntax.{Syntax, operand, negative, typed, grouped, negated, joined}
 use Rattle.vortex_syntax.specs.Syntax.{minus, tested, distinct, between, matched, listed, cast}
 use Rattle.vortex_syntax.specs.Syntax.{chosen, chosen_else, nullary, applied, Arguments}
-use Rattle.vortex_syntax.specs.Syntax.{plus, bit_not, null_tested, converted}
+use Rattle.vortex_syntax.specs.Syntax.{plus, bit_not, null_tested, converted, titled, extracted}
 use Rattle.vortex_syntax.specs.Syntax.{no_arguments, argument, Branches, without_operand}
 use Rattle.vortex_syntax.specs.Syntax.{of_operand, branch}
 use Rattle.vortex_expressions.specs.Literals as literal
@@ -52,6 +52,7 @@ use Rattle.vortex_sql_rows.specs.declared.types.Takes.TheVariants.{Alike, Each, 
 use Rattle.vortex_standard.specs.Standard.{row_of}
 use Rattle.vortex_standard.specs.Names.{standard_named}
 use Rattle.vortex_expressions.specs.Items.{Item, literal, bound, kinded, Tree, Callable, meaning}
+use Rattle.vortex_expressions.specs.Items.{fraction, interval}
 use Rattle.vortex_expressions.specs.Items.{common_type, constant_at, settled, all_settled, call_of}
 use Rattle.vortex_expressions.specs.Items.{called, callable, refused_at, place_of, unfit, widened}
 use Rattle.vortex_expressions.specs.Items.{meeting}
@@ -73,7 +74,7 @@ use Rattle.vortex_expressions.specs.Casts.{cast_function, cast_by, cast_from, ca
 use Rattle.vortex_expressions.specs.Casts.{tried_if}
 use Rattle.vortex_expressions.specs.Calls.{between_tree, between_three, stored_item, is_kinded}
 use Rattle.vortex_expressions.proofs.PlainItems.{joined_plain, between_plain, AllPlain}
-use Rattle.vortex_expressions.proofs.PlainItems.{function_plain}
+use Rattle.vortex_expressions.proofs.PlainItems.{function_plain, applied_plain}
 use Rattle.vortex_operators.specs.declared.operators.Operator.TheVariants as operator
 use Rattle.std.specs.Option.{option_map}
 use Rattle.vortex_syntax.specs.declared.step.BetweenKind.{BetweenKind}
@@ -89,6 +90,8 @@ module _ (scope : Fields) where
   abbrev ItemOver : Item → Type 0
   ItemOver (bound t) = IsOver scope t
   ItemOver (kinded k t) = ⊥
+  ItemOver (fraction w) = ⊥
+  ItemOver (interval z) = ⊥
   ItemOver (literal l) = IsText l
 
   constant_over : (l : Literal) (ty : LogicalType) (t : Tree) → IsText l
@@ -142,6 +145,8 @@ module _ (scope : Fields) where
       → settled o i ≡ answers t → IsOver scope t
   settled_over o (bound u) t h e = meeting_over o (tree_type meaning u) u t h e
   settled_over o (kinded k u) t h e = absurd h
+  settled_over o (fraction w) t h e = absurd h
+  settled_over o (interval z) t h e = absurd h
   settled_over o (literal l) t h e =
       let m = then_is (or_refuses UntypedNull (type_beside o l)) (constant_at l) t e in
       constant_over l m.a t h m.second
@@ -212,6 +217,8 @@ module _ (scope : Fields) where
       → ItemOver i
   typed_over w n (bound t) i h e = absurd cc
   typed_over w n (kinded k t) i h e = absurd h
+  typed_over w n (fraction v) i h e = absurd h
+  typed_over w n (interval z) i h e = absurd h
   typed_over w n (literal l) i h e =
       as_item_over (and_then (type_of_name w n) (constant_at l)) i
       (λ t g. let m = then_is (type_of_name w n) (constant_at l) t g in
@@ -259,11 +266,15 @@ module _ (scope : Fields) where
   stored_over (bound t) h = h
   stored_over (literal l) h = h
   stored_over (kinded k t) h = absurd h
+  stored_over (fraction w) h = absurd h
+  stored_over (interval z) h = absurd h
 
   over_plain : (j : Item) → ItemOver j → is_kinded j ≡ false
   over_plain (bound t) h = refl
   over_plain (literal l) h = refl
   over_plain (kinded k t) h = absurd h
+  over_plain (fraction w) h = absurd h
+  over_plain (interval z) h = absurd h
 
   null_over : (n : Bool) (j i : Item) → ItemOver j → tested_item test.Null n j ≡ answers i
       → ItemOver i
@@ -494,7 +505,8 @@ module _ (scope : Fields) where
   applied_over : (w : List ℕ) (is : List Item) (i : Item) → AllItems is
       → applied_item w is ≡ answers i → ItemOver i
   applied_over w is i h e =
-      let m = then_is (or_refuses NoFunction (standard_named w)) (λ f. function_item f is) i e in
+      let m = then_is (or_refuses NoFunction (standard_named w)) (λ f. function_item f is) i
+      (sym (applied_plain w is (all_plain is h)) ∙ e) in
       function_over m.a is i h m.second
 
   item_is : (j i : Item) → answers j ≡ answers i → j ≡ i
@@ -521,6 +533,9 @@ module _ (scope : Fields) where
     item_over (negative ds) i e = number_over (text_of (45 ∷ ds)) i e
     item_over (typed a w n) i e = let m = then_is (item_of scope a) (typed_item w n) i e in
         typed_over w n m.a i (item_over a m.a m.first) m.second
+    item_over (titled w bs) i e =
+        let m = then_is (operand_item scope (token.text bs)) (typed_item w false) i e in
+        typed_over w false m.a i (operand_over (token.text bs) m.a m.first) m.second
     item_over (grouped a) i e = item_over a i e
     item_over (negated a) i e = let m = then_is (item_of scope a) not_item i e in
         not_over m.a i (item_over a m.a m.first) m.second
@@ -595,6 +610,14 @@ module _ (scope : Fields) where
         applied_over w (reverse m.a) i
         (all_reversed m.a (more_over some (item_of scope a) (items_over args (answers []) none_over)
         (item_over a) m.a m.first)) m.second
+    item_over (extracted p f w a) i e =
+        let word = operand_item scope (token.text w) in
+        let first = with_item (answers []) word in
+        let m = then_is (with_item first (item_of scope a)) (λ is. applied_item f (reverse is)) i e in
+        applied_over f (reverse m.a) i
+        (all_reversed m.a (more_over first (item_of scope a)
+        (more_over (answers []) word none_over (operand_over (token.text w))) (item_over a) m.a
+        m.first)) m.second
 
     items_over : (args : Arguments) (o : Outcome (List Item)) → AreOver o
         → AreOver (items_after scope o args)

@@ -1,8 +1,8 @@
 -- No part of an expression is missing.
-use Rattle.std.proofs.Common.{◌≡◌, ℕ, ◌≤◌, ◌||◌, Bool, true, false, List, [], ◌∷◌, length, Option}
+use Rattle.std.proofs.Common.{◌≡◌, ℕ, ℤ, ◌≤◌, ◌||◌, Bool, true, false, List, [], ◌∷◌, length, Option}
 use Rattle.std.proofs.Common.{Some, None, refl, ap, sym, subst, arith, reverse, ◌++◌}
 use Rattle.std.proofs.lemmas.List.{reverse-append}
-use Rattle.std.specs.Prelude.{IfSome, codes}
+use Rattle.std.specs.Prelude.{IfSome, codes, ◌&&◌, if◌then◌else◌}
 use Rattle.std.specs.Str.{chars}
 use Rattle.vortex_types.specs.LogicalTypes.{LogicalType, Fields, is_bool_type}
 use Rattle.vortex_types.specs.LogicalTypes.{is_nullable, text_type}
@@ -40,6 +40,7 @@ use Rattle.vortex_standard.specs.Names.{standard_named}
 use Rattle.vortex_expressions.specs.declared.refusal.Refusal.TheVariants.{NoFunction}
 use Rattle.vortex_expressions.specs.Outcomes.{Outcome, answers, or_refuses}
 use Rattle.vortex_expressions.specs.Items.{Tree, Item, literal, bound, kinded, meaning}
+use Rattle.vortex_expressions.specs.Items.{fraction, interval}
 use Rattle.vortex_expressions.specs.Items.{settled, all_settled}
 use Rattle.vortex_expressions.specs.Items.{call_of, called, callable, common_type, truth_type}
 use Rattle.vortex_expressions.specs.Calls as calls
@@ -49,6 +50,11 @@ use Rattle.vortex_expressions.specs.Applied.{values_of, cases_settled, arguments
 use Rattle.vortex_expressions.specs.Applied.{function_call}
 use Rattle.vortex_expressions.specs.Functions.{values_in, call_kind, met_values, aligned_arguments}
 use Rattle.vortex_expressions.specs.Functions.{kinded_call, function_item, applied_item}
+use Rattle.vortex_expressions.specs.Functions.{standard_item, meant_item}
+use Rattle.vortex_expressions.specs.Kinded.{first_kind}
+use Rattle.vortex_expressions.specs.KindWords.{kind_word}
+use Rattle.vortex_expressions.specs.declared.kind_words.KindName.{KindName}
+use Rattle.vortex_expressions.proofs.SureKindFunctions.{sure_kind_call}
 use Rattle.vortex_logical.specs.declared.operand.Operand.TheVariants.{Of}
 use Rattle.vortex_expressions.specs.Casts.{cast_function, cast_by, cast_from, cast_tree, cast_hint}
 use Rattle.std.specs.Option.{option_map}
@@ -69,7 +75,12 @@ use Rattle.vortex_expressions.proofs.SureCalls.{sure_text, sure_quoted, sure_col
 use Rattle.vortex_expressions.proofs.SureKinds.{sure_kinded_joined, sure_kinded_between, sure_stored}
 use Rattle.vortex_expressions.proofs.SureKinds.{Any, sure_met, sure_aligned_arguments, result_is}
 use Rattle.vortex_expressions.proofs.SureKinds.{sure_kind_item, sure_cast_to_kind}
-use Rattle.vortex_expressions.specs.KindCasts.{float_cast}
+use Rattle.vortex_expressions.proofs.SureKinds.{sure_text_literal}
+use Rattle.vortex_expressions.specs.KindCasts.{float_cast, fraction_cast, is_interval_name}
+use Rattle.vortex_expressions.specs.KindCasts.{interval_told, interval_item}
+use Rattle.vortex_expressions.specs.Kinded.{text_literal}
+use Rattle.vortex_expressions.specs.Literals.{has_fraction}
+use Rattle.vortex_logical_calls.specs.Intervals.{interval_of}
 use Rattle.vortex_types.specs.LogicalTypes.{integer_type}
 
 module _ (columns : Names) (sure_columns : (w : List ℕ) → Sure IsItem (columns.column w)) where
@@ -79,7 +90,14 @@ module _ (columns : Names) (sure_columns : (w : List ℕ) → Sure IsItem (colum
   sure_sign sign.Null h = tt
   sure_sign s h = absurd cc
 
-  sure_operand : (t : Token) → is_operand t ≡ true → Sure IsItem (calls.operand_by columns.column t)
+  sure_number_item : (b : Bool) (w : List ℕ) → IsItem (calls.number_item b w)
+  sure_number_item b w = by (b && has_fraction w)
+    where
+      by : (c : Bool) → IsItem (if c then fraction w else literal (literals.number w))
+      by true = tt
+      by false = tt
+
+  sure_operand : (t : Token) → is_operand t ≡ true → Sure IsItem (calls.operand_by columns t)
   sure_operand (name w) h =
       sure_then _ IsItem (calls.text_of w) _ (sure_text w) (λ v k. sure_columns v)
   sure_operand (nullable w) h = absurd cc
@@ -88,7 +106,8 @@ module _ (columns : Names) (sure_columns : (w : List ℕ) → Sure IsItem (colum
       sure_then _ IsItem (calls.between_quotes 34 w) _ (sure_quoted 34 w)
       (λ v k. sure_columns v)
   sure_operand (number ds) h =
-      sure_then _ IsItem (calls.text_of ds) _ (sure_text ds) (λ v k. tt)
+      sure_then _ IsItem (calls.text_of ds) _ (sure_text ds)
+      (λ v k. sure_number_item columns.has_kinds v)
   sure_operand (text bs) h =
       sure_then _ IsItem (calls.between_quotes 39 bs) _ (sure_quoted 39 bs) (λ v k. tt)
   sure_operand (sign s) h = sure_sign s h
@@ -98,6 +117,15 @@ module _ (columns : Names) (sure_columns : (w : List ℕ) → Sure IsItem (colum
   IsLiteral (literal l) = Unit {0}
   IsLiteral (bound t) = ⊥
   IsLiteral (kinded k t) = ⊥
+  IsLiteral (fraction w) = Unit {0}
+  IsLiteral (interval z) = ⊥
+
+  number_literal : (b : Bool) (w : List ℕ) → IsLiteral (calls.number_item b w)
+  number_literal b w = by (b && has_fraction w)
+    where
+      by : (c : Bool) → IsLiteral (if c then fraction w else literal (literals.number w))
+      by true = tt
+      by false = tt
 
   literal_sign : (s : Sign) → is_operand (sign s) ≡ true → Sure IsLiteral (calls.sign_item s)
   literal_sign sign.True h = tt
@@ -106,13 +134,14 @@ module _ (columns : Names) (sure_columns : (w : List ℕ) → Sure IsItem (colum
   literal_sign s h = absurd cc
 
   literal_token : (t : Token) → is_operand t ≡ true → 14 ≤ operand_level t
-      → Sure IsLiteral (calls.operand_by columns.column t)
+      → Sure IsLiteral (calls.operand_by columns t)
   literal_token (name w) h le = absurd (let k : ⊥ = omega (arith, le) in k)
   literal_token (nullable w) h le = absurd cc
   literal_token (function w) h le = absurd cc
   literal_token (quoted w) h le = absurd (let k : ⊥ = omega (arith, le) in k)
   literal_token (number ds) h le =
-      sure_then _ IsLiteral (calls.text_of ds) _ (sure_text ds) (λ v k. tt)
+      sure_then _ IsLiteral (calls.text_of ds) _ (sure_text ds)
+      (λ v k. number_literal columns.has_kinds v)
   literal_token (text bs) h le =
       sure_then _ IsLiteral (calls.between_quotes 39 bs) _ (sure_quoted 39 bs) (λ v k. tt)
   literal_token (sign s) h le = literal_sign s h
@@ -120,8 +149,10 @@ module _ (columns : Names) (sure_columns : (w : List ℕ) → Sure IsItem (colum
   sure_literal : (t : Syntax) → Fits t → 14 ≤ level t → Sure IsLiteral (item_by columns t)
   sure_literal (tree.operand t) f le = literal_token t f le
   sure_literal (tree.negative ds) f le =
-      sure_then _ IsLiteral (calls.text_of (45 ∷ ds)) _ (sure_text (45 ∷ ds)) (λ v k. tt)
+      sure_then _ IsLiteral (calls.text_of (45 ∷ ds)) _ (sure_text (45 ∷ ds))
+      (λ v k. number_literal columns.has_kinds v)
   sure_literal (tree.typed a w n) f le = absurd (let k : ⊥ = omega (arith, le) in k)
+  sure_literal (tree.titled w bs) f le = absurd (let k : ⊥ = omega (arith, le) in k)
   sure_literal (tree.grouped a) f le = absurd (let k : ⊥ = omega (arith, le) in k)
   sure_literal (tree.negated a) f le = absurd (let k : ⊥ = omega (arith, le) in k)
   sure_literal (tree.joined o a b) f le =
@@ -141,11 +172,16 @@ module _ (columns : Names) (sure_columns : (w : List ℕ) → Sure IsItem (colum
   sure_literal (tree.chosen_else bs c v e) f le = absurd (let k : ⊥ = omega (arith, le) in k)
   sure_literal (tree.nullary p w) f le = absurd (let k : ⊥ = omega (arith, le) in k)
   sure_literal (tree.applied p w args a) f le = absurd (let k : ⊥ = omega (arith, le) in k)
+  sure_literal (tree.extracted p g w a) f le = absurd (let k : ⊥ = omega (arith, le) in k)
 
   sure_typed : (w : List ℕ) (n : Bool) (i : Item) → IsLiteral i
       → Sure IsItem (calls.typed_item w n i)
   sure_typed w n (bound t) h = absurd h
   sure_typed w n (kinded k t) h = absurd h
+  sure_typed w n (interval z) h = absurd h
+  sure_typed w n (fraction v) h =
+      sure_item _ (sure_then _ IsTyped (calls.type_of_name w n) _ (sure_named w n)
+      (λ t k. sure_constant (literals.number v) t))
   sure_typed w n (literal l) h =
       sure_item _ (sure_then _ IsTyped (calls.type_of_name w n) _ (sure_named w n)
       (λ t k. sure_constant l t))
@@ -154,10 +190,31 @@ module _ (columns : Names) (sure_columns : (w : List ℕ) → Sure IsItem (colum
   sure_kind_name w n =
       sure_if _ n _ _ tt (sure_then _ _ (calls.text_of w) _ (sure_text w) (λ v h. tt))
 
+  sure_interval : (o : Option ℤ) → Sure IsItem (interval_told o)
+  sure_interval None = tt
+  sure_interval (Some z) = tt
+
+  sure_interval_item : (l : literals.Literal) → Sure IsItem (interval_item l)
+  sure_interval_item (literals.number w) = tt
+  sure_interval_item (literals.text bs) = sure_interval (interval_of bs)
+  sure_interval_item (literals.truth b) = tt
+  sure_interval_item literals.null = tt
+
+  sure_typed_plain : (w : List ℕ) (n : Bool) (i : Item) → IsLiteral i
+      → Sure IsItem (calls.typed_plain w n i)
+  sure_typed_plain w n (literal l) h =
+      sure_if IsItem (is_interval_name w n) _ _ (sure_interval_item l) (sure_typed w n (literal l) h)
+  sure_typed_plain w n (fraction v) h = sure_typed w n (fraction v) h
+  sure_typed_plain w n (interval z) h = absurd h
+  sure_typed_plain w n (bound t) h = absurd h
+  sure_typed_plain w n (kinded k t) h = absurd h
+
   sure_typed_named : (w : List ℕ) (n : Bool) (i : Item) (k : Option Kind) → IsLiteral i
       → Sure IsItem (calls.typed_named w n i k)
-  sure_typed_named w n i None h = sure_typed w n i h
+  sure_typed_named w n i None h = sure_typed_plain w n i h
   sure_typed_named w n (literal l) (Some k) h = sure_kind_item k l
+  sure_typed_named w n (fraction v) (Some k) h = sure_kind_item k (literals.number v)
+  sure_typed_named w n (interval z) (Some k) h = absurd h
   sure_typed_named w n (bound t) (Some k) h = absurd h
   sure_typed_named w n (kinded j t) (Some k) h = absurd h
 
@@ -248,11 +305,19 @@ module _ (columns : Names) (sure_columns : (w : List ℕ) → Sure IsItem (colum
       sure_item _ (sure_named_call (standard.FloatToInt (record { ptype = p })) (t ∷ []))
   sure_float_cast u t = tt
 
+  sure_fraction_cast : (w : List ℕ) (u : LogicalType) → Sure IsItem (fraction_cast w u)
+  sure_fraction_cast w u =
+      sure_then Any IsItem (text_literal F64 w) _ (sure_text_literal F64 w)
+      (λ x h. sure_float_cast u x.tree)
+
   sure_cast_of_kind : (p : Bool) (w : List ℕ) (n : Bool) (i : Item) → IsItem i
       → Sure IsItem (calls.cast_of_kind p w n i)
   sure_cast_of_kind false w n (kinded F64 t) h =
       sure_then (λ u. Unit {0}) IsItem (calls.type_of_name w n) _ (sure_named w n)
       (λ u j. sure_float_cast u t)
+  sure_cast_of_kind false w n (fraction v) h =
+      sure_then (λ u. Unit {0}) IsItem (calls.type_of_name w n) _ (sure_named w n)
+      (λ u j. sure_fraction_cast v u)
   sure_cast_of_kind p w n i h = sure_cast p w n i h
 
   sure_cast_named : (p : Bool) (w : List ℕ) (n : Bool) (i : Item) (k : Option Kind) → IsItem i
@@ -431,20 +496,35 @@ module _ (columns : Names) (sure_columns : (w : List ℕ) → Sure IsItem (colum
       sure_then AllItems IsItem (calls.conditions_of b is) _ (sure_conditions b is h)
       (λ js k. sure_item_call standard.Case js k)
 
-  sure_applied : (w : List ℕ) (is : List Item) → AllItems is → Sure IsItem (applied_item w is)
-  sure_applied w is h =
+  sure_standard : (w : List ℕ) (is : List Item) → AllItems is → Sure IsItem (standard_item w is)
+  sure_standard w is h =
       sure_then _ IsItem (or_refuses NoFunction (standard_named w)) _
       (sure_or NoFunction (standard_named w))
       (λ f k. sure_item_call f is h)
+
+  sure_meant : (o : Option KindName) (w : List ℕ) (is : List Item) → AllItems is
+      → Sure IsItem (meant_item o w is)
+  sure_meant (Some n) w is h = sure_kind_call n is
+  sure_meant None w is h = sure_standard w is h
+
+  sure_applied : (w : List ℕ) (is : List Item) → AllItems is → Sure IsItem (applied_item w is)
+  sure_applied w is h =
+      sure_if IsItem (calls.is_plain (first_kind is)) _ _ (sure_standard w is h)
+      (sure_meant (kind_word w) w is h)
 
   mutual
     pub sure : (t : Syntax) → Fits t → Sure IsItem (item_by columns t)
     sure (tree.operand t) f = sure_operand t f
     sure (tree.negative ds) f =
-        sure_then _ IsItem (calls.text_of (45 ∷ ds)) _ (sure_text (45 ∷ ds)) (λ v k. tt)
+        sure_then _ IsItem (calls.text_of (45 ∷ ds)) _ (sure_text (45 ∷ ds))
+        (λ v k. sure_number_item columns.has_kinds v)
     sure (tree.typed a w n) f =
         sure_then IsLiteral IsItem (item_by columns a) _ (sure_literal a f.1 f.0)
         (λ i h. sure_typed_by columns.has_kinds w n i h)
+    sure (tree.titled w bs) f =
+        sure_then IsLiteral IsItem (calls.operand_by columns (text bs)) _
+        (literal_token (text bs) refl (omega arith))
+        (λ i h. sure_typed_by columns.has_kinds w false i h)
     sure (tree.grouped a) f = sure a f
     sure (tree.negated a) f =
         sure_then IsItem IsItem (item_by columns a) _ (sure a f.1)
@@ -507,6 +587,13 @@ module _ (columns : Names) (sure_columns : (w : List ℕ) → Sure IsItem (colum
         sure_then AllItems IsItem (with_item some (item_by columns a)) _
         (sure_more some (item_by columns a) (sure_all_items args (answers []) f.0 tt) (sure a f.1))
         (λ is h. sure_applied w (reverse is) (all_reversed is h))
+    sure (tree.extracted p g w a) f =
+        let word = calls.operand_by columns (text w) in
+        let first = with_item (answers []) word in
+        sure_then AllItems IsItem (with_item first (item_by columns a)) _
+        (sure_more first (item_by columns a)
+        (sure_more (answers []) word tt (sure_operand (text w) refl)) (sure a f))
+        (λ is h. sure_applied g (reverse is) (all_reversed is h))
 
     sure_all_items : (args : Arguments) (o : Outcome (List Item)) → AllFit args → Sure AllItems o
         → Sure AllItems (items_by columns o args)
@@ -529,6 +616,10 @@ sure_tree scope t f =
 
 sure_ended : (i : Item) → IsItem i → Sure (λ x. Unit {0}) (ended i)
 sure_ended (kinded k t) h = tt
+sure_ended (fraction w) h =
+    sure_then {B = LogicalTree} Any (λ x. Unit {0}) (text_literal F64 w)
+    (λ x. answers (record { tree = x.tree; kind = F64 })) (sure_text_literal F64 w) (λ x j. tt)
+sure_ended (interval z) h = tt
 sure_ended (bound t) h =
     sure_then {B = LogicalTree} IsTyped (λ x. Unit {0}) (settled None (bound t))
     (λ u. answers (record { tree = u; kind = Plain })) (sure_settled None (bound t) h) (λ u j. tt)

@@ -23,6 +23,7 @@ use Rattle.vortex_expressions.specs.Literals.{Literal, value_at, type_beside}
 use Rattle.vortex_expressions.specs.Outcomes.{Outcome, answers, refuses, missing, and_then}
 use Rattle.vortex_expressions.specs.Outcomes.{or_refuses}
 use Rattle.vortex_expressions.specs.Items.{Tree, Item, literal, bound, kinded, meaning}
+use Rattle.vortex_expressions.specs.Items.{fraction, interval}
 use Rattle.vortex_expressions.specs.Items.{settled, all_settled}
 use Rattle.vortex_expressions.specs.Items.{callable, constant_at, refused_at, call_of, called}
 use Rattle.vortex_expressions.specs.Items.{widened, meeting}
@@ -64,6 +65,8 @@ abbrev pub IsItem : Item → Type 0
 IsItem (literal l) = Unit {0}
 IsItem (bound t) = IsTyped t
 IsItem (kinded k t) = IsTyped t
+IsItem (fraction w) = Unit {0}
+IsItem (interval z) = Unit {0}
 
 abbrev pub AllTyped : List Tree → Type 0
 AllTyped [] = Unit {0}
@@ -104,6 +107,8 @@ sure_meeting (Some k) (Some l) t h = sure_widened (widened_to k l) t h
 pub sure_settled : (o : Option LogicalType) (i : Item) → IsItem i → Sure IsTyped (settled o i)
 sure_settled o (bound t) h = sure_meeting o (tree_type meaning t) t h
 sure_settled o (kinded k t) h = tt
+sure_settled o (fraction w) h = tt
+sure_settled o (interval z) h = tt
 sure_settled o (literal l) h =
     sure_then (λ t. Unit {0}) IsTyped _ _ (sure_or _ (type_beside o l)) (λ t k. sure_constant l t)
 

@@ -1,13 +1,17 @@
 -- Calls on values of kinds are trees with a type, or are refused.
-use Rattle.std.proofs.Common.{◌≡◌, ℕ, Bool, true, false, cond, List, [], ◌∷◌, Option, Some, None, refl}
+use Rattle.std.proofs.Common.{◌≡◌, ℕ, Bool, true, false, ◌||◌, cond, List, [], ◌∷◌, Option, Some}
+use Rattle.std.proofs.Common.{None, refl}
 use Rattle.std.specs.Prelude.{is_some}
 use Rattle.vortex_types.specs.declared.dtype.PType.{PType}
 use Rattle.vortex_types.specs.LogicalTypes.{integer_type}
 use Rattle.vortex_errors.specs.declared.error.NumericOperator.{NumericOperator}
+use Rattle.vortex_errors.specs.declared.error.NumericOperator.TheVariants as numeric
+use Rattle.vortex_types.specs.ScalarView.{ScalarView}
 use Rattle.vortex_operators.specs.declared.operators.CompareOperator.{CompareOperator}
 use Rattle.vortex_interface.specs.Meaning.{fits}
-use Rattle.vortex_interface.specs.Functions.{custom, function_arity}
-use Rattle.vortex_interface.specs.Trees.{call, trees_of}
+use Rattle.vortex_interface.specs.Functions.{ours, custom, function_arity}
+use Rattle.vortex_interface.specs.Shipped.{Binary}
+use Rattle.vortex_interface.specs.Trees.{call, constant, trees_of}
 use Rattle.vortex_interface.specs.Eval.{tree_type}
 use Rattle.vortex_lowering.specs.Rows.{lowered}
 use Rattle.vortex_expressions.specs.Outcomes.{answers}
@@ -19,14 +23,14 @@ use Rattle.vortex_logical.specs.CommonKinds.{common_operand}
 use Rattle.vortex_lowering.specs.Operands.{are_shipped}
 use Rattle.vortex_lowering.specs.Results.{result_operand, are_computed}
 use Rattle.vortex_lowering.specs.LoweredTrees.{compared_tree, bounded_tree, computed_tree, tree_at_scale}
+use Rattle.vortex_lowering.specs.LoweredTrees.{arithmetic_operator}
 use Rattle.vortex_standard.specs.declared.standard.Standard.{Standard}
 use Rattle.vortex_logical_calls.specs.Outcomes as calls
-use Rattle.vortex_logical_calls.specs.Calls.{Lowered, typed, call_two}
+use Rattle.vortex_logical_calls.specs.Calls.{Lowered, typed, call_on, call_two}
 use Rattle.vortex_logical_calls.specs.Conversions.{conversion_beside, conversion_by_two, converted, as_float, meet_in_float}
 use Rattle.vortex_logical_calls.specs.Conversions.{after, float_function}
 use Rattle.vortex_logical_calls.specs.Calls.{call_one}
-use Rattle.vortex_logical_calls.specs.Literals.{constant_of}
-use Rattle.vortex_logical.specs.Cells.{stored_of_text}
+use Rattle.vortex_logical_calls.specs.Literals.{constant_of, number_of_text}
 use Rattle.std.specs.Prelude.{ℤ}
 use Rattle.vortex_logical_calls.specs.Comparison.{if_met, compared}
 use Rattle.vortex_logical_calls.specs.Bounds as bounds
@@ -38,25 +42,28 @@ use Rattle.vortex_logical_calls.specs.Computation.{computed}
 use Rattle.vortex_logical_calls.specs.Alignment.{meet_next, aligned}
 use Rattle.vortex_lowering.specs.Operands.{scale_of}
 use Rattle.vortex_logical_calls.specs.Literals.{kind_beside, literal_of}
+use Rattle.vortex_logical_calls.specs.Intervals.{moved_by, moved, shifted}
 use Rattle.vortex_syntax.specs.declared.step.WrittenOperator as written
+use Rattle.vortex_syntax.specs.declared.step.WrittenOperator.TheVariants as signs
 use Rattle.vortex_expressions.specs.Literals.{Literal, number, text, truth, null}
-use Rattle.vortex_expressions.specs.Items.{Tree, Item, literal, bound, kinded, meaning}
-use Rattle.vortex_expressions.specs.Items.{constant_at}
+use Rattle.vortex_expressions.specs.Items.{Tree, Item, literal, bound, kinded, fraction, interval}
+use Rattle.vortex_expressions.specs.Items.{meaning, constant_at, call_of, callable}
 use Rattle.vortex_expressions.specs.Kinded.{told, stored_item, first_kind, whole_ptype}
 use Rattle.vortex_expressions.specs.Kinded.{whole_literal, text_literal, number_literal, null_of}
 use Rattle.vortex_expressions.specs.Kinded.{literal_operand, item_operand, value_item}
 use Rattle.vortex_expressions.specs.Kinded.{KindedOperator, compares, computes, neither, operated}
 use Rattle.vortex_expressions.specs.Kinded.{kinded_operator, kinded_joined, kinded_between}
-use Rattle.vortex_expressions.specs.Kinded.{within_bounds}
+use Rattle.vortex_expressions.specs.Kinded.{within_bounds, is_interval, shifted_item, shifted_items}
+use Rattle.vortex_expressions.specs.Kinded.{joined_beside}
 use Rattle.vortex_expressions.specs.KindCasts.{kind_literal, kind_item, becomes_float, float_item}
-use Rattle.vortex_expressions.specs.KindCasts.{kind_cast, plain_cast, cast_to_kind}
+use Rattle.vortex_expressions.specs.KindCasts.{kind_cast, plain_cast, cast_to_kind, cast_by}
 use Rattle.vortex_expressions.specs.Kinded.{plain_operand}
 use Rattle.vortex_expressions.specs.Functions.{met_with, met_values, aligned_item, aligned_items}
 use Rattle.vortex_expressions.specs.Functions.{aligned_cases, aligned_arguments, is_choice, result_item}
 use Rattle.vortex_sql_rows.specs.declared.types.Takes.{Takes}
 use Rattle.vortex_sql_rows.specs.declared.types.Takes.TheVariants.{Alike, Each, Cases}
 use Rattle.vortex_expressions.proofs.SureCalls.{Sure, sure_then, IsTyped, IsItem, sure_constant}
-use Rattle.vortex_expressions.proofs.SureCalls.{sure_item, sure_if, AllItems}
+use Rattle.vortex_expressions.proofs.SureCalls.{sure_item, sure_if, AllItems, sure_named_call}
 
 -- P of the result, if there is one
 abbrev IfMade : {A : Type 0} → (A → Type 0) → calls.Outcome A → Type 0
@@ -158,7 +165,7 @@ sure_whole p l =
     sure_then IsTyped Any (constant_at l (integer_type p false)) _
     (sure_constant l (integer_type p false)) (λ t h. tt)
 
-sure_text_literal : (k : Kind) (bs : List ℕ) → Sure Any (text_literal k bs)
+pub sure_text_literal : (k : Kind) (bs : List ℕ) → Sure Any (text_literal k bs)
 sure_text_literal k bs = sure_told Any (literal_of k bs) (any_made (literal_of k bs))
 
 sure_number : (k : Kind) (o : Option Kind) (w : List ℕ) → Sure Any (number_literal k o w)
@@ -181,6 +188,8 @@ sure_operand : (k : Kind) (i : Item) → Sure Any (item_operand k i)
 sure_operand k (literal l) = sure_literal_operand k l
 sure_operand k (bound t) = tt
 sure_operand k (kinded j t) = tt
+sure_operand k (fraction w) = sure_literal_operand k (number w)
+sure_operand k (interval z) = tt
 
 value_is : (a : Operand) (t : Tree) → IsTyped t → IsItem (value_item a t)
 value_is (Whole p) t h = h
@@ -195,13 +204,40 @@ sure_operated k (computes o) x y =
     (λ z h. value_is z.operand z.tree h)
 sure_operated k neither x y = tt
 
+-- intervals
+moved_made : (o : NumericOperator) (x : Lowered) (s : Option ScalarView) → IfMade IsValue (moved o x s)
+moved_made o x None = tt
+moved_made o x (Some s) =
+    let f = ours (Binary (arithmetic_operator o)) in
+    let t = call f (trees_of (x.tree ∷ constant s ∷ [])) in
+    operand_made x.operand (call_on f (x.tree ∷ constant s ∷ []))
+    (if_chosen IsTyped (fits (function_arity meaning f) 2) (typed t) calls.untyped (typed_made t) tt)
+
+sure_shifted : (o : NumericOperator) (k : Kind) (t : Tree) (z : ℤ)
+    → Sure IsItem (shifted_item o k t z)
+sure_shifted o k t z =
+    let x = lowered t (Of k) in
+    sure_then IsValue IsItem (told (shifted o x z)) _
+    (sure_told IsValue (shifted o x z) (moved_made o x (moved_by (Of k) z)))
+    (λ y h. value_is y.operand y.tree h)
+
+sure_shifted_items : (o : written.WrittenOperator) (a b : Item) → Sure IsItem (shifted_items o a b)
+sure_shifted_items signs.Add (kinded k t) (interval z) = sure_shifted numeric.Add k t z
+sure_shifted_items signs.Add (interval z) (kinded k t) = sure_shifted numeric.Add k t z
+sure_shifted_items signs.Sub (kinded k t) (interval z) = sure_shifted numeric.Sub k t z
+sure_shifted_items o a b = tt
+
+sure_beside : (k : Kind) (o : KindedOperator) (a b : Item) → Sure IsItem (joined_beside k o a b)
+sure_beside k o a b =
+    sure_then Any IsItem (item_operand k a) _ (sure_operand k a)
+    (λ x h. sure_then Any IsItem (item_operand k b) _ (sure_operand k b)
+    (λ y j. sure_operated k o x y))
+
 pub sure_kinded_joined : (o : written.WrittenOperator) (a b : Item)
     → Sure IsItem (kinded_joined o a b)
 sure_kinded_joined o a b =
-    let k = first_kind (a ∷ b ∷ []) in
-    sure_then Any IsItem (item_operand k a) _ (sure_operand k a)
-    (λ x h. sure_then Any IsItem (item_operand k b) _ (sure_operand k b)
-    (λ y j. sure_operated k (kinded_operator o) x y))
+    sure_if IsItem (is_interval a || is_interval b) _ _ (sure_shifted_items o a b)
+    (sure_beside (first_kind (a ∷ b ∷ [])) (kinded_operator o) a b)
 
 pub sure_kinded_between : (a b c : Item) → Sure IsTyped (kinded_between a b c)
 sure_kinded_between a b c =
@@ -215,6 +251,8 @@ pub sure_stored : (i : Item) → IsItem i → IsItem (stored_item i)
 sure_stored (literal l) h = h
 sure_stored (bound t) h = h
 sure_stored (kinded k t) h = h
+sure_stored (fraction w) h = h
+sure_stored (interval z) h = h
 
 -- functions on values of kinds
 aligned_made : (a : Operand) (x : Lowered) → IfMade IsTyped (aligned a x)
@@ -273,7 +311,7 @@ constant_made k (Some z) (Some p) = refl
 
 sure_text_value : (k : Kind) (bs : List ℕ) → Sure IsValue (text_literal k bs)
 sure_text_value k bs =
-    sure_told IsValue (literal_of k bs) (constant_made k (stored_of_text k bs) (stored_ptype k))
+    sure_told IsValue (literal_of k bs) (constant_made k (number_of_text k bs) (stored_ptype k))
 
 sure_null_value : (k : Kind) (o : Option PType) → Sure IsValue (null_of k o)
 sure_null_value k None = tt
@@ -311,12 +349,19 @@ sure_float_item x h =
     (sure_told IsValue (as_float x) (after_made (float_function x.operand) (Of F64) x h))
     (λ y j. value_is y.operand y.tree j)) tt
 
+sure_cast_by : (k : Kind) (f : Standard) (t : Tree) → Sure IsItem (cast_by k f t)
+sure_cast_by k f t =
+    sure_then IsTyped IsItem (call_of (callable f) (t ∷ [])) (λ u. answers (kinded k u))
+    (sure_named_call f (t ∷ [])) (λ u j. j)
+
 sure_kind_cast : (k j : Kind) (t : Tree) → IsTyped t → Sure IsItem (kind_cast k j t)
 sure_kind_cast Date Date t h = h
 sure_kind_cast Timestamp Timestamp t h = h
 sure_kind_cast F32 F32 t h = h
 sure_kind_cast F64 F64 t h = h
 sure_kind_cast F64 j t h = sure_float_item (lowered t (Of j)) h
+sure_kind_cast Timestamp Date t h = sure_cast_by Timestamp standard.DateToTimestamp t
+sure_kind_cast Date Timestamp t h = sure_cast_by Date standard.TimestampToDate t
 sure_kind_cast k j t h = tt
 
 sure_plain_cast : (k : Kind) (t : Tree) → IsTyped t → Sure IsItem (plain_cast k t)
@@ -327,3 +372,5 @@ pub sure_cast_to_kind : (k : Kind) (i : Item) → IsItem i → Sure IsItem (cast
 sure_cast_to_kind k (literal l) h = sure_kind_item k l
 sure_cast_to_kind k (bound t) h = sure_plain_cast k t h
 sure_cast_to_kind k (kinded j t) h = sure_kind_cast k j t h
+sure_cast_to_kind k (fraction w) h = sure_kind_item k (number w)
+sure_cast_to_kind k (interval z) h = tt

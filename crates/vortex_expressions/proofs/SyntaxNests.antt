@@ -14,7 +14,7 @@ use Rattle.vortex_syntax.specs.Syntax.{minus, tested, distinct, between, matched
 use Rattle.vortex_syntax.specs.Syntax.{chosen, chosen_else, nullary, applied, Arguments}
 use Rattle.vortex_syntax.specs.Syntax.{no_arguments, argument, Branches, without_operand}
 use Rattle.vortex_syntax.specs.Syntax.{of_operand, branch, plus, bit_not, null_tested, converted, Tested}
-use Rattle.vortex_syntax.specs.Syntax.{Null, True, False, Unknown}
+use Rattle.vortex_syntax.specs.Syntax.{titled, extracted, Null, True, False, Unknown}
 use Rattle.vortex_syntax.specs.Levels.{is_operand, Fits, AllFit, BranchesFit}
 use Rattle.vortex_syntax.specs.Spelling.{spelling, all_spelled, branches_spelled, operator_sign}
 use Rattle.vortex_syntax.specs.Spelling.{type_token, in_tokens, null_test_sign}
@@ -160,6 +160,18 @@ call_nests p w args a h k = λ d us.
     ∙ sym (and_grouped first rest (nests_from d us)))
     ∙ sym (and_grouped limit (first && rest) (nests_from d us))
 
+extract_nests : (p : Bool) (f w : List ℕ) (a : Syntax) → NestsAs a
+    → NestsAs (extracted p f w a)
+extract_nests p f w a k = λ d us.
+    let limit = nat_lt d nesting_limit in
+    let close : List Token = sign sign.Close ∷ [] in
+    let end : List Token = token.name w ∷ sign sign.From ∷ (spelling a ++ close) in
+    ap (nests_from d) (append_assoc (function_tokens p f) end us)
+    ∙ function_nests p f d (end ++ us)
+    ∙ ap (λ ts. limit && nests_from (suc d) ts) (append_assoc (spelling a) close us)
+    ∙ ap (λ b. limit && b) (k (suc d) (sign sign.Close ∷ us))
+    ∙ sym (and_grouped limit (nests_behind (suc d) a) (nests_from d us))
+
 in_nests : (n : Bool) (d : ℕ) (us : List Token)
     → nests_from d (in_tokens n ++ us) ≡ (nat_lt d nesting_limit && nests_from (suc d) us)
 in_nests true d us = refl
@@ -251,6 +263,7 @@ mutual
       ap (nests_from d) (append_assoc (spelling a) (sign sign.Typed ∷ type_token w n ∷ []) us)
       ∙ nests_spelled a f.1 d (sign sign.Typed ∷ type_token w n ∷ us)
       ∙ ap (λ b. nests_behind d a && b) (type_nests w n d us)
+  nests_spelled (titled w bs) f d us = refl
   nests_spelled (grouped a) f d us =
       ap (λ ts. nat_lt d nesting_limit && nests_from (suc d) ts)
       (append_assoc (spelling a) (sign sign.Close ∷ []) us)
@@ -345,6 +358,7 @@ mutual
   nests_spelled (nullary false w) f d us = refl
   nests_spelled (applied p w args a) f d us =
       call_nests p w args a (all_nest args f.0) (nests_spelled a f.1) d us
+  nests_spelled (extracted p g w a) f d us = extract_nests p g w a (nests_spelled a f) d us
 
   all_nest : (args : Arguments) → AllFit args → AllNestAs args
   all_nest no_arguments f d us = refl

@@ -1,6 +1,6 @@
 -- The steps of a tree, up to an index.
 use Rattle.std.proofs.Common.{◌≡◌, ℕ, suc, ◌+◌, ◌<◌, ◌≤◌, List, [], ◌∷◌, length, map, drop, get_or}
-use Rattle.std.proofs.Common.{ap, sym, ◌∙◌, subst, arith}
+use Rattle.std.proofs.Common.{ap, sym, ◌∙◌, subst, arith, refl}
 use Rattle.std.proofs.Math.Seq.{drop-cons}
 use Rattle.std.proofs.lemmas.List.{drop_all}
 use Rattle.vortex_syntax.specs.declared.step.Step as written
@@ -9,7 +9,7 @@ use Rattle.vortex_expressions.specs.declared.refusal.BindStop.{BindStop}
 use Rattle.vortex_expressions.specs.Outcomes.{Outcome, answers, and_then}
 use Rattle.vortex_expressions.specs.Items.{Item}
 use Rattle.vortex_expressions.specs.Calls.{Names}
-use Rattle.vortex_expressions.specs.Stacks.{run, stepped}
+use Rattle.vortex_expressions.specs.Stacks.{run, stepped, left_as}
 use Rattle.vortex_expressions.specs.Answering.{StopsBy}
 use Rattle.vortex_expressions.proofs.Stopping.{stops_first}
 
@@ -50,3 +50,10 @@ module _ (columns : Names) (steps : List written.Step) where
   unfolding run
   ends n st le so_far =
       so_far ∙ ap (λ ys. run columns (map step_in ys) st) (drop_all n steps le)
+
+-- the end of the only item is that of what is left
+pub left_then : {A : Type 0} (last : Item → Outcome A) (st : List Item)
+    → left_as last st ≡ and_then (left_as answers st) last
+left_then last [] = refl
+left_then last (i ∷ []) = refl
+left_then last (i ∷ j ∷ st) = refl

@@ -9,6 +9,8 @@ use Rattle.vortex_syntax.specs.Syntax.{minus, tested, distinct, between, matched
 use Rattle.vortex_syntax.specs.Syntax.{chosen, chosen_else, nullary, applied, Arguments}
 use Rattle.vortex_syntax.specs.Syntax.{no_arguments, argument, Branches, without_operand}
 use Rattle.vortex_syntax.specs.Syntax.{of_operand, branch, plus, bit_not, null_tested, converted}
+use Rattle.vortex_syntax.specs.Syntax.{titled, extracted}
+use Rattle.vortex_syntax.specs.Tokens.{text}
 use Rattle.vortex_syntax.specs.declared.step.Test.TheVariants as test
 use Rattle.vortex_syntax.specs.Postfix as step
 use Rattle.vortex_syntax.specs.Postfix.{Step, postfix, all_postfix, argument_count}
@@ -19,6 +21,7 @@ use Rattle.vortex_expressions.specs.Calls.{not_item, joined_item}
 use Rattle.vortex_expressions.specs.Calls.{minus_item, tested_item, distinct_item, between_item}
 use Rattle.vortex_expressions.specs.Calls.{matched_item, listed_item, chosen_item, plus_item}
 use Rattle.vortex_expressions.specs.Calls.{bit_not_item, Names, names_of, typed_by, cast_by}
+use Rattle.vortex_expressions.specs.Calls.{operand_by}
 use Rattle.vortex_expressions.specs.Binding.{with_item, of_items, item_by, items_by}
 use Rattle.vortex_expressions.specs.Binding.{branches_by, tree_of}
 use Rattle.vortex_expressions.specs.Functions.{applied_item}
@@ -154,6 +157,10 @@ module _ (columns : Names) where
     leaves (negative ds) = last [] _ _ (λ st. refl)
     leaves (typed a w n) =
         next [] (postfix a) _ _ (typed_by columns.has_kinds w n) (leaves a) (λ i. last (i ∷ []) _ _ (λ st. refl))
+    leaves (titled w bs) =
+        next [] (step.operand (text bs) ∷ []) (step.typed w false ∷ []) _
+        (typed_by columns.has_kinds w false) (last [] _ _ (λ st. refl))
+        (λ i. last (i ∷ []) (step.typed w false) _ (λ st. refl))
     leaves (grouped a) = leaves a
     leaves (negated a) =
         next [] (postfix a) _ _ not_item (leaves a) (λ i. last (i ∷ []) _ _ (λ st. refl))
@@ -209,6 +216,17 @@ module _ (columns : Names) where
         ∙ call_leaves _ _ s (applied_item w) n
         (one_more (all_postfix args) (postfix a) _ _ (all_leave args [] _ none_leave) (leaves a))
         (applied_count args _ _ (counted args _ 0 none_count)) (λ st. refl) ss st
+    leaves (extracted p f w a) = λ ss st.
+        let word : List Step = step.operand (text w) ∷ [] in
+        let field = operand_by columns (text w) in
+        let first = with_item (answers []) field in
+        call_leaves (word ++ postfix a) (with_item first (item_by columns a)) (step.applied f 2)
+        (applied_item f) 2
+        (one_more word (postfix a) first (item_by columns a)
+        (one_more [] word (answers []) field none_leave
+        (last [] (step.operand (text w)) field (λ st. refl))) (leaves a))
+        (count_more first (item_by columns a) 1 (count_more (answers []) field 0 none_count))
+        (λ st. refl) ss st
     leaves (listed n a args b) = λ ss st.
         let k = suc (argument_count args) in
         let s : Step = step.listed n k in

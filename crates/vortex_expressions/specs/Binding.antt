@@ -6,14 +6,17 @@ use Rattle.vortex_syntax.specs.Syntax.{minus, tested, distinct, between, matched
 use Rattle.vortex_syntax.specs.Syntax.{chosen, chosen_else, nullary, applied, Arguments}
 use Rattle.vortex_syntax.specs.Syntax.{no_arguments, argument, Branches, without_operand}
 use Rattle.vortex_syntax.specs.Syntax.{of_operand, branch, plus, bit_not, null_tested, converted}
+use Rattle.vortex_syntax.specs.Syntax.{titled, extracted}
+use Rattle.vortex_syntax.specs.Tokens.{text}
 use Rattle.vortex_syntax.specs.declared.step.Test.TheVariants as test
 use Rattle.vortex_syntax.specs.Grammar.{Reads}
 use Rattle.vortex_logical.specs.declared.kind.Kind.{Kind}
-use Rattle.vortex_logical.specs.declared.kind.Kind.TheVariants.{Plain}
+use Rattle.vortex_logical.specs.declared.kind.Kind.TheVariants.{Plain, F64}
 use Rattle.vortex_expressions.specs.declared.item.LogicalTree as held
 use Rattle.vortex_expressions.specs.declared.refusal.Refusal.{Refusal}
 use Rattle.vortex_expressions.specs.Outcomes.{Outcome, answers, refuses, and_then}
-use Rattle.vortex_expressions.specs.Items.{Item, kinded, Tree, settled}
+use Rattle.vortex_expressions.specs.Items.{Item, kinded, fraction, Tree, settled}
+use Rattle.vortex_expressions.specs.Kinded.{text_literal}
 use Rattle.vortex_expressions.specs.Calls.{Names, names_of, names_in, operand_by, negative_item}
 use Rattle.vortex_expressions.specs.Calls.{typed_by, cast_by}
 use Rattle.vortex_expressions.specs.Calls.{not_item, joined_item, tested_item, distinct_item}
@@ -35,12 +38,14 @@ module _ (columns : Names) where
   -- no types yet
   abbrev mutual
     pub item_by : Syntax → Outcome Item
-    item_by (operand t) = operand_by columns.column t
-    item_by (negative ds) = negative_item ds
+    item_by (operand t) = operand_by columns t
+    item_by (negative ds) = negative_item columns.has_kinds ds
     item_by (minus a) = and_then (item_by a) minus_item
     item_by (plus a) = and_then (item_by a) plus_item
     item_by (bit_not a) = and_then (item_by a) bit_not_item
     item_by (typed a w n) = and_then (item_by a) (typed_by columns.has_kinds w n)
+    item_by (titled w bs) =
+        and_then (operand_by columns (text bs)) (typed_by columns.has_kinds w false)
     item_by (grouped a) = item_by a
     item_by (negated a) = and_then (item_by a) not_item
     item_by (joined o a b) = and_then (item_by a) (λ x. and_then (item_by b) (joined_item o x))
@@ -67,6 +72,9 @@ module _ (columns : Names) where
     item_by (nullary p w) = applied_item w []
     item_by (applied p w args a) =
         of_items (applied_item w) (with_item (items_by (answers []) args) (item_by a))
+    item_by (extracted p f w a) =
+        of_items (applied_item f)
+        (with_item (with_item (answers []) (operand_by columns (text w))) (item_by a))
 
     -- items after these; the last is first
     pub items_by : Outcome (List Item) → Arguments → Outcome (List Item)
@@ -116,9 +124,11 @@ pub record LogicalTree : Type 0 where
 abbrev pub logical_in : held.LogicalTree → LogicalTree
 logical_in t = record { tree = t.tree; kind = t.kind }
 
--- an expression that is only a literal has its default type
+-- an expression that is only a literal has its default type, one with a fraction is a float
 abbrev pub ended : Item → Outcome LogicalTree
 ended (kinded k t) = answers (record { tree = t; kind = k })
+ended (fraction w) =
+    and_then (text_literal F64 w) (λ x. answers (record { tree = x.tree; kind = F64 }))
 ended i = and_then (settled None i) (λ t. answers (record { tree = t; kind = Plain }))
 
 module _ (scope : Fields) (kinds : List Kind) where

@@ -1,6 +1,6 @@
 -- The result of each form of syntax for its parts.
 use Rattle.std.specs.Prelude.{ℕ, List, [], ◌∷◌, Bool, true, false, Option, Some, None, ◌==◌}
-use Rattle.std.specs.Prelude.{zero, suc, ◌||◌, codes, if◌then◌else◌}
+use Rattle.std.specs.Prelude.{zero, suc, ◌||◌, ◌&&◌, codes, if◌then◌else◌}
 use Rattle.std.specs.Str.{is_utf8, chars}
 use Rattle.vortex_errors.specs.declared.error.VortexError.TheVariants.{ScopeMismatch}
 use Rattle.vortex_types.specs.LogicalTypes.{LogicalType, Fields, text_type, find_field}
@@ -34,11 +34,11 @@ use Rattle.vortex_expressions.specs.declared.refusal.Refusal.TheVariants.{NotUtf
 use Rattle.vortex_expressions.specs.declared.refusal.Refusal.TheVariants.{NoEscape, Binding, Kinds}
 use Rattle.vortex_expressions.specs.declared.refusal.Refusal.TheVariants.{NoCast}
 use Rattle.vortex_expressions.specs.Literals as literal
-use Rattle.vortex_expressions.specs.Literals.{Literal}
+use Rattle.vortex_expressions.specs.Literals.{Literal, has_fraction}
 use Rattle.vortex_expressions.specs.Outcomes.{Outcome, answers, refuses, missing, and_then}
 use Rattle.vortex_expressions.specs.Outcomes.{or_refuses}
-use Rattle.vortex_expressions.specs.Items.{Item, literal, bound, kinded, Tree, meaning, Callable, called}
-use Rattle.vortex_expressions.specs.Items.{common_type}
+use Rattle.vortex_expressions.specs.Items.{Item, literal, bound, kinded, fraction, interval, Tree}
+use Rattle.vortex_expressions.specs.Items.{meaning, Callable, called, common_type}
 use Rattle.vortex_expressions.specs.Applied.{callable, function_call}
 use Rattle.vortex_expressions.specs.Functions.{function_item}
 use Rattle.vortex_expressions.specs.Items.{constant_at}
@@ -48,6 +48,7 @@ pub use Rattle.vortex_expressions.specs.Casts.{cast_to}
 pub use Rattle.vortex_expressions.specs.Kinded.{is_kinded, kinded_joined, kinded_between, within_bounds}
 pub use Rattle.vortex_expressions.specs.Kinded.{stored_item, is_plain, stores}
 use Rattle.vortex_expressions.specs.KindCasts.{word_kind, kind_item, cast_to_kind, float_cast}
+use Rattle.vortex_expressions.specs.KindCasts.{fraction_cast, is_interval_name, interval_item}
 
 -- In quotes each quote is doubled, and the second of two is skipped: the mark is true after the
 -- first.
@@ -115,21 +116,26 @@ sign_item s = missing
 abbrev pub text_item : List ℕ → Outcome Item
 text_item bs = answers (literal (literal.text bs))
 
+-- a number; with a fraction it is none of an integer type where columns have kinds
+abbrev pub number_item : Bool → List ℕ → Item
+number_item h w = if h && has_fraction w then fraction w else literal (literal.number w)
+
 -- a column, by what its name means, or a literal
-abbrev pub operand_by : (List ℕ → Outcome Item) → Token → Outcome Item
-operand_by columns (name w) = and_then (text_of w) columns
-operand_by columns (nullable w) = missing
-operand_by columns (function w) = missing
-operand_by columns (quoted w) = and_then (between_quotes 34 w) columns
-operand_by columns (number ds) = and_then (text_of ds) (λ w. answers (literal (literal.number w)))
-operand_by columns (text bs) = and_then (between_quotes 39 bs) text_item
-operand_by columns (sign s) = sign_item s
+abbrev pub operand_by : Names → Token → Outcome Item
+operand_by names (name w) = and_then (text_of w) names.column
+operand_by names (nullable w) = missing
+operand_by names (function w) = missing
+operand_by names (quoted w) = and_then (between_quotes 34 w) names.column
+operand_by names (number ds) =
+    and_then (text_of ds) (λ w. answers (number_item names.has_kinds w))
+operand_by names (text bs) = and_then (between_quotes 39 bs) text_item
+operand_by names (sign s) = sign_item s
 
 abbrev pub operand_item : Fields → Token → Outcome Item
-operand_item scope = operand_by (column_of scope)
+operand_item scope = operand_by (names_of scope)
 
-abbrev pub negative_item : List ℕ → Outcome Item
-negative_item ds = and_then (text_of (45 ∷ ds)) (λ w. answers (literal (literal.number w)))
+abbrev pub negative_item : Bool → List ℕ → Outcome Item
+negative_item h ds = and_then (text_of (45 ∷ ds)) (λ w. answers (number_item h w))
 
 -- the type of that name
 abbrev pub type_of_name : List ℕ → Bool → Outcome LogicalType
@@ -139,7 +145,10 @@ type_of_name w n = and_then (text_of w) (λ v. or_refuses UnknownType (named_typ
 abbrev pub typed_item : List ℕ → Bool → Item → Outcome Item
 typed_item w n (bound t) = missing
 typed_item w n (kinded k t) = missing
+typed_item w n (interval z) = missing
 typed_item w n (literal l) = as_item (and_then (type_of_name w n) (constant_at l))
+typed_item w n (fraction v) =
+    as_item (and_then (type_of_name w n) (constant_at (literal.number v)))
 
 abbrev pub cast_item : Bool → List ℕ → Bool → Item → Outcome Item
 cast_item p w n i = as_item (and_then (type_of_name w n) (cast_to p i))
@@ -149,10 +158,17 @@ abbrev pub kind_of_name : List ℕ → Bool → Outcome (Option Kind)
 kind_of_name w n =
     if n then answers None else and_then (text_of w) (λ v. answers (word_kind v))
 
+-- an interval, or a literal of the type of that name
+abbrev pub typed_plain : List ℕ → Bool → Item → Outcome Item
+typed_plain w n (literal l) =
+    if is_interval_name w n then interval_item l else typed_item w n (literal l)
+typed_plain w n i = typed_item w n i
+
 -- a literal of the kind or the type of that name
 abbrev pub typed_named : List ℕ → Bool → Item → Option Kind → Outcome Item
-typed_named w n i None = typed_item w n i
+typed_named w n i None = typed_plain w n i
 typed_named w n (literal l) (Some k) = kind_item k l
+typed_named w n (fraction v) (Some k) = kind_item k (literal.number v)
 typed_named w n i (Some k) = missing
 
 abbrev pub typed_by : Bool → List ℕ → Bool → Item → Outcome Item
@@ -162,6 +178,7 @@ typed_by true w n i = and_then (kind_of_name w n) (typed_named w n i)
 -- a cast to the type of that name; floats are rounded, but by `try_cast`
 abbrev pub cast_of_kind : Bool → List ℕ → Bool → Item → Outcome Item
 cast_of_kind false w n (kinded F64 t) = and_then (type_of_name w n) (λ u. float_cast u t)
+cast_of_kind false w n (fraction v) = and_then (type_of_name w n) (fraction_cast v)
 cast_of_kind p w n i = cast_item p w n i
 
 -- a cast to the kind or the type of that name
@@ -240,6 +257,7 @@ minus_item a = joined_item written.Sub (literal (literal.number (codes "0"))) a
 -- a plus sign: a literal number stays, anything else is added to zero
 abbrev pub is_number : Item → Bool
 is_number (literal (literal.number w)) = true
+is_number (fraction w) = true
 is_number i = false
 
 abbrev pub plus_item : Item → Outcome Item

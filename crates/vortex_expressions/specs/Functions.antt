@@ -1,6 +1,7 @@
 -- Calls of functions on items. Of values of kinds some functions take those that meet in a kind: each becomes the
 -- integer that stores it in that kind.
 use Rattle.std.specs.Prelude.{ℕ, List, [], ◌∷◌, Bool, true, false, ◌||◌, if◌then◌else◌}
+use Rattle.std.specs.Prelude.{Option, Some, None}
 use Rattle.vortex_logical.specs.declared.kind.Kind.{Kind}
 use Rattle.vortex_logical.specs.declared.kind.Kind.TheVariants.{Plain}
 use Rattle.vortex_logical.specs.declared.operand.Operand.{Operand}
@@ -13,10 +14,13 @@ use Rattle.vortex_standard.specs.declared.standard.Standard.TheVariants as stand
 use Rattle.vortex_standard.specs.Standard.{row_of}
 use Rattle.vortex_standard.specs.Names.{standard_named}
 use Rattle.vortex_expressions.specs.declared.refusal.Refusal.TheVariants.{NoFunction}
+use Rattle.vortex_expressions.specs.declared.kind_words.KindName.{KindName}
 use Rattle.vortex_expressions.specs.Outcomes.{Outcome, answers, and_then, or_refuses}
 use Rattle.vortex_expressions.specs.Items.{Item, bound, Tree, as_item}
 use Rattle.vortex_expressions.specs.Applied.{values_of, function_call}
 use Rattle.vortex_expressions.specs.Kinded.{told, first_kind, is_plain, item_operand, value_item}
+use Rattle.vortex_expressions.specs.KindWords.{kind_word}
+use Rattle.vortex_expressions.specs.KindFunctions.{kind_call}
 
 -- functions that return one of their values
 abbrev pub is_choice : Standard → Bool
@@ -92,5 +96,15 @@ function_item f is =
     if is_plain k then as_item (function_call f is) else kinded_call f k is
 
 -- the call of the function of that name
+abbrev pub standard_item : List ℕ → List Item → Outcome Item
+standard_item w is = and_then (or_refuses NoFunction (standard_named w)) (λ f. function_item f is)
+
+-- if the name means a function on values of kinds, that
+abbrev pub meant_item : Option KindName → List ℕ → List Item → Outcome Item
+meant_item (Some n) w is = kind_call n is
+meant_item None w is = standard_item w is
+
+-- what a name means next to a value of a kind, or without one
 abbrev pub applied_item : List ℕ → List Item → Outcome Item
-applied_item w is = and_then (or_refuses NoFunction (standard_named w)) (λ f. function_item f is)
+applied_item w is =
+    if is_plain (first_kind is) then standard_item w is else meant_item (kind_word w) w is

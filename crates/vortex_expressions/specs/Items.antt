@@ -1,6 +1,6 @@
 -- Literals without a type yet, and trees; and calls of them.
-use Rattle.std.specs.Prelude.{ℕ, List, [], ◌∷◌, length, map, Option, Some, None, is_some}
-use Rattle.std.specs.Prelude.{false, if◌then◌else◌}
+use Rattle.std.specs.Prelude.{ℕ, ℤ, List, [], ◌∷◌, length, map, Option, Some, None, is_some}
+use Rattle.std.specs.Prelude.{false, if◌then◌else◌, string_bytes}
 use Rattle.std.specs.Option.{option_or}
 use Rattle.vortex_errors.specs.declared.error.MismatchPlace.{MismatchPlace}
 use Rattle.vortex_errors.specs.declared.error.MismatchPlace.TheVariants.{Scalars}
@@ -15,6 +15,7 @@ use Rattle.vortex_interface.specs.Trees.{constant, call, trees_of}
 use Rattle.vortex_interface.specs.Eval.{tree_type, tree_types, types_or_none}
 use Rattle.vortex_interface.specs.declared.options.EmptyOptions.{EmptyOptions}
 use Rattle.vortex_logical.specs.declared.kind.Kind.{Kind}
+use Rattle.vortex_logical.specs.declared.kind.Kind.TheVariants.{F64}
 use Rattle.vortex_standard.specs.Standard.{standard_meaning}
 use Rattle.vortex_standard.specs.declared.standard.Standard.{Standard}
 use Rattle.vortex_standard.specs.declared.standard.Standard.TheVariants as standard
@@ -44,26 +45,36 @@ callable f = custom f (record {})
 -- literal: without a type yet
 -- bound: a tree
 -- kinded: a tree of the stored integers of a kind
+-- fraction: a number with a point or an exponent, where columns have kinds
+-- interval: so many microseconds
 pub data Item : Type 0 where
   literal : Literal → Item
   bound : Tree → Item
   kinded : Kind → Tree → Item
+  fraction : List ℕ → Item
+  interval : ℤ → Item
 
 abbrev pub item_in : held.Item → Item
 item_in (variant.Literal l) = literal (literal_in l)
 item_in (variant.Bound t) = bound t
 item_in (variant.Kinded k t) = kinded k t
+item_in (variant.Fraction w) = fraction (string_bytes w)
+item_in (variant.Interval z) = interval z
 
 -- the type of a tree, and the default type of a literal
 abbrev pub bound_type : Item → Option LogicalType
 bound_type (literal l) = None
 bound_type (bound t) = tree_type meaning t
 bound_type (kinded k t) = None
+bound_type (fraction w) = None
+bound_type (interval z) = None
 
 abbrev pub literal_type : Item → Option LogicalType
 literal_type (literal l) = own_type l
 literal_type (bound t) = None
 literal_type (kinded k t) = None
+literal_type (fraction w) = None
+literal_type (interval z) = None
 
 abbrev pub first_some : {A : Type 0} → List (Option A) → Option A
 first_some [] = None
@@ -120,10 +131,12 @@ meeting (Some t) (Some u) a = widened (widened_to t u) a
 meeting o p a = answers a
 
 -- where items take that type, a tree is cast to it if it is a wider integer type, and a literal
--- takes it; a value of a kind has none
+-- takes it; a value of a kind has none, and a number with a fraction is a float
 abbrev pub settled : Option LogicalType → Item → Outcome Tree
 settled o (bound a) = meeting o (tree_type meaning a) a
 settled o (kinded k a) = refuses (OfKind k)
+settled o (fraction w) = refuses (OfKind F64)
+settled o (interval z) = refuses NotHeld
 settled o (literal l) = and_then (or_refuses UntypedNull (type_beside o l)) (constant_at l)
 
 -- all of them, from left to right

@@ -1,5 +1,6 @@
 -- Calls on values of kinds: dates, timestamps, decimals and floats.
-use Rattle.std.specs.Prelude.{ℕ, List, [], ◌∷◌, Option, Some, None, Bool, true, false}
+use Rattle.std.specs.Prelude.{ℕ, ℤ, List, [], ◌∷◌, Option, Some, None, Bool, true, false, ◌||◌}
+use Rattle.std.specs.Prelude.{if◌then◌else◌}
 use Rattle.vortex_types.specs.declared.dtype.PType.{PType}
 use Rattle.vortex_types.specs.declared.dtype.PType.TheVariants.{I32, I64}
 use Rattle.vortex_types.specs.LogicalTypes.{LogicalType, integer_type}
@@ -15,7 +16,7 @@ use Rattle.vortex_interface.specs.Eval.{tree_type}
 use Rattle.vortex_syntax.specs.declared.step.WrittenOperator as syntax
 use Rattle.vortex_syntax.specs.declared.step.WrittenOperator.TheVariants as written
 use Rattle.vortex_logical.specs.declared.kind.Kind.{Kind}
-use Rattle.vortex_logical.specs.declared.kind.Kind.TheVariants.{Plain, Date}
+use Rattle.vortex_logical.specs.declared.kind.Kind.TheVariants.{Plain, Date, F64}
 use Rattle.vortex_logical.specs.Kinds.{stored_ptype}
 use Rattle.vortex_logical.specs.declared.operand.Operand.{Operand}
 use Rattle.vortex_logical.specs.declared.operand.Operand.TheVariants.{Whole, Of}
@@ -29,18 +30,25 @@ use Rattle.vortex_logical_calls.specs.Comparison.{compared}
 use Rattle.vortex_logical_calls.specs.Bounds as bounds
 use Rattle.vortex_logical_calls.specs.Computation.{computed}
 use Rattle.vortex_logical_calls.specs.Literals.{kind_beside, literal_of}
+use Rattle.vortex_logical_calls.specs.Intervals.{shifted}
 use Rattle.vortex_expressions.specs.declared.refusal.Refusal.TheVariants.{NotHeld, UntypedNull}
 use Rattle.vortex_expressions.specs.declared.refusal.Refusal.TheVariants.{OfKind, Kinds, Binding}
 use Rattle.vortex_expressions.specs.declared.refusal.BindStop.{BindStop}
 use Rattle.vortex_expressions.specs.declared.refusal.BindStop.TheVariants.{Refused}
 use Rattle.vortex_expressions.specs.Literals.{Literal, number, text, truth, null}
 use Rattle.vortex_expressions.specs.Outcomes.{Outcome, answers, refuses, and_then}
-use Rattle.vortex_expressions.specs.Items.{Item, literal, bound, kinded, Tree, meaning, constant_at}
-use Rattle.vortex_expressions.specs.Items.{as_item}
+use Rattle.vortex_expressions.specs.Items.{Item, literal, bound, kinded, fraction, interval, Tree}
+use Rattle.vortex_expressions.specs.Items.{meaning, constant_at, as_item}
 
+-- values of a kind, and what has a meaning only next to them
 abbrev pub is_kinded : Item → Bool
-is_kinded (kinded k t) = true
-is_kinded i = false
+is_kinded (literal l) = false
+is_kinded (bound t) = false
+is_kinded i = true
+
+abbrev pub is_interval : Item → Bool
+is_interval (interval z) = true
+is_interval i = false
 
 abbrev pub is_plain : Kind → Bool
 is_plain Plain = true
@@ -68,12 +76,18 @@ stop_of (unlowered.Binding OutOfMemory) = Refused (Binding OutOfMemory)
 stop_of (unlowered.Binding e) = Refused (Binding (TypeMismatch Scalars))
 stop_of r = Refused (Kinds r)
 
+-- where no value has a kind a number with a fraction is a float
+abbrev pub fraction_kind : Bool → Kind → Kind
+fraction_kind true Plain = F64
+fraction_kind b k = k
+
 -- the kind of a value, or else the other kind
 abbrev pub kind_or : Item → Kind → Kind
 kind_or (kinded k t) j = k
+kind_or (fraction w) j = fraction_kind true j
 kind_or i j = j
 
--- the kind of the first value with one
+-- the kind of the first value with one, or that of a number with a fraction
 abbrev pub first_kind : List Item → Kind
 first_kind [] = Plain
 first_kind (i ∷ is) = kind_or i (first_kind is)
@@ -117,6 +131,8 @@ abbrev pub item_operand : Kind → Item → Outcome Lowered
 item_operand k (literal l) = literal_operand k l
 item_operand k (bound t) = answers (lowered t (plain_operand (tree_type meaning t)))
 item_operand k (kinded j t) = answers (lowered t (Of j))
+item_operand k (fraction w) = literal_operand k (number w)
+item_operand k (interval z) = refuses NotHeld
 
 -- a tree of stored integers; whole numbers have no kind
 abbrev pub value_item : Operand → Tree → Item
@@ -158,9 +174,23 @@ abbrev pub joined_beside : Kind → KindedOperator → Item → Item → Outcome
 joined_beside k o a b =
     and_then (item_operand k a) (λ x. and_then (item_operand k b) (λ y. operated k o x y))
 
--- an operator, one of whose operands has a kind
+-- a date or a timestamp moved by an interval
+abbrev pub shifted_item : NumericOperator → Kind → Tree → ℤ → Outcome Item
+shifted_item o k t z =
+    and_then (told (shifted o (lowered t (Of k)) z)) (λ x. answers (value_item x.operand x.tree))
+
+-- an interval is added to them, and taken from them
+abbrev pub shifted_items : syntax.WrittenOperator → Item → Item → Outcome Item
+shifted_items written.Add (kinded k t) (interval z) = shifted_item numeric.Add k t z
+shifted_items written.Add (interval z) (kinded k t) = shifted_item numeric.Add k t z
+shifted_items written.Sub (kinded k t) (interval z) = shifted_item numeric.Sub k t z
+shifted_items o a b = refuses NotHeld
+
+-- an operator, one of whose operands has a kind or is an interval
 abbrev pub kinded_joined : syntax.WrittenOperator → Item → Item → Outcome Item
-kinded_joined o a b = joined_beside (first_kind (a ∷ b ∷ [])) (kinded_operator o) a b
+kinded_joined o a b =
+    if is_interval a || is_interval b then shifted_items o a b
+    else joined_beside (first_kind (a ∷ b ∷ [])) (kinded_operator o) a b
 
 -- both bounds are inclusive
 abbrev pub within_bounds : BetweenOptions

@@ -8,6 +8,8 @@ pub mod TypeNames
 pub mod Casts
 pub mod Kinded
 pub mod KindCasts
+pub mod KindWords
+pub mod KindFunctions
 pub mod Functions
 pub mod Calls
 pub mod Binding
@@ -19,3 +21,4 @@ pub mod WritingSteps
 pub mod Likeness
 pub mod Places
 pub mod Messages
+pub mod RowLaws

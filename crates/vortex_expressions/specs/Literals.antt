@@ -1,6 +1,7 @@
 -- Literals as they are written, and the types that they take.
 use Rattle.std.specs.Prelude.{ℕ, List, Bool, true, false, Option, Some, None, codes}
-use Rattle.std.specs.Prelude.{if◌then◌else◌, string_bytes}
+use Rattle.std.specs.Prelude.{if◌then◌else◌, ◌||◌, ◌==◌, string_bytes}
+use Rattle.std.specs.List.{list_any}
 use Rattle.vortex_types.specs.declared.dtype.PType.TheVariants.{I64}
 use Rattle.vortex_types.specs.LogicalTypes.{LogicalType, bool_type, integer_type, text_type}
 use Rattle.vortex_types.specs.LogicalTypes.{with_nullability, is_bool_type, is_integer_type}
@@ -24,6 +25,13 @@ literal_in (variant.Number w) = number (string_bytes w)
 literal_in (variant.Text bs) = text (string_bytes bs)
 literal_in (variant.Truth b) = truth b
 literal_in variant.Null = null
+
+-- a number has a fraction if there is a point or an exponent
+abbrev pub is_fractional : ℕ → Bool
+is_fractional b = (b == 46) || (b == 69) || (b == 101)
+
+abbrev pub has_fraction : List ℕ → Bool
+has_fraction w = list_any is_fractional w
 
 -- the default type of a literal; null has none
 abbrev pub own_type : Literal → Option LogicalType

@@ -69,8 +69,8 @@ call_made (call.Like k) = with_two (matched_item k None)
 
 module _ (columns : Names) where
   abbrev pub stepped : Step → List Item → Outcome (List Item)
-  stepped (operand t) st = pushed st (operand_by columns.column t)
-  stepped (negative ds) st = pushed st (negative_item ds)
+  stepped (operand t) st = pushed st (operand_by columns t)
+  stepped (negative ds) st = pushed st (negative_item columns.has_kinds ds)
   stepped (typed w n) st = with_one (typed_by columns.has_kinds w n) st
   stepped (cast p w n) st = with_one (cast_by columns.has_kinds p w n) st
   stepped (escaped k e) st = with_two (matched_item k (Some e)) st

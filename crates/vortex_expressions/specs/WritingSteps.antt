@@ -24,6 +24,7 @@ use Rattle.vortex_syntax.specs.Syntax.{minus, tested, distinct, between, matched
 use Rattle.vortex_syntax.specs.Syntax.{chosen, chosen_else, nullary, applied, Arguments}
 use Rattle.vortex_syntax.specs.Syntax.{no_arguments, argument, Branches, without_operand}
 use Rattle.vortex_syntax.specs.Syntax.{of_operand, branch, plus, bit_not, null_tested, converted}
+use Rattle.vortex_syntax.specs.Syntax.{titled, extracted}
 use Rattle.vortex_syntax.specs.Levels.{own, left, right, not_level, is_level, predicate_level}
 use Rattle.vortex_syntax.specs.Levels.{concat_level, atom_level, typed_level, literal_level}
 use Rattle.vortex_syntax.specs.Spelling.{spelling, operator_sign, like_sign}
@@ -69,6 +70,7 @@ abbrev mutual
   nests_behind d (plus a) = nests_behind d a
   nests_behind d (bit_not a) = nests_behind d a
   nests_behind d (typed a w n) = nests_behind d a
+  nests_behind d (titled w bs) = true
   nests_behind d (grouped a) = nat_lt d nesting_limit && nests_behind (suc d) a
   nests_behind d (negated a) = nests_behind d a
   nests_behind d (joined o a b) = nests_behind d a && nests_behind d b
@@ -90,6 +92,7 @@ abbrev mutual
   nests_behind d (nullary p w) = nat_lt d nesting_limit
   nests_behind d (applied p w args a) =
       nat_lt d nesting_limit && (all_nest_behind (suc d) args && nests_behind (suc d) a)
+  nests_behind d (extracted p f w a) = nat_lt d nesting_limit && nests_behind (suc d) a
 
   pub all_nest_behind : ℕ → Arguments → Bool
   all_nest_behind d no_arguments = true

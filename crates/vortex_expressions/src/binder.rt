@@ -195,7 +195,7 @@ impl Stack {
     {
         match step {
             Step::Operand(token) => self.push(operand_item(alloc, scope, kinds, token)?),
-            Step::Negative(digits) => self.push(negative_item(alloc, digits)?),
+            Step::Negative(digits) => { self.push(negative_item(alloc, are_given(kinds), digits)?) }
             Step::Typed(name, is_nullable) => {
                 let item = self.pop()?;
                 let typed = typed_by(alloc, are_given(kinds), name, is_nullable, item)?;

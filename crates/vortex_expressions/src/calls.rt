@@ -1,5 +1,6 @@
 //! The result of each form of syntax for its parts.
 ghost use Rattle.std.specs.Prelude.{◌≡◌, map, option_map, slice_get, MatchOption, Some, None};
+ghost use Rattle.std.specs.Prelude.{string_bytes};
 ghost use Rattle.vortex_errors.specs.Answers.{AnswersUnlessMemory};
 ghost use Rattle.vortex_types.specs.TypeOf.{type_of, struct_fields};
 ghost use Rattle.vortex_functions.specs.FunctionOf.{function_of};
@@ -14,8 +15,9 @@ use crate::applied::function_call;
 use crate::casts::type_of_name;
 use crate::functions::function_item;
 use crate::item::{Item, callable, called, common_type, constant_at};
+use crate::kind_casts::are_given;
 use crate::kinded::{is_kinded, is_plain, kinded_joined, stored_item, stores};
-use crate::literal::Literal;
+use crate::literal::{Literal, has_fraction};
 use crate::quotes::{between_quotes, text_of};
 use crate::refusal::{BindStop, Refusal};
 use std::alloc::Global;
@@ -85,6 +87,17 @@ fn sign_item(sign: Sign) -> Result<Item, BindStop>
     }
 }
 
+/// A number; with a fraction it is none of an integer type where columns have kinds.
+fn number_item(has_kinds: bool, number: String) -> Item
+    ensures { item_in result ≡ specs.number_item has_kinds (string_bytes number) }
+{
+    if has_kinds && has_fraction(number.as_str()) {
+        Item::Fraction(number)
+    } else {
+        Item::Literal(Literal::Number(number))
+    }
+}
+
 /// A column, or a literal.
 pub(crate) fn operand_item(
     alloc: Global,
@@ -93,7 +106,7 @@ pub(crate) fn operand_item(
     token: Token<'_>,
 ) -> Result<Item, BindStop>
     ensures { Gives item_in result
-        (specs.operand_by (specs.column_in (struct_fields scope.now) kinds.now)
+        (specs.operand_by (specs.names_in (struct_fields scope.now) kinds.now)
         (token_in token.entry)) }
 {
     match token {
@@ -107,7 +120,7 @@ pub(crate) fn operand_item(
         }
         Token::Number(digits) => {
             let digits = text_of(alloc, digits)?;
-            Ok(Item::Literal(Literal::Number(digits)))
+            Ok(number_item(are_given(kinds), digits))
         }
         Token::Text(text) => {
             let text = between_quotes(alloc, b'\'', text)?;
@@ -119,13 +132,13 @@ pub(crate) fn operand_item(
 }
 
 /// The number of these digits with a minus sign before them.
-pub(crate) fn negative_item(alloc: Global, digits: &[u8]) -> Result<Item, BindStop>
-    ensures { Gives item_in result (specs.negative_item digits.now) }
+pub(crate) fn negative_item(alloc: Global, has_kinds: bool, digits: &[u8]) -> Result<Item, BindStop>
+    ensures { Gives item_in result (specs.negative_item has_kinds digits.now) }
 {
     let mut word = vec![in alloc; b'-']?;
     word.extend_from_slice(digits)?;
     let word = text_of(alloc, &word)?;
-    Ok(Item::Literal(Literal::Number(word)))
+    Ok(number_item(has_kinds, word))
 }
 
 /// A literal of the type of that name.
@@ -138,10 +151,14 @@ pub(crate) fn typed_item(
     ensures { Gives item_in result (specs.typed_item name.now is_nullable (item_in item)) }
 {
     match item {
-        Item::Bound(_) | Item::Kinded(_, _) => Err(BindStop::Missing),
+        Item::Bound(_) | Item::Kinded(_, _) | Item::Interval(_) => Err(BindStop::Missing),
         Item::Literal(literal) => {
             let dtype = type_of_name(alloc, name, is_nullable)?;
             Ok(Item::Bound(constant_at(alloc, &literal, dtype)?))
+        }
+        Item::Fraction(number) => {
+            let dtype = type_of_name(alloc, name, is_nullable)?;
+            Ok(Item::Bound(constant_at(alloc, &Literal::Number(number), dtype)?))
         }
     }
 }
@@ -333,7 +350,7 @@ pub(crate) fn minus_item(alloc: Global, item: Item) -> Result<Item, BindStop>
 fn is_number(item: &Item) -> bool
     ensures { result ≡ specs.is_number (item_in item.now) }
 {
-    matches!(item, Item::Literal(Literal::Number(_)))
+    matches!(item, Item::Literal(Literal::Number(_)) | Item::Fraction(_))
 }
 
 /// A plus sign: a literal number stays, anything else is added to zero.

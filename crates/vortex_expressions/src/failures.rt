@@ -3,14 +3,13 @@ use crate::applied::common_value_type;
 use crate::binder::operands;
 use crate::calls::joined_item;
 use crate::casts::type_of_name;
-use crate::forms::{function_in, function_text, push_accepted};
+use crate::forms::{function_in, function_text, push_accepted, push_unnamed};
 use crate::item::{Item, common_type};
-use crate::item_texts::{
-    is_fraction, push_fraction, push_literal, push_literals, push_operand, push_types,
-};
+use crate::item_texts::{push_literals, push_operand, push_types};
 use crate::meeting::met_next;
 use crate::quotes::unquoted;
 use crate::refusal::Refusal;
+use crate::unheld::{INTERVAL_PLACES, has_interval, push_fractions, push_unheld, push_untyped};
 use crate::words::{found_at, nearest};
 use std::alloc::Global;
 use std::fmt::Write;
@@ -95,34 +94,6 @@ fn column_text(
     }
 }
 
-/// The literal among the items that has no value in the type that it takes; whether there is one.
-fn push_unheld(
-    out: &mut String,
-    alloc: Global,
-    taken: Option<&DType>,
-    items: &[Item],
-) -> VortexResult<bool> {
-    for item in items {
-        let Item::Literal(literal) = item else {
-            continue;
-        };
-        let Some(dtype) = literal.type_beside(alloc, taken)? else {
-            continue;
-        };
-        if literal.value_at(alloc, dtype.try_clone(alloc)?)?.is_none() {
-            if is_fraction(literal) {
-                push_fraction(out, literal)?;
-            } else {
-                push_literal(out, literal)?;
-                out.push_str(" is no ")?;
-                dtype.write_text(out)?;
-            }
-            return Ok(true);
-        }
-    }
-    Ok(false)
-}
-
 /// That no integer type has the numbers of all of these types, if they are integer types.
 fn push_apart(out: &mut String, alloc: Global, types: &[DType]) -> VortexResult<()> {
     let mut met = None;
@@ -143,19 +114,6 @@ fn push_apart(out: &mut String, alloc: Global, types: &[DType]) -> VortexResult<
             _ => return Ok(()),
         }
     }
-    Ok(())
-}
-
-/// The literal that has no value in the type after it.
-fn push_untyped(out: &mut String, name: &[u8], items: &[Item]) -> VortexResult<()> {
-    if let Some(Item::Literal(literal)) = items.last() {
-        if is_fraction(literal) {
-            return push_fraction(out, literal);
-        }
-        push_literal(out, literal)?;
-    }
-    let name = str::from_utf8(name).unwrap_or("");
-    write!(out, " is no {name}")?;
     Ok(())
 }
 
@@ -300,6 +258,16 @@ impl<'a> TextFailure<'a> {
             push_untyped(&mut out, name, &items)?;
             return Ok(out);
         }
+        if push_unnamed(&mut out, self.failing_step(), &items)? {
+            return Ok(out);
+        }
+        if has_interval(&items) {
+            out.push_str(INTERVAL_PLACES)?;
+            return Ok(out);
+        }
+        if push_fractions(&mut out, &items)? {
+            return Ok(out);
+        }
         let taken = self.taken_type(&items, are_cases)?;
         if !push_unheld(&mut out, self.alloc, taken.as_ref(), &items)? {
             out.push_str("a literal is none of its type")?;
@@ -326,6 +294,18 @@ impl<'a> TextFailure<'a> {
         }
     }
 
+    /// That no type has that name.
+    fn type_text(&self) -> VortexResult<String> {
+        let found = found_at(self.text, self.byte);
+        let mut out = format!(in self.alloc;
+            "no type {found}; types are bool, utf8, i8, i16, i32, i64, u8, u16, u32 and u64, with ? where they have null"
+        )?;
+        if !self.kinds.is_empty() {
+            out.push_str("; and f64, f32, date, timestamp and interval")?;
+        }
+        Ok(out)
+    }
+
     /// That a value of the kind does not go there.
     fn kind_text(&self, kind: Kind) -> VortexResult<String> {
         let found = found_at(self.text, self.byte);
@@ -336,6 +316,9 @@ impl<'a> TextFailure<'a> {
     fn kinds_text(&self, refusal: &calls::Refusal) -> VortexResult<String> {
         let alloc = self.alloc;
         let found = found_at(self.text, self.byte);
+        if has_interval(&self.items()?) {
+            return Ok(String::from_str(alloc, INTERVAL_PLACES)?);
+        }
         match refusal {
             calls::Refusal::NoCommonKind(left, right) | calls::Refusal::NotShipped(left, right) => {
                 let mut out = format!(in alloc; "{found} takes no ")?;
@@ -367,12 +350,7 @@ impl<'a> TextFailure<'a> {
         let text = match refusal {
             Refusal::Binding(error) => return self.binding_text(error),
             Refusal::NotHeld => return self.held_text(),
-            Refusal::UnknownType => {
-                let found = found_at(self.text, self.byte);
-                return Ok(format!(in alloc;
-                    "no type {found}; types are bool, utf8, i8, i16, i32, i64, u8, u16, u32 and u64, with ? where they have null"
-                )?);
-            }
+            Refusal::UnknownType => return self.type_text(),
             Refusal::OfKind(kind) => return self.kind_text(*kind),
             Refusal::Kinds(refusal) => return self.kinds_text(refusal),
             Refusal::NoFunction => return function_text(alloc, self.failing_step()),

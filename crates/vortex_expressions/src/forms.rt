@@ -1,5 +1,8 @@
 //! Functions that there are not, and how what they mean is written.
 use crate::hints::missing_function;
+use crate::item::Item;
+use crate::item_texts::push_literal;
+use crate::kind_words::{KindFunction, KindName, kind_word};
 use crate::words::LIKENED;
 use std::alloc::Global;
 use std::str;
@@ -62,9 +65,50 @@ fn called_name<'a>(step: Option<&Step<'a>>) -> &'a [u8] {
     }
 }
 
+/// What a function of that name takes next to a value of a kind.
+fn taken_by(name: KindName) -> &'static str {
+    match name {
+        KindName::Single(KindFunction::OfFloat(_)) => "a float, as n::f64",
+        KindName::Single(_) => "a date or a timestamp",
+        KindName::PartByText | KindName::UnitByText => "a text, and a date or a timestamp",
+    }
+}
+
+/// The words that name parts of dates and timestamps.
+const PARTS: &str =
+    "parts are year, quarter, month, week, day, dow, isodow, doy, epoch, hour, minute, second, milliseconds and microseconds";
+
+/// The words that name units.
+const UNITS: &str = "units are year, quarter, month, week, day, hour, minute and second";
+
+/// That the text before a value names none of the parts or units, and which there are; whether the
+/// step calls a function that takes one.
+pub(crate) fn push_unnamed(
+    out: &mut String,
+    step: Option<&Step<'_>>,
+    items: &[Item],
+) -> VortexResult<bool> {
+    let (what, words) = match kind_word(called_name(step)) {
+        Some(KindName::PartByText) => (" is no part; ", PARTS),
+        Some(KindName::UnitByText) => (" is no unit; ", UNITS),
+        _ => return Ok(false),
+    };
+    let Some(Item::Literal(literal)) = items.first() else {
+        return Ok(false);
+    };
+    push_literal(out, literal)?;
+    out.push_str(what)?;
+    out.push_str(words)?;
+    Ok(true)
+}
+
 /// The function that there is not, and the one that may be meant, or how it is written.
 pub(crate) fn function_text(alloc: Global, step: Option<&Step<'_>>) -> VortexResult<String> {
     let written = str::from_utf8(called_name(step)).unwrap_or("");
+    if let Some(name) = kind_word(called_name(step)) {
+        let taken = taken_by(name);
+        return Ok(format!(in alloc; "no function {written:?} here; it takes {taken}")?);
+    }
     let missing = missing_function(called_name(step));
     if !missing.is_empty() {
         return Ok(format!(in alloc; "no function {written:?}; {missing}")?);
@@ -148,8 +192,9 @@ pub(crate) fn push_accepted(
     step: Option<&Step<'_>>,
     count: usize,
 ) -> VortexResult<()> {
-    match function_in(step) {
-        Some(function) => push_taken(out, function.takes(), count),
-        None => Ok(out.push_str("other types")?),
+    match (function_in(step), kind_word(called_name(step))) {
+        (Some(function), _) => push_taken(out, function.takes(), count),
+        (None, Some(name)) => Ok(out.push_str(taken_by(name))?),
+        (None, None) => Ok(out.push_str("other types")?),
     }
 }

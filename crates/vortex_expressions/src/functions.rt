@@ -3,13 +3,15 @@
 ghost use Rattle.std.specs.Prelude.{◌≡◌, map};
 ghost use Rattle.vortex_expressions.specs.Functions as specs;
 ghost use Rattle.vortex_expressions.specs.Applied.{values_of};
-ghost use Rattle.vortex_expressions.specs.Kinded.{first_kind};
+ghost use Rattle.vortex_expressions.specs.Kinded.{first_kind, fraction_kind};
 ghost use Rattle.vortex_expressions.specs.Items.{item_in};
 ghost use Rattle.vortex_expressions.specs.Answering.{Gives};
 
 use crate::applied::function_call;
 use crate::item::Item;
-use crate::kinded::{is_plain, item_operand, value_item};
+use crate::kind_functions::kind_call;
+use crate::kind_words::kind_word;
+use crate::kinded::{fraction_kind, is_plain, item_operand, value_item};
 use crate::refusal::{BindStop, Refusal};
 use std::alloc::Global;
 use vortex_functions::BoundExpression;
@@ -39,30 +41,40 @@ fn is_test(function: Standard) -> bool
     }
 }
 
-/// The kind of the first value with one.
-fn first_kind(items: &[Item]) -> Kind
-    ensures { result ≡ first_kind (map item_in items.now) }
+/// The kind of the first value with one, or that of a number with a fraction, of which one comes
+/// before where the flag is true.
+#[tactic(auto, using(crate::proofs::FirstKinds::fraction_again))]
+fn first_kind(fraction_before: bool, items: &[Item]) -> Kind
+    ensures { result ≡ fraction_kind fraction_before (first_kind (map item_in items.now)) }
 {
+    let mut has_fraction = fraction_before;
     for item in items {
-        if let Item::Kinded(kind, _) = item {
-            return *kind;
+        match item {
+            Item::Kinded(kind, _) => return fraction_kind(has_fraction, *kind),
+            Item::Fraction(_) => has_fraction = true,
+            _ => {}
         }
     }
-    Kind::Plain
+    fraction_kind(has_fraction, Kind::Plain)
 }
 
-/// The kind of the first value with one among the values of cases.
+/// The kind of the first value with one among the values of cases, or that of a number with a
+/// fraction.
+#[tactic(auto, using(crate::proofs::FirstKinds::fraction_again))]
 fn first_case_kind(items: &[Item]) -> Kind
     ensures { result ≡ first_kind (values_of (map item_in items.now)) }
 {
+    let mut has_fraction = false;
     let mut rest = items;
     while let [_condition, value, more @ ..] = rest {
-        if let Item::Kinded(kind, _) = value {
-            return *kind;
+        match value {
+            Item::Kinded(kind, _) => return fraction_kind(has_fraction, *kind),
+            Item::Fraction(_) => has_fraction = true,
+            _ => {}
         }
         rest = more;
     }
-    first_kind(rest)
+    first_kind(has_fraction, rest)
 }
 
 fn first_value_kind(takes: Takes, items: &[Item]) -> Kind
@@ -70,7 +82,7 @@ fn first_value_kind(takes: Takes, items: &[Item]) -> Kind
 {
     match takes {
         Takes::Cases => first_case_kind(items),
-        _ => first_kind(items),
+        _ => first_kind(false, items),
     }
 }
 
@@ -270,11 +282,24 @@ pub(crate) fn function_item(
 }
 
 /// The call of the function of that name.
-pub(crate) fn applied_item(alloc: Global, name: &[u8], items: Vec<Item>) -> Result<Item, BindStop>
-    ensures { Gives item_in result (specs.applied_item name.now (map item_in items.items)) }
+fn standard_item(alloc: Global, name: &[u8], items: Vec<Item>) -> Result<Item, BindStop>
+    ensures { Gives item_in result (specs.standard_item name.now (map item_in items.items)) }
 {
     match named(name) {
         Some(function) => function_item(alloc, function, items),
         None => Err(BindStop::Refused(Refusal::NoFunction)),
+    }
+}
+
+/// What a name means next to a value of a kind, or without one.
+pub(crate) fn applied_item(alloc: Global, name: &[u8], items: Vec<Item>) -> Result<Item, BindStop>
+    ensures { Gives item_in result (specs.applied_item name.now (map item_in items.items)) }
+{
+    if is_plain(&first_kind(false, &items)) {
+        return standard_item(alloc, name, items);
+    }
+    match kind_word(name) {
+        Some(meant) => kind_call(alloc, meant, &items),
+        None => standard_item(alloc, name, items),
     }
 }

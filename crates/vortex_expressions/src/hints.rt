@@ -8,7 +8,8 @@ const QUERIES: &str = "no queries: this is an expression over the columns of one
 
 const SUBQUERIES: &str = "no subqueries: a in (1, 2) compares with a list of values";
 
-const TIMES: &str = "no dates and times: types are bool, utf8 and integers";
+const CLOCKS: &str =
+    "no current time and no zones: compare with a date or a timestamp, as '2024-02-29'::date";
 
 const REGULAR: &str = "no operators for regular expressions: write regexp_like(s, 'a+')";
 
@@ -36,7 +37,7 @@ const BEHIND: [(&str, &str); 20] = [
     ("rlike", REGULAR),
     ("glob", REGULAR),
     ("match", REGULAR),
-    ("at", TIMES),
+    ("at", CLOCKS),
     ("xor", "write a <> b"),
     ("div", "write a / b"),
     ("mod", "write a % b"),
@@ -44,22 +45,18 @@ const BEHIND: [(&str, &str); 20] = [
 
 /// Words that other languages have before what begins with one of these bytes, or before anything;
 /// here they are names.
-const BEFORE: [(&str, &[u8], &str); 11] = [
+const BEFORE: [(&str, &[u8], &str); 7] = [
     ("select", b"", SUBQUERIES),
     ("exists", b"(", SUBQUERIES),
     ("any", b"(", SUBQUERIES),
     ("some", b"(", SUBQUERIES),
     ("all", b"(", SUBQUERIES),
     ("array", b"[", ARRAYS),
-    ("date", b"'", TIMES),
-    ("time", b"'", TIMES),
-    ("timestamp", b"'", TIMES),
-    ("interval", b"'", TIMES),
     ("count", b"*", AGGREGATES),
 ];
 
 /// Functions that other languages have.
-const FUNCTIONS: [(&str, &str); 27] = [
+const FUNCTIONS: [(&str, &str); 26] = [
     ("sum", AGGREGATES),
     ("count", AGGREGATES),
     ("avg", AGGREGATES),
@@ -73,11 +70,10 @@ const FUNCTIONS: [(&str, &str); 27] = [
     ("any", SUBQUERIES),
     ("some", SUBQUERIES),
     ("all", SUBQUERIES),
-    ("now", TIMES),
-    ("extract", TIMES),
-    ("date", TIMES),
-    ("date_trunc", TIMES),
-    ("date_part", TIMES),
+    ("now", CLOCKS),
+    ("current_date", CLOCKS),
+    ("current_timestamp", CLOCKS),
+    ("date", "write d::date"),
     ("lcase", "write lower(s)"),
     ("ucase", "write upper(s)"),
     ("mid", "write substr(s, 2, 3)"),
@@ -102,15 +98,15 @@ fn is_word_byte(byte: u8) -> bool {
     byte.is_ascii_alphanumeric() || byte == b'_'
 }
 
-/// The last two words of a text.
-fn last_words(text: &[u8]) -> (&[u8], &[u8]) {
-    let mut words: (&[u8], &[u8]) = (b"", b"");
+/// The last word of a text.
+fn last_word(text: &[u8]) -> &[u8] {
+    let mut last: &[u8] = b"";
     for word in text.split(|byte| !is_word_byte(*byte)) {
         if !word.is_empty() {
-            words = (words.1, word);
+            last = word;
         }
     }
-    words
+    last
 }
 
 /// The word that a text begins with.
@@ -170,11 +166,7 @@ pub(crate) fn hint_at(text: &str, byte: usize) -> &'static str {
     if !here.is_empty() {
         return here;
     }
-    let (first, last) = last_words(before);
-    if first.eq_ignore_ascii_case(b"extract") && word_at(behind).eq_ignore_ascii_case(b"from") {
-        return TIMES;
-    }
-    told_before(last, behind)
+    told_before(last_word(before), behind)
 }
 
 /// What is missing where a function of that name is called; empty if it is not known.

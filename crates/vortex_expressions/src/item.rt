@@ -12,6 +12,7 @@ ghost use Rattle.vortex_expressions.specs.Literals.{literal_in};
 ghost use Rattle.vortex_expressions.specs.Binding.{ended, logical_in};
 ghost use Rattle.vortex_expressions.specs.Answering.{Gives};
 
+use crate::kinded::text_literal;
 use crate::literal::Literal;
 use crate::meeting::{met_next, widened_to};
 use crate::refusal::{BindStop, Refusal};
@@ -21,12 +22,19 @@ use vortex_functions::{BoundExpression, EmptyOptions, ScalarFnRef};
 use vortex_logical::kind::Kind;
 use vortex_standard::{Standard, Widen};
 
-/// A literal without a type yet, a tree, or a tree of the stored integers of a kind.
+/// What a part of an expression is.
 #[derive(Drop)]
 pub(crate) enum Item {
+    /// A literal without a type yet.
     Literal(Literal),
+    /// A tree.
     Bound(BoundExpression<Standard>),
+    /// A tree of the stored integers of a kind.
     Kinded(Kind, BoundExpression<Standard>),
+    /// A number with a point or an exponent, where columns have kinds.
+    Fraction(String),
+    /// So many microseconds.
+    Interval(i64),
 }
 
 /// The literal of that type.
@@ -57,8 +65,7 @@ impl Item {
     {
         match self {
             Item::Bound(tree) => Some(tree.dtype()),
-            Item::Literal(_) => None,
-            Item::Kinded(_, _) => None,
+            Item::Literal(_) | Item::Kinded(_, _) | Item::Fraction(_) | Item::Interval(_) => None,
         }
     }
 
@@ -68,8 +75,7 @@ impl Item {
     {
         match self {
             Item::Literal(literal) => literal.own_type(),
-            Item::Bound(_) => None,
-            Item::Kinded(_, _) => None,
+            Item::Bound(_) | Item::Kinded(_, _) | Item::Fraction(_) | Item::Interval(_) => None,
         }
     }
 
@@ -81,11 +87,15 @@ impl Item {
             Item::Bound(tree) => Ok(Item::Bound(tree.try_clone(alloc)?)),
             Item::Literal(literal) => Ok(Item::Literal(literal.try_clone(alloc)?)),
             Item::Kinded(kind, tree) => Ok(Item::Kinded(*kind, tree.try_clone(alloc)?)),
+            Item::Fraction(number) => {
+                Ok(Item::Fraction(String::from_str(alloc, number.as_str())?))
+            }
+            Item::Interval(micros) => Ok(Item::Interval(*micros)),
         }
     }
 
     /// Its tree where that type is taken: a tree of a narrower integer type is cast, and a literal
-    /// takes the type. A value of a kind has none.
+    /// takes the type. A value of a kind has none, nor has a number with a fraction, or an interval.
     pub(crate) fn settle(
         &self,
         alloc: Global,
@@ -98,6 +108,8 @@ impl Item {
             Item::Bound(tree) => return meeting(alloc, beside, tree.try_clone(alloc)?),
             Item::Literal(literal) => literal,
             Item::Kinded(kind, _) => return Err(BindStop::Refused(Refusal::OfKind(*kind))),
+            Item::Fraction(_) => return Err(BindStop::Refused(Refusal::OfKind(Kind::F64))),
+            Item::Interval(_) => return Err(BindStop::Refused(Refusal::NotHeld)),
         };
         match literal.type_beside(alloc, beside)? {
             Some(dtype) => constant_at(alloc, literal, dtype),
@@ -105,12 +117,18 @@ impl Item {
         }
     }
 
-    /// Its tree, with the kind of its values; a literal has its default type.
+    /// Its tree, with the kind of its values; a literal has its default type, and a number with a
+    /// fraction is a float.
     pub(crate) fn end(self, alloc: Global) -> Result<LogicalTree, BindStop>
         ensures { Gives logical_in result (ended (item_in self)) }
     {
         match self {
             Item::Kinded(kind, tree) => Ok(LogicalTree { tree, kind }),
+            Item::Fraction(number) => {
+                let tree = text_literal(alloc, Kind::F64, number.as_bytes())?.tree;
+                let kind = Kind::F64;
+                Ok(LogicalTree { tree, kind })
+            }
             other => {
                 let tree = other.settle(alloc, None)?;
                 let kind = Kind::Plain;

@@ -32,6 +32,14 @@ fn push_type(out: &mut String, item: &Item) -> VortexResult<()> {
             Some(dtype) => dtype.write_text(out),
             None => push_literal(out, literal),
         },
+        Item::Fraction(_) => {
+            write!(out, "{}", Kind::F64)?;
+            Ok(())
+        }
+        Item::Interval(_) => {
+            out.push_str("an interval")?;
+            Ok(())
+        }
     }
 }
 
@@ -63,9 +71,16 @@ pub(crate) fn push_operand(out: &mut String, operand: &Operand) -> VortexResult<
 /// The last literal among items that is a text or a number; whether there is one.
 pub(crate) fn push_literals(out: &mut String, items: &[Item]) -> VortexResult<bool> {
     for item in items.iter().rev() {
-        if let Item::Literal(literal) = item {
-            push_literal(out, literal)?;
-            return Ok(true);
+        match item {
+            Item::Literal(literal) => {
+                push_literal(out, literal)?;
+                return Ok(true);
+            }
+            Item::Fraction(number) => {
+                out.push_str(number.as_str())?;
+                return Ok(true);
+            }
+            _ => {}
         }
     }
     Ok(false)

@@ -20,8 +20,8 @@ use vortex_columns::{DType, Nullability};
 use vortex_functions::BoundExpression;
 use vortex_logical::kind::Kind;
 use vortex_logical::operand::Operand;
-use vortex_logical_calls::Lowered;
 use vortex_logical_calls::conversions::as_float;
+use vortex_logical_calls::{Lowered, interval_of};
 use vortex_standard::{FloatToInt, Standard};
 
 /// Whether a list of kinds is given.
@@ -90,6 +90,38 @@ fn kind_item(alloc: Global, kind: Kind, literal: &Literal) -> Result<Item, BindS
     Ok(value_item(kind_literal(alloc, kind, literal)?))
 }
 
+/// The interval of a text.
+fn interval_item(literal: &Literal) -> Result<Item, BindStop>
+    ensures { Gives item_in result (specs.interval_item (literal_in literal.now)) }
+{
+    let Literal::Text(text) = literal else {
+        return Err(BindStop::Refused(Refusal::NotHeld));
+    };
+    match interval_of(text.as_bytes()) {
+        Some(micros) => Ok(Item::Interval(micros)),
+        None => Err(BindStop::Refused(Refusal::NotHeld)),
+    }
+}
+
+/// Whether intervals have that name.
+fn is_interval_name(name: &[u8], is_nullable: bool) -> bool
+    ensures { result ≡ specs.is_interval_name name.now is_nullable }
+{
+    !is_nullable && name.eq_ignore_ascii_case(b"interval")
+}
+
+/// An interval, or a literal of the type of that name.
+fn typed_plain(alloc: Global, name: &[u8], is_nullable: bool, item: Item) -> Result<Item, BindStop>
+    ensures { Gives item_in result (calls.typed_plain name.now is_nullable (item_in item)) }
+{
+    if let Item::Literal(literal) = &item
+        && is_interval_name(name, is_nullable)
+    {
+        return interval_item(literal);
+    }
+    typed_item(alloc, name, is_nullable, item)
+}
+
 /// A literal of the kind or the type of that name.
 fn typed_named(
     alloc: Global,
@@ -102,8 +134,9 @@ fn typed_named(
         (calls.typed_named name.now is_nullable (item_in item) kind) }
 {
     match (kind, item) {
-        (None, item) => typed_item(alloc, name, is_nullable, item),
+        (None, item) => typed_plain(alloc, name, is_nullable, item),
         (Some(kind), Item::Literal(literal)) => kind_item(alloc, kind, &literal),
+        (Some(kind), Item::Fraction(number)) => { kind_item(alloc, kind, &Literal::Number(number)) }
         (Some(_), _) => Err(BindStop::Missing),
     }
 }
@@ -147,8 +180,21 @@ fn float_item(alloc: Global, value: Lowered<Standard>) -> Result<Item, BindStop>
     }
 }
 
-/// A value of a kind as one of another: of its own kind it is unchanged, and each number has a
-/// nearest float.
+/// A value that a function makes one of the kind.
+fn cast_by_function(
+    alloc: Global,
+    kind: Kind,
+    function: Standard,
+    tree: BoundExpression<Standard>,
+) -> Result<Item, BindStop>
+    ensures { Gives item_in result (specs.cast_by kind function tree) }
+{
+    let tree = call_of(alloc, callable(function), vec![in alloc; tree]?)?;
+    Ok(Item::Kinded(kind, tree))
+}
+
+/// A value of a kind as one of another: of its own kind it is unchanged, each number has a nearest
+/// float, and a date is a timestamp's day, which is its midnight.
 fn kind_cast(
     alloc: Global,
     kind: Kind,
@@ -165,6 +211,12 @@ fn kind_cast(
         (Kind::F64, _) => {
             let operand = Operand::Of(found);
             float_item(alloc, Lowered { tree, operand })
+        }
+        (Kind::Timestamp, Kind::Date) => {
+            cast_by_function(alloc, kind, Standard::DateToTimestamp, tree)
+        }
+        (Kind::Date, Kind::Timestamp) => {
+            cast_by_function(alloc, kind, Standard::TimestampToDate, tree)
         }
         _ => Err(BindStop::Refused(Refusal::NoCast)),
     }
@@ -190,6 +242,8 @@ fn cast_to_kind(alloc: Global, kind: Kind, item: Item) -> Result<Item, BindStop>
         Item::Literal(literal) => kind_item(alloc, kind, &literal),
         Item::Bound(tree) => plain_cast(alloc, kind, tree),
         Item::Kinded(found, tree) => kind_cast(alloc, kind, found, tree),
+        Item::Fraction(number) => kind_item(alloc, kind, &Literal::Number(number)),
+        Item::Interval(_) => Err(BindStop::Refused(Refusal::NoCast)),
     }
 }
 
@@ -211,6 +265,14 @@ fn float_cast(
     }
 }
 
+/// A number with a fraction as the nearest integer.
+fn fraction_cast(alloc: Global, number: &str, dtype: &DType) -> Result<Item, BindStop>
+    ensures { Gives item_in result (specs.fraction_cast number.now (type_of dtype.now)) }
+{
+    let float = text_literal(alloc, Kind::F64, number.as_bytes())?;
+    float_cast(alloc, dtype, float.tree)
+}
+
 /// A cast to the type of that name; floats are rounded, but by `try_cast`.
 fn cast_of_kind(
     alloc: Global,
@@ -226,6 +288,10 @@ fn cast_of_kind(
         (false, Item::Kinded(Kind::F64, tree)) => {
             let dtype = type_of_name(alloc, name, is_nullable)?;
             float_cast(alloc, &dtype, tree)
+        }
+        (false, Item::Fraction(number)) => {
+            let dtype = type_of_name(alloc, name, is_nullable)?;
+            fraction_cast(alloc, number.as_str(), &dtype)
         }
         (is_tried, item) => cast_item(alloc, is_tried, name, is_nullable, item),
     }

@@ -40,11 +40,17 @@ impl From<calls::Refusal> for BindStop {
     }
 }
 
-/// Whether the item is a value of a kind.
+/// Whether the item is a value of a kind, or has a meaning only next to one.
 pub(crate) fn is_kinded(item: &Item) -> bool
     ensures { result ≡ specs.is_kinded (item_in item.now) }
 {
-    matches!(item, Item::Kinded(_, _))
+    !matches!(item, Item::Literal(_) | Item::Bound(_))
+}
+
+fn is_interval(item: &Item) -> bool
+    ensures { result ≡ specs.is_interval (item_in item.now) }
+{
+    matches!(item, Item::Interval(_))
 }
 
 pub(crate) fn is_plain(kind: &Kind) -> bool
@@ -73,12 +79,24 @@ pub(crate) fn stored_item(item: Item) -> Item
     }
 }
 
+/// The kind of values, among which a number with a fraction is where the flag is true: where they
+/// have none, that of floats.
+pub(crate) fn fraction_kind(has_fraction: bool, kind: Kind) -> Kind
+    ensures { result ≡ specs.fraction_kind has_fraction kind }
+{
+    match (has_fraction, kind) {
+        (true, Kind::Plain) => Kind::F64,
+        (_, kind) => kind,
+    }
+}
+
 /// The kind of a value, or else the other kind.
 fn kind_or(item: &Item, kind: Kind) -> Kind
     ensures { result ≡ specs.kind_or (item_in item.now) kind }
 {
     match item {
         Item::Kinded(found, _) => *found,
+        Item::Fraction(_) => fraction_kind(true, kind),
         _ => kind,
     }
 }
@@ -199,6 +217,8 @@ pub(crate) fn item_operand(
             let operand = Operand::Of(kind);
             Ok(Lowered { tree, operand })
         }
+        Item::Fraction(number) => literal_operand(alloc, *kind, &Literal::Number(number)),
+        Item::Interval(_) => Err(BindStop::Refused(Refusal::NotHeld)),
     }
 }
 
@@ -279,7 +299,38 @@ fn joined_beside(
     operated(alloc, kind, written, first, second)
 }
 
-/// An operator, one of whose operands has a kind.
+/// A date or a timestamp moved by an interval.
+fn shifted_item(
+    alloc: Global,
+    operator: NumericOperator,
+    kind: Kind,
+    tree: BoundExpression<Standard>,
+    micros: i64,
+) -> Result<Item, BindStop>
+    ensures { Gives item_in result (specs.shifted_item operator kind tree micros) }
+{
+    let operand = Operand::Of(kind);
+    Ok(value_item(calls::shift(alloc, operator, Lowered { tree, operand }, micros)?))
+}
+
+/// An interval is added to a date or a timestamp, or taken from one.
+fn shifted_items(alloc: Global, written: Written, left: Item, right: Item) -> Result<Item, BindStop>
+    ensures { Gives item_in result
+        (specs.shifted_items written (item_in left) (item_in right)) }
+{
+    match (written, left, right) {
+        (Written::Add, Item::Kinded(kind, tree), Item::Interval(micros))
+        | (Written::Add, Item::Interval(micros), Item::Kinded(kind, tree)) => {
+            shifted_item(alloc, NumericOperator::Add, kind, tree, micros)
+        }
+        (Written::Sub, Item::Kinded(kind, tree), Item::Interval(micros)) => {
+            shifted_item(alloc, NumericOperator::Sub, kind, tree, micros)
+        }
+        _ => Err(BindStop::Refused(Refusal::NotHeld)),
+    }
+}
+
+/// An operator, one of whose operands has a kind or is an interval.
 pub(crate) fn kinded_joined(
     alloc: Global,
     written: Written,
@@ -289,6 +340,9 @@ pub(crate) fn kinded_joined(
     ensures { Gives item_in result
         (specs.kinded_joined written (item_in left) (item_in right)) }
 {
+    if is_interval(&left) || is_interval(&right) {
+        return shifted_items(alloc, written, left, right);
+    }
     let other = kind_or(&right, Kind::Plain);
     let kind = kind_or(&left, other);
     joined_beside(alloc, kind, written, left, right)

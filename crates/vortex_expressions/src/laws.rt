@@ -4,6 +4,12 @@ ghost use Rattle.vortex_types.specs.LogicalTypes.{Fields};
 ghost use Rattle.vortex_expressions.specs.Items as items;
 ghost use Rattle.vortex_expressions.specs.Binding.{Expresses};
 ghost use Rattle.vortex_expressions.specs.Writing.{IsOver, text_of_tree};
+ghost use Rattle.vortex_logical.specs.declared.kind.Kind.{Kind};
+ghost use Rattle.vortex_expressions.specs.RowLaws.{TextsMeanTheirRows};
+
+use vortex_logical_calls::laws::{
+    bounds_go_by_order, comparisons_go_by_order, computations_are_exact,
+};
 
 /// The text of a tree over the columns of a scope means that tree.
 pub fn text_back()
@@ -23,3 +29,15 @@ pub fn text_is_read_back()
         → Expresses scope text tree → text_of_tree tree ≡ Some other
         → Expresses scope other tree }
 {}
+
+/// Each comparison, each BETWEEN and each operator of arithmetic between values of kinds in a text
+/// means in each row what its operands mean there: dates, timestamps, decimals and floats in their
+/// order, and exact sums, differences and products. Operands are as they become next to each other: a
+/// whole number next to a float is the nearest float.
+pub fn texts_mean_their_rows()
+    ensures { (scope : Fields) (kinds : List Kind) → TextsMeanTheirRows scope kinds }
+{
+    comparisons_go_by_order();
+    bounds_go_by_order();
+    computations_are_exact();
+}

@@ -16,6 +16,8 @@ mod hints;
 pub mod item;
 mod item_texts;
 mod kind_casts;
+mod kind_functions;
+mod kind_words;
 mod kinded;
 pub mod laws;
 mod like_tasks;
@@ -29,6 +31,7 @@ pub mod refusal;
 mod spelled;
 mod syntax_texts;
 mod tasks;
+mod unheld;
 pub mod words;
 pub mod writing;
 

@@ -4,6 +4,7 @@ ghost use Rattle.vortex_errors.specs.Answers.{AnswersUnlessMemory};
 ghost use Rattle.vortex_types.specs.TypeOf.{type_of};
 ghost use Rattle.vortex_expressions.specs.Literals.{literal_in, own_type, number_type};
 ghost use Rattle.vortex_expressions.specs.Literals.{type_beside, value_at, truth_word};
+ghost use Rattle.vortex_expressions.specs.Literals.{is_fractional, has_fraction};
 
 use std::alloc::Global;
 use vortex_cells::cells::literal_of_cell;
@@ -28,6 +29,19 @@ fn number_type(alloc: Global, beside: &DType) -> VortexResult<DType>
     } else {
         Ok(DType::Primitive(PType::I64, Nullability::NonNullable))
     }
+}
+
+fn is_fractional(byte: u8) -> bool
+    ensures { result ≡ is_fractional byte }
+{
+    byte == b'.' || byte == b'E' || byte == b'e'
+}
+
+/// Whether a number has a point or an exponent.
+pub(crate) fn has_fraction(number: &str) -> bool
+    ensures { result ≡ has_fraction number.now }
+{
+    number.as_bytes().iter().any(|byte| is_fractional(*byte))
 }
 
 fn truth_word(truth: bool) -> &'static str
