@@ -6,74 +6,6 @@
 #include <stdlib.h>
 #include <string.h>
 
-static const struct layout layouts[] = {
-    {"b", YK_BOOL, 2, 0},
-    {"c", YK_I8, 2, 1},
-    {"s", YK_I16, 2, 2},
-    {"i", YK_I32, 2, 4},
-    {"l", YK_I64, 2, 8},
-    {"C", YK_U8, 2, 1},
-    {"S", YK_U16, 2, 2},
-    {"I", YK_U32, 2, 4},
-    {"L", YK_U64, 2, 8},
-    {"u", YK_UTF8, 3, 4},
-    {"U", YK_LARGE_UTF8, 3, 8},
-    {"z", YK_BINARY, 3, 4},
-    {"Z", YK_LARGE_BINARY, 3, 8},
-    {"vu", YK_UTF8_VIEW, 3, 1},
-    {"vz", YK_BINARY_VIEW, 3, 1},
-    {"g", YK_F64, 2, 8},
-    {"f", YK_F32, 2, 4},
-    {"tdD", YK_DATE, 2, 4},
-    {"tsu:", YK_TIMESTAMP, 2, 8},
-};
-
-static const size_t layout_count = sizeof layouts / sizeof *layouts;
-
-static const struct layout *layout_of_format(const char *format) {
-    for (size_t i = 0; i < layout_count; i++)
-        if (strcmp(layouts[i].format, format) == 0)
-            return &layouts[i];
-    return NULL;
-}
-
-const struct layout *yk_layout_of_kind(uint32_t kind) {
-    for (size_t i = 0; i < layout_count; i++)
-        if (layouts[i].kind == kind)
-            return &layouts[i];
-    return NULL;
-}
-
-/* The name of an unsupported format: the longest prefix that is listed here. */
-static const char *format_name(const char *format) {
-    static const char *const names[][2] = {
-        {"n", "null"},
-        {"e", "float16"},
-        {"d:", "decimal"},
-        {"w:", "fixed-size binary"},
-        {"tdm", "date64"},
-        {"tt", "time"},
-        {"tsu:", "timestamp in a time zone"},
-        {"ts", "timestamp in other units than microseconds"},
-        {"tD", "duration"},
-        {"ti", "interval"},
-        {"+l", "list"},
-        {"+L", "large list"},
-        {"+vl", "list view"},
-        {"+vL", "large list view"},
-        {"+w:", "fixed-size list"},
-        {"+s", "struct"},
-        {"+m", "map"},
-        {"+ud:", "dense union"},
-        {"+us:", "sparse union"},
-        {"+r", "run-end encoded"},
-    };
-    for (size_t i = 0; i < sizeof names / sizeof *names; i++)
-        if (strncmp(names[i][0], format, strlen(names[i][0])) == 0)
-            return names[i][1];
-    return "unknown";
-}
-
 void yk_reset(struct yk_error *error) {
     struct yk_text_room message = error->message;
     *error = (struct yk_error){.answer = YK_NONE, .column = YK_NONE, .row = YK_NONE, .byte = YK_NONE};
@@ -135,25 +67,28 @@ void yk_add_to_row(struct yk_error *error, size_t before) {
 static const char *name_of(const struct ArrowSchema *schema) { return schema->name ? schema->name : ""; }
 
 uint32_t yk_arrow_field(const struct ArrowSchema *schema, struct yk_field *field, struct yk_error *error) {
-    const struct layout *layout = layout_of_format(schema->format);
+    struct layout layout;
+    bool taken = yk_layout_of_format(schema->format, &layout);
     yk_reset(error);
-    if (layout && !schema->dictionary) {
+    if (taken && !schema->dictionary) {
         field->name = (struct yk_text){name_of(schema), strlen(name_of(schema))};
-        field->kind = layout->kind;
+        field->kind = layout.kind;
         field->nullable = (schema->flags & ARROW_FLAG_NULLABLE) != 0;
         return YK_OK;
     }
     return yk_refuse(error, YK_UNTAKEN_FORMAT, YK_NONE, "column \"%.200s\": Arrow's format %.40s, %s, is not taken", name_of(schema),
-        schema->format, layout ? "in a dictionary," : format_name(schema->format));
+        schema->format, taken ? "in a dictionary," : yk_format_name(schema->format));
 }
 
 static bool is_view(const struct layout *layout) { return layout->kind == YK_UTF8_VIEW || layout->kind == YK_BINARY_VIEW; }
 
 size_t yk_arrow_buffer_count(const struct ArrowSchema *schema, const struct ArrowArray *array) {
-    const struct layout *layout = layout_of_format(schema->format);
-    if (!layout || !is_view(layout) || array->n_buffers <= 3)
+    struct layout layout;
+    if (!yk_layout_of_format(schema->format, &layout))
         return 0;
-    return (size_t)(array->n_buffers - 3);
+    if (!is_view(&layout))
+        return yk_made_count(&layout, array);
+    return array->n_buffers <= 3 ? 0 : (size_t)(array->n_buffers - 3);
 }
 
 /* What is wrong with an array, without reading any buffer, or NULL. */
@@ -166,7 +101,7 @@ static const char *fault_of(const struct layout *layout, const struct ArrowArray
         return "it has no buffers";
     if (array->length > 0 && !array->buffers[1])
         return "it has rows, and no values";
-    if (layout->width > 1 && (uintptr_t)array->buffers[1] % layout->width != 0)
+    if (layout->width > 1 && !layout->made && (uintptr_t)array->buffers[1] % layout->width != 0)
         return "its buffer is not aligned";
     if (layout->buffers == 3 && !is_view(layout) && array->length == 0)
         return NULL;
@@ -208,17 +143,17 @@ static void set_views(const struct ArrowArray *array, struct yk_bytes *buffers, 
     column->buffers = (struct yk_buffers){buffers, count};
 }
 
-/* Sets the one slice of values that the kind has. */
-static void set_values(const void *at, struct yk_column *column) {
+void yk_set_values(const void *at, struct yk_column *column) {
     size_t end = column->offset + column->rows;
-    switch (column->kind) {
+    switch (column->kind % 256) {
     case YK_BOOL: column->bools = (struct yk_bytes){at, yk_bytes_for(end)}; break;
     case YK_I8: column->i8 = (struct yk_i8s){at, end}; break;
     case YK_I16: column->i16 = (struct yk_i16s){at, end}; break;
     case YK_I32:
     case YK_DATE: column->i32 = (struct yk_i32s){at, end}; break;
     case YK_I64:
-    case YK_TIMESTAMP: column->i64 = (struct yk_i64s){at, end}; break;
+    case YK_TIMESTAMP:
+    case YK_DECIMAL64: column->i64 = (struct yk_i64s){at, end}; break;
     case YK_F32: column->f32 = (struct yk_f32s){at, end}; break;
     case YK_F64: column->f64 = (struct yk_f64s){at, end}; break;
     case YK_U8: column->u8 = (struct yk_bytes){at, end}; break;
@@ -234,23 +169,26 @@ uint32_t yk_arrow_column(const struct ArrowSchema *schema, const struct ArrowArr
     uint32_t status = yk_arrow_field(schema, &field, error);
     if (status)
         return status;
-    const struct layout *layout = layout_of_format(schema->format);
-    const char *fault = fault_of(layout, array);
+    struct layout layout;
+    yk_layout_of_format(schema->format, &layout);
+    const char *fault = fault_of(&layout, array);
     if (fault)
         return yk_refuse(error, YK_MALFORMED_ARRAY, YK_NONE, "column \"%.200s\": a malformed array: %s", name_of(schema), fault);
-    *column = (struct yk_column){.kind = layout->kind, .nullable = field.nullable};
+    *column = (struct yk_column){.kind = layout.kind, .nullable = field.nullable};
     column->rows = (size_t)array->length;
     column->offset = (size_t)array->offset;
     if (array->buffers[0] && array->null_count != 0)
         column->validity = (struct yk_bytes){array->buffers[0], yk_bytes_for(column->offset + column->rows)};
     if (column->rows == 0)
         column->offset = 0, column->validity.length = 0;
-    else if (is_view(layout))
+    else if (is_view(&layout))
         set_views(array, buffers, column);
-    else if (layout->buffers == 3)
-        set_texts(layout, array, column);
+    else if (layout.buffers == 3)
+        set_texts(&layout, array, column);
+    else if (layout.made)
+        return yk_make_values(&layout, array, name_of(schema), buffers, column, error);
     else
-        set_values(array->buffers[1], column);
+        yk_set_values(array->buffers[1], column);
     return YK_OK;
 }
 

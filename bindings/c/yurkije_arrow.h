@@ -10,8 +10,20 @@
  *         fprintf(stderr, "%s\n", message);
  *
  * A batch is a struct array, format `+s`, with a child for each column. Supported are the
- * formats b, c, C, s, S, i, I, l, L, u, U, vu, z, Z and vz, none of them in a dictionary; other
- * columns are allowed as long as no answer reads them; if one does, the error names the column.
+ * formats b, c, C, s, S, i, I, l, L, u, U, vu, z, Z, vz, g, f, tdD, tdm, tss:, tsm:, tsu:, tsn: and
+ * d:, none of them in a dictionary; other columns are allowed as long as no answer reads them; if one
+ * does, the error names the column. Of these are converted, once for each run:
+ *
+ *     tdm               days, as milliseconds: YK_DATE
+ *     tss: tsm: tsn:    seconds, milliseconds, nanoseconds: YK_TIMESTAMP, of microseconds
+ *     d:p,s             decimals of 128 bits, or of 32, 64 or 256 (`d:p,s,32`): YK_DECIMAL(p, s), and
+ *                       YK_DECIMAL(18, s) where p is more than 18
+ *
+ * A value that is no whole day or microsecond, or that has more digits than the kind, is an error with
+ * its row, YK_UNTAKEN_VALUE; what lies under a null may be anything. Behind the colon of a timestamp's
+ * format the name of a time zone may stand. It is dropped: such values are instants, and the
+ * microseconds are those of UTC. Answers that are dates come out as tdD, timestamps as tsu:, decimals
+ * as d:p,s of 128 bits.
  *
  * Who owns what
  *
@@ -82,9 +94,10 @@ struct ArrowArrayStream {
 
 /* Statuses of these calls, besides those of yurkije.h. */
 enum yk_arrow_status {
-    YK_UNTAKEN_FORMAT = 140,  /* a column that is read has an unsupported format, such as floats */
+    YK_UNTAKEN_FORMAT = 140,  /* a column that is read has an unsupported format, such as lists */
     YK_MALFORMED_ARRAY = 141, /* an array unlike its schema, or a batch that is no struct */
-    YK_STREAM_FAILED = 142    /* the stream that came in reported an error */
+    YK_STREAM_FAILED = 142,   /* the stream that came in reported an error */
+    YK_UNTAKEN_VALUE = 143    /* in that row a value has no place in its kind: see the formats above */
 };
 
 /* How many rows are run at a time. */
@@ -94,11 +107,12 @@ enum yk_arrow_status {
  * the schema. YK_UNTAKEN_FORMAT if its format is not supported. */
 uint32_t yk_arrow_field(const struct ArrowSchema *schema, struct yk_field *field, struct yk_error *error);
 
-/* How many slices the buffers of an array by views need: 0 for any other. */
+/* How many slices the buffers of an array by views need, or its converted values: 0 for any other. */
 size_t yk_arrow_buffer_count(const struct ArrowSchema *schema, const struct ArrowArray *array);
 
-/* The column of an array, borrowed from it. `buffers` has room for as many slices as
- * yk_arrow_buffer_count returns, and must outlive the column. */
+/* The column of an array, borrowed from it, and from `buffers` where it is by views or its values are
+ * converted. `buffers` has room for as many slices as yk_arrow_buffer_count returns, and must outlive the
+ * column. YK_UNTAKEN_VALUE, with the row, where a value is not converted. */
 uint32_t yk_arrow_column(const struct ArrowSchema *schema, const struct ArrowArray *array, struct yk_bytes *buffers,
     struct yk_column *column, struct yk_error *error);
 
@@ -108,11 +122,12 @@ uint32_t yk_arrow_expression_new(
     const char *text, size_t length, const struct ArrowSchema *schema, struct yk_expression *expression, struct yk_error *error);
 
 /* The schema of the expression's answers: a struct with a child for each answer, texts and byte
- * strings by offsets of 32 bits. */
+ * strings by offsets of 32 bits, decimals of 128 bits. */
 uint32_t yk_arrow_schema(const struct yk_expression *expression, struct ArrowSchema *out, struct yk_error *error);
 
-/* Runs the expression over a batch: its fields are the columns of their names. Rows are reported
- * by their number in the batch, columns by that of the field. */
+/* Runs the expression over a batch: its fields are the columns of their names, of which those that no
+ * answer reads are not looked at. Rows are reported by their number in the batch, columns by that of
+ * the field: first what is malformed or not converted, then what a run reports. */
 uint32_t yk_arrow_run(const struct yk_expression *expression, const struct ArrowSchema *schema, const struct ArrowArray *batch,
     struct ArrowArray *out, struct yk_error *error);
 

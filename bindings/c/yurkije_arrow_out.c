@@ -2,10 +2,14 @@
 #include "yurkije_arrow_shared.h"
 
 #include <stdatomic.h>
+#include <stdio.h>
 #include <stdlib.h>
 #include <string.h>
 
 /* Schemas */
+
+/* `d:18,18` and its NUL, and of any number that a kind has. */
+enum { most_format = 24 };
 
 static void release_schema(struct ArrowSchema *schema) {
     for (int64_t i = 0; i < schema->n_children; i++) {
@@ -18,34 +22,43 @@ static void release_schema(struct ArrowSchema *schema) {
     schema->release = NULL;
 }
 
-/* The name of an answer, which ends with a NUL and belongs to the caller; NULL if an allocation
- * fails. */
-static char *name_of_answer(const struct yk_expression *expression, size_t answer) {
+/* A decimal's format, which belongs to its answer's name: behind the name's NUL. */
+static const char *write_format(const struct layout *layout, uint32_t kind, char *at) {
+    if (kind % 256 != YK_DECIMAL64)
+        return layout->format;
+    snprintf(at, most_format, "d:%u,%u", YK_DECIMAL_PRECISION(kind), YK_DECIMAL_SCALE(kind));
+    return at;
+}
+
+/* The name of an answer, which ends with a NUL and has room for a format behind it; it belongs to the
+ * caller. NULL if an allocation fails. */
+static char *name_of_answer(const struct yk_expression *expression, size_t answer, size_t *length) {
     char none[1];
-    size_t length = 0;
-    yk_answer_name(expression, answer, none, 0, &length);
-    char *name = malloc(length + 1);
-    if (name && yk_answer_name(expression, answer, name, length, &length)) {
+    yk_answer_name(expression, answer, none, 0, length);
+    char *name = malloc(*length + 1 + most_format);
+    if (name && yk_answer_name(expression, answer, name, *length, length)) {
         free(name);
         return NULL;
     }
     if (name)
-        name[length] = 0;
+        name[*length] = 0;
     return name;
 }
 
 static uint32_t fill_child(const struct yk_expression *expression, size_t answer, struct ArrowSchema *child, struct yk_error *error) {
     struct yk_type type = {0};
+    size_t length = 0;
     uint32_t status = yk_answer_type(expression, answer, &type);
     if (status)
         return yk_refuse(error, status, YK_NONE, "answer %zu has no type", answer);
     const struct layout *layout = yk_layout_of_kind(type.kind);
     if (!layout)
-        return yk_refuse(error, YK_OTHER_KIND, YK_NONE, "answer %zu is a %s", answer, (type.kind & 255) == YK_DECIMAL64 ? "decimal" : "list or a struct");
-    char *name = name_of_answer(expression, answer);
+        return yk_refuse(error, YK_OTHER_KIND, YK_NONE, "answer %zu is a list or a struct", answer);
+    char *name = name_of_answer(expression, answer, &length);
     if (!name)
         return yk_refuse_memory(error);
-    *child = (struct ArrowSchema){.format = layout->format, .name = name, .release = release_schema, .private_data = name};
+    const char *format = write_format(layout, type.kind, name + length + 1);
+    *child = (struct ArrowSchema){.format = format, .name = name, .release = release_schema, .private_data = name};
     child->flags = type.nullable ? ARROW_FLAG_NULLABLE : 0;
     return YK_OK;
 }
@@ -152,14 +165,15 @@ static struct yk_room room_at(struct held *held, uint32_t kind, size_t start, co
     struct yk_room room = {.kind = kind};
     uint8_t *values = held->values + (held->layout->width ? start * held->layout->width : start / 8);
     room.validity = (struct yk_bytes_room){held->validity + start / 8, size->validity};
-    switch (kind) {
+    switch (kind % 256) {
     case YK_BOOL: room.bools = (struct yk_bytes_room){values, size->values}; break;
     case YK_I8: room.i8 = (struct yk_i8s_room){(int8_t *)(void *)values, size->values}; break;
     case YK_I16: room.i16 = (struct yk_i16s_room){(int16_t *)(void *)values, size->values}; break;
     case YK_I32:
     case YK_DATE: room.i32 = (struct yk_i32s_room){(int32_t *)(void *)values, size->values}; break;
     case YK_I64:
-    case YK_TIMESTAMP: room.i64 = (struct yk_i64s_room){(int64_t *)(void *)values, size->values}; break;
+    case YK_TIMESTAMP:
+    case YK_DECIMAL64: room.i64 = (struct yk_i64s_room){(int64_t *)(void *)values, size->values}; break;
     case YK_F32: room.f32 = (struct yk_f32s_room){(float *)(void *)values, size->values}; break;
     case YK_F64: room.f64 = (struct yk_f64s_room){(double *)(void *)values, size->values}; break;
     case YK_U8: room.u8 = (struct yk_bytes_room){values, size->values}; break;
@@ -194,6 +208,8 @@ static uint32_t append(struct yk_answers *answers, size_t answer, uint32_t kind,
     status = yk_answer_copy(answers, answer, &room);
     if (status)
         return status;
+    if (kind % 256 == YK_DECIMAL64)
+        yk_widen_decimals(held->values + start * held->layout->width, size.values);
     shift_offsets(&room, held->data_length);
     held->data_length += size.data;
     return YK_OK;

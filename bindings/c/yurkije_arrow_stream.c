@@ -17,16 +17,18 @@ static int64_t child_named(const struct ArrowSchema *schema, const char *name, s
     return -1;
 }
 
-/* The columns of an expression in batches of one schema: their children, and space for the
- * borrowed ones. */
+/* The columns of an expression in batches of one schema: their children, which of them an answer
+ * reads, and space for the borrowed ones. */
 struct places {
     size_t count;
     int64_t *children;
+    bool *are_read;
     struct yk_column *columns;
 };
 
 static void free_places(struct places *places) {
     free(places->children);
+    free(places->are_read);
     free(places->columns);
     *places = (struct places){0};
 }
@@ -49,6 +51,16 @@ static uint32_t find_place(
     return status;
 }
 
+static uint32_t mark_read(const struct yk_expression *expression, struct places *places, struct yk_error *error) {
+    size_t *numbers = malloc(places->count * sizeof *numbers + 1), count = 0;
+    uint32_t status = numbers ? yk_fields_read(expression, numbers, places->count, &count) : YK_OUT_OF_MEMORY;
+    memset(places->are_read, 0, places->count * sizeof *places->are_read);
+    for (size_t i = 0; i < count && !status; i++)
+        places->are_read[numbers[i]] = true;
+    free(numbers);
+    return status ? yk_refuse_memory(error) : YK_OK;
+}
+
 static uint32_t find_places(
     const struct yk_expression *expression, const struct ArrowSchema *schema, struct places *places, struct yk_error *error) {
     yk_reset(error);
@@ -57,9 +69,12 @@ static uint32_t find_places(
     if (status)
         return yk_refuse(error, status, YK_NONE, "the expression is empty");
     places->children = malloc(places->count * sizeof *places->children + 1);
+    places->are_read = malloc(places->count * sizeof *places->are_read + 1);
     places->columns = malloc(places->count * sizeof *places->columns + 1);
-    if (!places->children || !places->columns)
+    if (!places->children || !places->are_read || !places->columns)
         status = yk_refuse_memory(error);
+    else
+        status = mark_read(expression, places, error);
     for (size_t i = 0; i < places->count && !status; i++)
         status = find_place(expression, schema, i, &places->children[i], error);
     if (status)
@@ -67,20 +82,27 @@ static uint32_t find_places(
     return status;
 }
 
-/* How many slices the views of a batch's columns need. */
+/* How many slices the columns of a batch need that are read. */
 static size_t count_buffers(const struct places *places, const struct ArrowSchema *schema, const struct ArrowArray *batch) {
     size_t count = 0;
-    for (size_t i = 0; i < places->count; i++)
-        count += yk_arrow_buffer_count(schema->children[places->children[i]], batch->children[places->children[i]]);
+    for (size_t i = 0; i < places->count; i++) {
+        struct ArrowArray array = yk_child_of(batch, places->children[i]);
+        size_t more = places->are_read[i] ? yk_arrow_buffer_count(schema->children[places->children[i]], &array) : 0;
+        count = more < SIZE_MAX / 64 - count ? count + more : SIZE_MAX / 64;
+    }
     return count;
 }
 
+/* Columns that no answer reads are not looked at. */
 static uint32_t borrow_columns(struct places *places, const struct ArrowSchema *schema, const struct ArrowArray *batch,
     struct yk_bytes *buffers, struct yk_error *error) {
     uint32_t status = YK_OK;
     for (size_t i = 0; i < places->count && !status; i++) {
         int64_t child = places->children[i];
         struct ArrowArray array = yk_child_of(batch, child);
+        places->columns[i] = (struct yk_column){.kind = YK_BOOL, .rows = (size_t)batch->length};
+        if (!places->are_read[i])
+            continue;
         status = yk_arrow_column(schema->children[child], &array, buffers, &places->columns[i], error);
         if (status)
             error->column = i;

@@ -56,7 +56,7 @@ static void hash(const void *bytes, size_t length) {
 static const char text[] =
     "n * 2 as twice, t like '%o_t' and n > 1 as found, t, n between 2 and 7 or t ilike 'N%', cast(n > 3 as bool?), n is null";
 static const int64_t numbers[] = {1, 2, 3, 4};
-static const uint8_t valid[] = {0x0d};
+static const uint8_t valid[] = {0x0d, 0x0b};
 static const int32_t ends[] = {0, 3, 22, 22, 25};
 static const char data[] = "nuta bolt that is longbit";
 
@@ -191,6 +191,37 @@ static uint32_t arrow_calls(void) {
     return status;
 }
 
+/* Columns whose values are converted, and answers that are decimals. */
+static uint32_t converted_calls(void) {
+    static const int64_t prices[] = {1250, 0, -1, -1, 300, 0, 0, 0}, days[] = {0, 86400000, 1, -86400000};
+    static const void *of_prices[] = {NULL, prices}, *of_days[] = {valid + 1, days};
+    static struct ArrowSchema price = {.format = "d:12,2", .name = "price"}, day = {.format = "tdm", .name = "day", .flags = 2};
+    static struct ArrowSchema *children[] = {&price, &day}, whole = {.format = "+s", .n_children = 2, .children = children};
+    static struct ArrowArray array_price = {.length = 4, .n_buffers = 2, .buffers = of_prices};
+    static struct ArrowArray array_day = {.length = 4, .null_count = -1, .n_buffers = 2, .buffers = of_days};
+    static struct ArrowArray *of_both[] = {&array_price, &array_day};
+    static struct ArrowArray given = {.length = 4, .n_buffers = 1, .buffers = none, .n_children = 2, .children = of_both};
+    struct yk_expression expression = {0};
+    struct ArrowSchema made = {.release = NULL};
+    struct ArrowArray out = {.release = NULL};
+    struct yk_error error = new_error();
+    uint32_t status = yk_arrow_expression_new("price * 2 as twice, day + 1", 27, &whole, &expression, &error);
+    if (!status)
+        status = yk_arrow_schema(&expression, &made, &error);
+    if (!status)
+        status = yk_arrow_run(&expression, &whole, &given, &out, &error);
+    if (!status) {
+        hash(made.children[0]->format, strlen(made.children[0]->format));
+        hash(out.children[0]->buffers[1], 4 * 16), hash(out.children[1]->buffers[1], 8);
+    }
+    if (made.release)
+        made.release(&made);
+    if (out.release)
+        out.release(&out);
+    yk_expression_free(&expression);
+    return status;
+}
+
 /* Columns that are cut into batches: joined, selected, masked, and an error for the last row,
  * after which all rows are run again. */
 static uint32_t long_calls(void) {
@@ -258,6 +289,8 @@ int main(void) {
     sweep("plain calls", plain_calls, false);
     sweep("calls of the shim", arrow_calls, true);
     sweep("calls of the shim", arrow_calls, false);
+    sweep("values that are converted", converted_calls, true);
+    sweep("values that are converted", converted_calls, false);
     sweep("calls over many batches", long_calls, true);
     sweep("calls over many batches", long_calls, false);
     return faults != 0;

@@ -150,10 +150,12 @@ static void untaken(void) {
     make_batch();
     static const char *const cases[][2] = {
         {"e", "float16"},
-        {"d:10,2", "decimal"},
-        {"tdm", "date64"},
-        {"tsu:UTC", "timestamp in a time zone"},
-        {"tsn:", "timestamp in other units"},
+        {"d:19,19", "decimal of other bits, of more than 18 places"},
+        {"d:10,-2", "places before the point"},
+        {"d:10,2,48", "other bits"},
+        {"d:10", "decimal"},
+        {"tsx:", "unknown"},
+        {"tDm", "duration"},
         {"ttm", "time"},
         {"+l", "list"},
         {"n", "null"},

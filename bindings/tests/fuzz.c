@@ -3,6 +3,7 @@
  * that no sanitizer knows. Answers are computed again over the same rows at another offset and
  * in another layout, and compared. */
 #define _DEFAULT_SOURCE
+#include "fuzz_arrow.h"
 #include "fuzz_texts.h"
 
 #include <stdio.h>
@@ -220,12 +221,14 @@ static void again(struct yk_expression *expression, struct fuzzed *made, size_t 
     yk_answers_free(&part);
 }
 
-/* How many texts were expressions, how many batches had answers, and how often groups were pruned. */
-static unsigned long asked, readable, answered, pruned;
+/* How many texts were expressions, how many batches had answers, how often groups were pruned, and how many arrays were
+ * converted or refused. */
+static unsigned long asked, readable, answered, pruned, converted;
 
 __attribute__((destructor)) static void tell(void) {
-    fprintf(stderr, "fuzz: %lu texts, %lu of them expressions, %lu batches answered and compared, groups pruned %lu times\n", asked, readable,
-        answered, pruned);
+    fprintf(stderr,
+        "fuzz: %lu texts, %lu of them expressions, %lu batches answered and compared, groups pruned %lu times, %lu arrays converted\n",
+        asked, readable, answered, pruned, converted);
 }
 
 /* The meaning of one input: an expression over fields. */
@@ -313,6 +316,11 @@ int LLVMFuzzerTestOneInput(const uint8_t *bytes, size_t size) {
     if (!slot_end[0])
         make_slots();
     taken = 0;
+    if (next(&given) % 4 == 0) {
+        convert_values(&given, guarded);
+        converted++;
+        return 0;
+    }
     uint32_t status = read_text(&given, &asking);
     asked++;
     readable += status == YK_OK;

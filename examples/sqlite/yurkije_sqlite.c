@@ -2,17 +2,29 @@
  *     yurkije(columns, expression, value, ..)
  * returns the first answer of an expression over declared columns, `a i64?, s utf8?`, with a value for each: SQLite's columns have no
  * fixed types. A truth value is 0 or 1. The expression is read once for each call site of a query, if both texts stay the same there.
- * A handle belongs to one thread: so does a connection that calls this. */
-#include <sqlite3ext.h>
-#include <yurkije.h>
+ * A handle belongs to one thread: so does a connection that calls this.
+ *
+ * Types are the library's, or words that people declare columns of SQLite with, in any case (INTEGER, REAL, TEXT, BLOB, BOOLEAN, DATE,
+ * DATETIME, TIMESTAMP, DECIMAL(p,s), NUMERIC(p,s)), each with a question mark behind its word if a row may be null. Values are taken as
+ * SQLite stores them:
+ *     f64, f32          its floats, and whole numbers that are floats; of f32 those that 32 bits hold
+ *     date              texts YYYY-MM-DD
+ *     timestamp         texts YYYY-MM-DD HH:MM:SS, or with a T, and up to six digits of a second
+ *     decimal(p,s)      texts, whole numbers, and floats next to which no other decimal of so many places is nearer
+ *     any               any value, of which an expression can ask only whether it is null
+ * Any other is an error. Answers that are dates, timestamps and decimals are such texts. SQLite has no NaN: an answer that is one is null.
+ */
+#include "yurkije_sqlite.h"
 
-#include <stdint.h>
 #include <stdlib.h>
 #include <string.h>
 
 SQLITE_EXTENSION_INIT1
 
 enum { most_columns = 32 };
+
+/* The type of columns of which only the validity is read: a number that no kind has. */
+enum { ANY = 255 };
 
 /* The state of one place of a query. */
 struct place {
@@ -21,6 +33,7 @@ struct place {
     struct yk_type answer;
     char *columns_text, *text; /* the texts that it was read from */
     struct yk_field fields[most_columns];
+    bool are_any[most_columns];
     size_t count;
 };
 
@@ -35,38 +48,91 @@ static void free_place(void *at) {
 
 static const char *past_blanks(const char *at) { return at + strspn(at, " \t\r\n"); }
 
-/* The kind of a type's name, 0 for none. */
+/* The kind of a type's word, 0 for none. */
 static uint32_t kind_named(const char *name, size_t length) {
     static const struct {
         const char *name;
         uint32_t kind;
     } kinds[] = {{"bool", YK_BOOL}, {"i8", YK_I8}, {"i16", YK_I16}, {"i32", YK_I32}, {"i64", YK_I64}, {"u8", YK_U8}, {"u16", YK_U16},
-        {"u32", YK_U32}, {"u64", YK_U64}, {"utf8", YK_UTF8}, {"binary", YK_BINARY}};
+        {"u32", YK_U32}, {"u64", YK_U64}, {"utf8", YK_UTF8}, {"binary", YK_BINARY}, {"f64", YK_F64}, {"f32", YK_F32}, {"date", YK_DATE},
+        {"timestamp", YK_TIMESTAMP}, {"decimal", YK_DECIMAL64}, {"any", ANY}, {"integer", YK_I64}, {"real", YK_F64}, {"text", YK_UTF8},
+        {"blob", YK_BINARY}, {"boolean", YK_BOOL}, {"datetime", YK_TIMESTAMP}, {"numeric", YK_DECIMAL64}};
     for (size_t i = 0; i < sizeof kinds / sizeof *kinds; i++)
-        if (strlen(kinds[i].name) == length && memcmp(kinds[i].name, name, length) == 0)
+        if (strlen(kinds[i].name) == length && sqlite3_strnicmp(kinds[i].name, name, (int)length) == 0)
             return kinds[i].kind;
     return YK_NO_KIND;
+}
+
+/* Reads the digits of a decimal's type, as `(12,2)`. NULL if they are malformed. */
+static const char *read_digits(const char *at, uint32_t *kind) {
+    char *end;
+    if (*at != '(')
+        return NULL;
+    unsigned long precision = strtoul(at + 1, &end, 10), scale = 0;
+    if (*end == ',')
+        scale = strtoul(end + 1, &end, 10);
+    if (*end != ')' || precision > 18 || scale > precision)
+        return NULL;
+    *kind = YK_DECIMAL((uint32_t)precision, (uint32_t)scale);
+    return end + 1;
 }
 
 /* Reads the declared columns: a word and a type each, with commas between. False if they are
  * malformed. */
 static int read_columns(struct place *place) {
     const char *at = past_blanks(place->columns_text);
-    while (*at && place->count < most_columns) {
-        struct yk_field *field = &place->fields[place->count++];
+    while (at && *at && place->count < most_columns) {
+        struct yk_field *field = &place->fields[place->count];
         field->name.at = at;
         field->name.length = strcspn(at, " \t\r\n,?");
         at = past_blanks(at + field->name.length);
-        size_t length = strcspn(at, " \t\r\n,?");
+        size_t length = strcspn(at, " \t\r\n,?(");
         field->kind = kind_named(at, length);
         at += length;
         field->nullable = *at == '?';
-        at = past_blanks(at + field->nullable);
+        at += field->nullable;
+        if (field->kind == YK_DECIMAL64 && !(at = read_digits(at, &field->kind)))
+            return 0;
+        at = past_blanks(at);
         if (field->name.length == 0 || field->kind == YK_NO_KIND || (*at && *at != ','))
             return 0;
+        place->are_any[place->count++] = field->kind == ANY;
         at = past_blanks(at + (*at == ','));
     }
     return *at == 0;
+}
+
+/* Reads the text with columns of any type as byte strings, but for one as truth values. */
+static uint32_t read_as(struct place *place, size_t odd, struct yk_error *error) {
+    for (size_t i = 0; i < place->count; i++)
+        if (place->are_any[i])
+            place->fields[i].kind = i == odd ? YK_BOOL : YK_BINARY;
+    uint32_t status = yk_expression_new(place->text, strlen(place->text), place->fields, place->count, &place->expression, error);
+    return status ? status : yk_answer_type(&place->expression, 0, &place->answer);
+}
+
+/* Adds to the words of an error what can be asked of a column of any type, if there is one. */
+static void add_advice(const struct place *place, struct yk_error *error) {
+    size_t length = strlen(error->message.at);
+    for (size_t i = 0; i < place->count; i++)
+        if (place->are_any[i]) {
+            snprintf(error->message.at + length, error->message.length - length,
+                "%s%.*s is of any type: it can be asked only whether it is null", length ? "; " : "", (int)place->fields[i].name.length,
+                place->fields[i].name.at);
+            return;
+        }
+}
+
+/* Reads the text. If it has the same type whatever those of columns of any type are, it only asks whether they are null. */
+static uint32_t read_text(struct place *place, struct yk_error *error) {
+    uint32_t status = read_as(place, YK_NONE, error), kind = place->answer.kind;
+    for (size_t i = 0; i < place->count && !status; i++)
+        if (place->are_any[i])
+            status = (status = read_as(place, i, error)) || place->answer.kind == kind ? status : YK_TYPE_MISMATCH;
+    if (!status)
+        return read_as(place, YK_NONE, error);
+    add_advice(place, error);
+    return status;
 }
 
 /* Reads the expression of a place; NULL after an error, which is reported. */
@@ -84,103 +150,13 @@ static struct place *read_place(sqlite3_context *context, const char *columns, c
     if (!place->columns_text || !place->text)
         sqlite3_result_error_nomem(context);
     else if (!read_columns(place))
-        sqlite3_result_error(context, "yurkije: expected columns as: a i64?, s utf8", -1);
-    else if (yk_expression_new(place->text, strlen(place->text), place->fields, place->count, &place->expression, &error))
+        sqlite3_result_error(context, "yurkije: expected columns as: a i64?, s utf8, price decimal?(12,2)", -1);
+    else if (read_text(place, &error))
         sqlite3_result_error(context, message, -1);
-    else if (yk_answer_type(&place->expression, 0, &place->answer) == YK_OK)
+    else
         return place;
     free_place(place);
     return NULL;
-}
-
-/* A value of one row, and its column's slices. */
-struct cell {
-    int64_t number;
-    int32_t ends[2];
-    uint8_t valid;
-};
-
-static int64_t least(uint32_t kind) {
-    return kind == YK_I8 ? INT8_MIN : kind == YK_I16 ? INT16_MIN : kind == YK_I32 ? INT32_MIN : kind == YK_I64 ? INT64_MIN : 0;
-}
-
-static int64_t most(uint32_t kind) {
-    static const int64_t most_of[] = {0, 1, INT8_MAX, INT16_MAX, INT32_MAX, INT64_MAX, UINT8_MAX, UINT16_MAX, UINT32_MAX, INT64_MAX};
-    return most_of[kind];
-}
-
-/* Borrows the number of a value: its bytes, little-endian, are those of each narrower type too. */
-static int borrow_number(sqlite3_value *value, struct yk_column *column, struct cell *cell) {
-    if (sqlite3_value_type(value) != SQLITE_INTEGER)
-        return 0;
-    cell->number = sqlite3_value_int64(value);
-    if (cell->number < least(column->kind) || cell->number > most(column->kind))
-        return 0;
-    return 1;
-}
-
-static void set_number(struct yk_column *column, const void *at) {
-    switch (column->kind) {
-    case YK_BOOL: column->bools = (struct yk_bytes){at, 1}; break;
-    case YK_I8: column->i8 = (struct yk_i8s){at, 1}; break;
-    case YK_I16: column->i16 = (struct yk_i16s){at, 1}; break;
-    case YK_I32: column->i32 = (struct yk_i32s){at, 1}; break;
-    case YK_I64: column->i64 = (struct yk_i64s){at, 1}; break;
-    case YK_U8: column->u8 = (struct yk_bytes){at, 1}; break;
-    case YK_U16: column->u16 = (struct yk_u16s){at, 1}; break;
-    case YK_U32: column->u32 = (struct yk_u32s){at, 1}; break;
-    default: column->u64 = (struct yk_u64s){at, 1}; break;
-    }
-}
-
-/* Borrows a value for the call. False if it is not of its field's type. */
-static int borrow(sqlite3_value *value, const struct yk_field *field, struct yk_column *column, struct cell *cell) {
-    int is_text = field->kind == YK_UTF8 || field->kind == YK_BINARY, is_null = sqlite3_value_type(value) == SQLITE_NULL;
-    *column = (struct yk_column){.kind = field->kind, .nullable = field->nullable, .rows = 1, .validity = {&cell->valid, 1}};
-    cell->valid = !is_null;
-    cell->number = 0;
-    if (!is_text) {
-        set_number(column, &cell->number);
-        return is_null || borrow_number(value, column, cell);
-    }
-    const void *bytes = sqlite3_value_type(value) == SQLITE_TEXT ? (const void *)sqlite3_value_text(value) : sqlite3_value_blob(value);
-    cell->ends[0] = 0;
-    cell->ends[1] = is_null ? 0 : sqlite3_value_bytes(value);
-    column->offsets32 = (struct yk_i32s){cell->ends, 2};
-    column->data = (struct yk_bytes){cell->ends[1] ? bytes : NULL, (size_t)cell->ends[1]};
-    return is_null || sqlite3_value_type(value) == (field->kind == YK_UTF8 ? SQLITE_TEXT : SQLITE_BLOB);
-}
-
-/* The number of a kind in the bytes of an answer. */
-static int64_t number_at(uint32_t kind, const void *at) {
-    switch (kind) {
-    case YK_BOOL: return *(const uint8_t *)at & 1;
-    case YK_I8: return *(const int8_t *)at;
-    case YK_I16: return *(const int16_t *)at;
-    case YK_I32: return *(const int32_t *)at;
-    case YK_U8: return *(const uint8_t *)at;
-    case YK_U16: return *(const uint16_t *)at;
-    case YK_U32: return *(const uint32_t *)at;
-    default: return *(const int64_t *)at;
-    }
-}
-
-/* The output buffer of an answer of one row. */
-static struct yk_room room_of(uint32_t kind, uint8_t *validity, void *values, int32_t *ends, struct yk_bytes_room data) {
-    struct yk_room room = {.kind = kind, .validity = {validity, 1}};
-    switch (kind) {
-    case YK_BOOL: room.bools = (struct yk_bytes_room){values, 1}; break;
-    case YK_I8: room.i8 = (struct yk_i8s_room){values, 1}; break;
-    case YK_I16: room.i16 = (struct yk_i16s_room){values, 1}; break;
-    case YK_I32: room.i32 = (struct yk_i32s_room){values, 1}; break;
-    case YK_I64: room.i64 = (struct yk_i64s_room){values, 1}; break;
-    case YK_U8: room.u8 = (struct yk_bytes_room){values, 1}; break;
-    case YK_U16: room.u16 = (struct yk_u16s_room){values, 1}; break;
-    case YK_U32: room.u32 = (struct yk_u32s_room){values, 1}; break;
-    case YK_U64: room.u64 = (struct yk_u64s_room){values, 1}; break;
-    default: room.offsets32 = (struct yk_i32s_room){ends, 2}; room.data = data;
-    }
-    return room;
 }
 
 /* Passes the answer to SQLite, which frees a text itself. */
@@ -208,10 +184,8 @@ static void answer(sqlite3_context *context, struct place *place) {
         sqlite3_result_text(context, bytes, ends[1], SQLITE_TRANSIENT);
     else if (kind == YK_BINARY)
         sqlite3_result_blob(context, bytes, ends[1], SQLITE_TRANSIENT);
-    else if (kind == YK_U64 && number_at(kind, values) < 0)
-        sqlite3_result_error(context, "yurkije: the answer is past SQLite's numbers", -1);
     else
-        sqlite3_result_int64(context, number_at(kind, values));
+        answer_number(context, kind, values);
     sqlite3_free(bytes);
 }
 
@@ -247,7 +221,7 @@ static void yurkije(sqlite3_context *context, int count, sqlite3_value **values)
         return;
     }
     for (size_t i = 0; i < place->count; i++)
-        if (!borrow(values[i + 2], &place->fields[i], &columns[i], &cells[i])) {
+        if (!borrow(values[i + 2], &place->fields[i], place->are_any[i], &columns[i], &cells[i])) {
             char *words =
                 sqlite3_mprintf("yurkije: a value is none of column %.*s", (int)place->fields[i].name.length, place->fields[i].name.at);
             sqlite3_result_error(context, words ? words : "out of memory", -1);

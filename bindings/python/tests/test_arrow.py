@@ -176,6 +176,22 @@ class Gdal(unittest.TestCase):
         self.assertEqual([value for batch in batches for value in batch["d"].tolist()], days)
         self.assertEqual([value for batch in batches for value in batch["late"].tolist()], [day.year > 1970 for day in days])
 
+    def test_times_of_a_layer(self):
+        # GDAL's times are milliseconds
+        self.set = ogr.GetDriverByName("Memory").CreateDataSource("rows")
+        layer = self.set.CreateLayer("rows", geom_type=ogr.wkbNone)
+        layer.CreateField(ogr.FieldDefn("at", ogr.OFTDateTime))
+        times = [datetime.datetime(1960 + row, 2, 28, row % 24, 34, 56, 789000) for row in range(100)]
+        for time in times:
+            feature = ogr.Feature(layer.GetLayerDefn())
+            feature.SetField("at", time.year, time.month, time.day, time.hour, time.minute, time.second + 0.789, 0)
+            layer.CreateFeature(feature)
+        stream = evaluate("at, at >= '2000-01-01 00:00:00' as late", Layer(layer))
+        self.assertEqual(stream.answers[0].type, "timestamp?")
+        batches = list(stream)
+        self.assertEqual([value for batch in batches for value in batch["at"].tolist()], times)
+        self.assertEqual([value for batch in batches for value in batch["late"].tolist()], [time.year >= 2000 for time in times])
+
     def test_a_csv_that_gdal_reads(self):
         with tempfile.TemporaryDirectory() as folder:
             path = os.path.join(folder, "goods.csv")

@@ -90,8 +90,21 @@ class Times(unittest.TestCase):
         day, time = datetime.date(2024, 2, 29), datetime.datetime(2024, 2, 29, 1, 2, 3)
         self.assertEqual(evaluate("d", {"d": [day, None]})["d"].tolist(), [day, None])
         self.assertEqual(evaluate("d", {"d": [time, None]})["d"].tolist(), [time, None])
-        with self.assertRaises(ColumnError):
-            evaluate("d", {"d": [time.replace(tzinfo=datetime.timezone.utc)]})
+
+    def test_times_in_zones_are_instants(self):
+        zone = datetime.timezone(datetime.timedelta(hours=2))
+        time = datetime.datetime(2024, 2, 29, 1, 2, 3, 4, zone)
+        self.assertEqual(evaluate("t", {"t": [time, None]})["t"].tolist(), [datetime.datetime(2024, 2, 28, 23, 2, 3, 4), None])
+        with self.assertRaises(ColumnError) as caught:
+            evaluate("t", {"t": [time, None, time.replace(tzinfo=None)]})
+        self.assertEqual(caught.exception.row, 2)
+
+    def test_durations_are_refused_by_name(self):
+        for values in (np.array([1, 2], "timedelta64[ns]"), [datetime.timedelta(1)], [None, np.timedelta64(1, "D")]):
+            with self.assertRaises(ColumnError) as caught:
+                evaluate("t", {"t": values})
+            self.assertIn("timedelta", caught.exception.message)
+            self.assertIn("no type of durations", caught.exception.message)
 
     def test_a_literal_that_is_no_date(self):
         with self.assertRaises(ExpressionError) as caught:
@@ -110,6 +123,43 @@ class Pandas(unittest.TestCase):
         self.assertEqual(found["y"].isna().tolist(), [False, True])
         self.assertEqual(found["t"].tolist()[0], pandas.Timestamp("2024-01-01"))
         self.assertTrue(pandas.isna(found["t"][1]))
+
+    def test_extended_floats(self):
+        for name, kind in (("Float64", "f64?"), ("Float32", "f32?")):
+            frame = pandas.DataFrame({"x": pandas.array([1.5, None, 2.5], name)})
+            answers = evaluate("x, x > 2.0 as more", frame)
+            self.assertEqual([answer.type for answer in answers.answers], [kind, "bool?"])
+            self.assertEqual(answers["more"].tolist(), [False, None, True])
+            self.assertEqual(str(answers.to_pandas()["x"].dtype), name)
+
+    def test_times_of_each_unit(self):
+        for unit in ("s", "ms", "us", "ns"):
+            frame = pandas.DataFrame({"t": pandas.Series(np.array(["2024-02-29T12:34:56", "NaT"], f"datetime64[{unit}]"))})
+            found = evaluate("t, t > '2024-01-01 00:00:00' as late", frame)
+            self.assertEqual(found["t"].tolist(), [datetime.datetime(2024, 2, 29, 12, 34, 56), None])
+            self.assertEqual(found["late"].tolist(), [True, None])
+
+    def test_times_in_zones_are_instants(self):
+        times = pandas.Series(pandas.to_datetime(["2024-02-29 12:00", None, "2024-07-01 12:00"])).dt.tz_localize("Europe/Warsaw")
+        frame = pandas.DataFrame({"t": times})
+        wanted = [datetime.datetime(2024, 2, 29, 11), None, datetime.datetime(2024, 7, 1, 10)]
+        self.assertEqual(evaluate("t", frame)["t"].tolist(), wanted)
+        self.assertEqual(Expression("t", {"t": "timestamp?"}).run(frame)["t"].tolist(), wanted)
+        self.assertEqual(Expression("t is null", frame.dtypes).columns, {"t": "timestamp"})
+        self.assertEqual(evaluate("t", {"t": pandas.DatetimeIndex(times)})["t"].tolist(), wanted)
+        self.assertEqual(evaluate("t", {"t": times.astype(object)})["t"].tolist(), wanted)
+
+    def test_lists_of_pandas_times(self):
+        time = pandas.Timestamp("2024-02-29 12:34:56.789012")
+        self.assertEqual(evaluate("t", {"t": [time, pandas.NaT, None]})["t"].tolist(), [time.to_pydatetime(), None, None])
+        with self.assertRaises(ColumnError) as caught:
+            evaluate("t", {"t": [time, time + pandas.Timedelta(1, "ns")]})
+        self.assertEqual(caught.exception.row, 1)
+
+    def test_durations_are_refused_by_name(self):
+        with self.assertRaises(ColumnError) as caught:
+            evaluate("t", pandas.DataFrame({"t": pandas.to_timedelta([1, 2], "D")}))
+        self.assertIn("no type of durations", caught.exception.message)
 
 
 if __name__ == "__main__":

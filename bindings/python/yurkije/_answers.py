@@ -9,8 +9,9 @@ from typing import TYPE_CHECKING, Any, NamedTuple, NoReturn, Union
 import numpy as np
 
 from . import _capsules as capsules
-from ._columns import FLOAT_TYPES, INTEGER_TYPES
+from ._decimals import decimals_of
 from ._library import lib
+from ._types import FLOAT_TYPES, INTEGER_TYPES, bare, decimal_named, digits_of, is_nullable, with_null
 
 
 class Answer(NamedTuple):
@@ -25,6 +26,14 @@ FORMATS: dict[bytes, str] = {
     b"C": "u8", b"S": "u16", b"I": "u32", b"L": "u64", b"u": "utf8", b"z": "binary",
     b"g": "f64", b"f": "f32", b"tdD": "date", b"tsu:": "timestamp",
 }  # fmt: skip
+
+
+def type_of_format(format: bytes, nullable: bool) -> str:
+    """Returns the type of an answer of a format of Arrow."""
+    if format[:2] == b"d:":
+        precision, scale = map(int, format[2:].split(b","))
+        return with_null(decimal_named(precision, scale), nullable)
+    return with_null(FORMATS[format], nullable)
 
 
 # The types of numbers in buffers, by numpy's.
@@ -94,9 +103,10 @@ class Answers(_Columns):
     """The answers of an expression over a batch: columns by name, in the order of the text.
 
     `answers["worth"]` is a numpy array: of bool, a whole-number type, a type of floats,
-    datetime64[D] or datetime64[us], a masked one if the answer may be null; of objects for texts and byte strings, with None for null. If two answers have one
-    name it gives the first; `column(1)` takes them by number. An object with `__arrow_c_array__`:
-    other libraries can take the answers as one struct array, over the same memory.
+    datetime64[D] or datetime64[us], a masked one if the answer may be null; of objects for texts,
+    byte strings and decimals (decimal.Decimal), with None for null. If two answers have one name it
+    gives the first; `column(1)` takes them by number. An object with `__arrow_c_array__`: other
+    libraries can take the answers as one struct array, over the same memory.
 
     `pandas.DataFrame(answers)` has the answers, as pandas reads masked arrays: whole numbers with
     nulls become floats there, and past 2**53 are rounded. `to_pandas()` keeps the types.
@@ -128,7 +138,7 @@ class Answers(_Columns):
         if not 0 <= number < len(self.answers):
             raise IndexError(f"no answer {number} of {len(self.answers)}")
         array = self._held.raw.children[number].contents
-        kind, rows = self.answers[number].type.rstrip("?"), self.rows
+        kind, rows = bare(self.answers[number].type), self.rows
         nulls = None
         if array.buffers[0]:
             bits = self._held.bytes_at(array.buffers[0], (rows + 7) // 8)
@@ -137,6 +147,11 @@ class Answers(_Columns):
             offsets = self._held.bytes_at(array.buffers[1], 4 * (rows + 1)).view(np.int32)
             data = c.string_at(array.buffers[2], int(offsets[-1])) if offsets[-1] else b""
             return _texts(offsets, data, kind == "utf8", nulls)
+        digits = digits_of(kind)
+        if digits:
+            # of 128 bits, of which the lower ones are the number
+            words = self._held.bytes_at(array.buffers[1], 16 * rows).view(np.int64)
+            return decimals_of(words[::2], digits[1], nulls)
         if kind == "bool":
             bits = self._held.bytes_at(array.buffers[1], (rows + 7) // 8)
             values = np.unpackbits(bits, count=rows, bitorder="little").view(np.bool_)
@@ -145,14 +160,14 @@ class Answers(_Columns):
             values = self._held.bytes_at(array.buffers[1], rows * dtype.itemsize).view(dtype)
             if kind == "date":
                 values = values.astype(np.int64).view("datetime64[D]")
-        if self.answers[number].type.endswith("?"):
+        if is_nullable(self.answers[number].type):
             return np.ma.MaskedArray(values, np.ma.nomask if nulls is None else nulls)
         return values
 
     def to_pandas(self) -> Any:
         """Returns the answers as a frame of pandas, by name: whole numbers and truth values that
-        may be null have pandas' nullable types, as Int64, Float64 and boolean, texts are objects with
-        None, and times have NaT."""
+        may be null have pandas' nullable types, as Int64, Float64 and boolean, texts and decimals are
+        objects with None, and times have NaT."""
         pandas = importlib.import_module("pandas")
         columns = {number: self._for_pandas(pandas, self.column(number)) for number in range(len(self.answers))}
         frame = pandas.DataFrame(columns, index=range(self.rows))

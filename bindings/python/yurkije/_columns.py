@@ -4,6 +4,7 @@ from __future__ import annotations
 
 import ctypes as c
 import datetime
+import decimal
 from collections.abc import Sequence
 from contextlib import suppress
 from itertools import repeat
@@ -13,20 +14,15 @@ from typing import Any, Optional
 import numpy as np
 
 from . import _capsules as capsules
+from . import _decimals as decimals
 from ._errors import ColumnError, ExpressionError, Told
-from ._library import KINDS, LARGE, NAMES, Column, Field, Slice, lib
+from ._library import LARGE, Column, Field, Slice, lib
+from ._types import (
+    DURATION, FLOAT_TYPES, FLOATS, INTEGER_TYPES, INTEGERS, SLOTS, TIMES, digits_of, is_decimal, is_duration, is_nullable, is_of,
+    is_pandas_null, name_of_number, number_of, type_of_class, with_null, words_of_class, zone_of,
+)  # fmt: skip
 
-SCOPE_MISMATCH, NAME_TWICE, UNKNOWN_TYPE, UNTAKEN = 11, 111, 113, 140
-# The types of whole numbers, by numpy's.
-INTEGERS: dict[Any, str] = {np.dtype(f"{kind}{size}"): f"{kind}{8 * size}" for kind in "iu" for size in (1, 2, 4, 8)}
-INTEGER_TYPES: dict[str, Any] = {name: dtype for dtype, name in INTEGERS.items()}
-# The types of floats, by numpy's, and the slots of a column in which they and times are lent.
-FLOATS: dict[Any, str] = {np.dtype("f8"): "f64", np.dtype("f4"): "f32"}
-FLOAT_TYPES: dict[str, Any] = {name: dtype for dtype, name in FLOATS.items()}
-TIMES = ("date", "timestamp")
-SLOTS: dict[str, str] = {"f64": "i64", "f32": "i32", "date": "i32", "timestamp": "i64"}
-# The Arrow kinds of each type.
-LAYOUTS: dict[int, int] = {11: 10, 12: 10, 14: 13, 15: 13}
+SCOPE_MISMATCH, NAME_TWICE, UNTAKEN = 11, 111, 140
 
 
 class Borrowed:
@@ -35,7 +31,7 @@ class Borrowed:
     __slots__ = ("raw", "type", "nullable", "keeps")
 
     def __init__(self, type_name: str, rows: int) -> None:
-        self.raw = Column(KINDS[type_name], False, rows)
+        self.raw = Column(number_of(type_name), False, rows)
         self.type = type_name
         self.nullable = False
         self.keeps: list[Any] = []
@@ -158,46 +154,23 @@ def _of_texts(values: list[Optional[str]], has_null: bool) -> Borrowed:
     return _of_bytes([None if value is None else value.encode() for value in values], has_null, "utf8")
 
 
-# The types of single values by their classes, in the order of the tests; INTEGERS has those of
-# numpy's whole numbers.
-CLASSES: tuple[tuple[Any, str], ...] = (
-    (bool, "bool"), (np.bool_, "bool"), (int, "i64"), (str, "utf8"), (bytes, "binary"), (float, "f64"), (np.float32, "f32"),
-    (datetime.datetime, "timestamp"), (datetime.date, "date"),
-)  # fmt: skip
-
-
-def _type_of(cls: type) -> Optional[str]:
-    """Returns the type of the values of a class, or None if it is not supported."""
-    if issubclass(cls, np.integer):
-        return INTEGERS.get(np.dtype(cls))
-    return next((name for base, name in CLASSES if issubclass(cls, base)), None)
-
-
-def _is_of(cls: type, kind: str) -> bool:
-    """Whether values of a class may have a type: whole numbers of each class may have each integer
-    type, and floats of each class each type of floats."""
-    found = _type_of(cls)
-    return found == kind or any(kind in types and found in types for types in (INTEGER_TYPES, FLOAT_TYPES))
-
-
-def _is_pandas_null(cls: type) -> bool:
-    """Whether a class is that of `pandas.NA`."""
-    return cls.__name__ == "NAType" and cls.__module__.startswith("pandas.")
-
-
 def _with_none(values: list[Any]) -> tuple[list[Any], set[type]]:
-    """Returns values with None for NaN and `pandas.NA`, and their classes."""
+    """Returns values with None for NaN, of floats and of decimals, and `pandas.NA` and `NaT`, and their classes."""
     classes = set(map(type, values))
     floats = {cls for cls in classes if issubclass(cls, (float, np.floating))}
-    nulls = {cls for cls in classes if _is_pandas_null(cls)}
-    if floats or nulls:
-        values = [None if type(it) in nulls or (type(it) in floats and it != it) else it for it in values]
+    exact = {cls for cls in classes if issubclass(cls, decimal.Decimal)}
+    nulls = {cls for cls in classes if is_pandas_null(cls)}
+    if floats or nulls or exact:
+        values = [
+            None if type(it) in nulls or (type(it) in floats and it != it) or (type(it) in exact and it.is_nan()) else it
+            for it in values
+        ]
         classes = set(map(type, values))
     return values, classes
 
 
 def _of_objects(name: str, values: list[Any], wanted: Optional[str], nan_is_null: bool) -> Borrowed:
-    """A list of one type and of nulls: None, NaN but among floats, and `pandas.NA`. Without an expected
+    """A list of one type and of nulls: None, NaN but among floats, `pandas.NA` and `NaT`. Without an expected
     type, the first value that is not null determines it."""
     if wanted in (None, "utf8") and values and type(values[0]) is str:
         # joining is a faster test of whether all are texts
@@ -207,18 +180,20 @@ def _of_objects(name: str, values: list[Any], wanted: Optional[str], nan_is_null
     has_null = type(None) in classes
     classes.discard(type(None))
     kind = wanted or _first_type(name, held)
-    if not all(_is_of(cls, kind) for cls in classes):
-        row = next(row for row, value in enumerate(held) if value is not None and not _is_of(type(value), kind))
-        raise refuse(name, f"{held[row]!r} is no {kind}, but {_words_of(type(held[row]))}", row)
+    if not all(is_of(cls, kind) for cls in classes):
+        row = next(row for row, value in enumerate(held) if value is not None and not is_of(type(value), kind))
+        raise refuse(name, f"{held[row]!r} is no {kind}, but {words_of_class(type(held[row]))}", row)
     if kind == "utf8":
         return _of_texts(held, has_null)
     if kind == "binary":
         return _of_bytes(held, has_null, "binary")
     nulls = _nulls_of(held) if has_null else None
+    if is_decimal(kind):
+        return _of_decimals(name, held, nulls, wanted)
     if kind in FLOAT_TYPES:
         floats = np.array([np.nan if value is None else value for value in held], FLOAT_TYPES[kind])
         if has_null and not nan_is_null:
-            nulls = np.fromiter((value is None or _is_pandas_null(type(value)) for value in values), np.bool_, len(values))
+            nulls = np.fromiter((value is None or is_pandas_null(type(value)) for value in values), np.bool_, len(values))
             return _of_floats(floats, nulls if nulls.any() else None, kind, False)
         return _of_floats(floats, nulls, kind, nan_is_null)
     if kind in TIMES:
@@ -231,17 +206,35 @@ def _of_objects(name: str, values: list[Any], wanted: Optional[str], nan_is_null
     return _of_numbers(name, held, nulls, kind)
 
 
+def _of_decimals(name: str, values: list[Any], nulls: Optional[Any], wanted: Optional[str]) -> Borrowed:
+    """Decimals, and whole numbers among them, each of which must fit the type: without an expected one, that of as
+    many digits as are needed."""
+    kind, wrong = (wanted, None) if wanted else decimals.inferred(values)
+    digits = digits_of(kind or "")
+    numbers = None
+    if digits:
+        numbers, wrong = decimals.numbers_of(values, *digits)
+    if wrong:
+        raise refuse(name, wrong[1], wrong[0])
+    column = Borrowed(kind or "", len(values))
+    column.lend("i64", numbers)
+    column.mask(nulls)
+    return column
+
+
 def _times_of(name: str, values: list[Any], kind: str) -> Any:
-    """Returns dates or times of Python as an array. A time in a zone is an error."""
+    """Returns dates or times of Python as an array. Times in a zone are instants, in UTC; with times that have none
+    they are an error, and so are the nanoseconds of pandas' times."""
     for row, value in enumerate(values):
-        if getattr(value, "tzinfo", None) is not None:
-            raise refuse(name, f"{value} has a time zone", row)
+        if getattr(value, "nanosecond", 0):
+            raise refuse(name, f"{value} is no {kind}", row)
+    zoned = [getattr(value, "tzinfo", None) is not None for value in values]
+    if any(zoned):
+        wrong = next((row for row, value in enumerate(values) if value is not None and not zoned[row]), None)
+        if wrong is not None:
+            raise refuse(name, f"{values[wrong]} has no time zone, and others have one", wrong)
+        values = [value and value.astimezone(datetime.timezone.utc).replace(tzinfo=None) for value in values]
     return np.array(["NaT" if value is None else value for value in values], "datetime64[D]" if kind == "date" else "datetime64[us]")
-
-
-def _words_of(cls: type) -> str:
-    """Returns the type of a class, or its name if it is not supported."""
-    return _type_of(cls) or cls.__name__
 
 
 def _first_type(name: str, values: list[Any]) -> str:
@@ -250,9 +243,9 @@ def _first_type(name: str, values: list[Any]) -> str:
     if first is None:
         words = "every row is null" if values else "there is no row"
         raise refuse(name, f'{words}, and no type is said; say it, as Expression(text, {{"{name}": "i64?"}}), or hand over a numpy array')
-    found = _type_of(type(first))
+    found = type_of_class(type(first))
     if found is None:
-        raise refuse(name, f"{type(first).__name__} is not taken")
+        raise refuse(name, f"{type(first).__name__} is not taken" + (f": {DURATION}" if is_duration(type(first)) else ""))
     return found
 
 
@@ -281,6 +274,8 @@ def _of_array(name: str, array: Any, wanted: Optional[str], nan_is_null: bool) -
         return _of_floats(values, nulls, FLOATS[native], nan_is_null)
     if values.dtype.kind == "M":
         return _of_times(name, values, nulls, wanted)
+    if values.dtype.kind == "m":
+        raise refuse(name, f"numpy's {values.dtype} is not taken: {DURATION}")
     if values.dtype.kind in "OUS":
         held = values.tolist()
         if nulls is not None:
@@ -296,6 +291,9 @@ def _of_series(name: str, series: Any, wanted: Optional[str], nan_is_null: bool)
     are null."""
     if isinstance(series.dtype, np.dtype) and series.dtype != object:
         return _of_array(name, series.to_numpy(), wanted, nan_is_null)
+    if zone_of(series.dtype):
+        # as instants, in UTC
+        return _of_array(name, series.to_numpy(dtype=f"datetime64[{getattr(series.dtype, 'unit', 'ns')}]"), wanted, nan_is_null)
     nulls = np.asarray(series.isna(), dtype=np.bool_)
     numbers = getattr(series.dtype, "numpy_dtype", None)
     if numbers in INTEGERS or numbers in FLOATS or numbers == np.bool_:
@@ -324,7 +322,7 @@ def _of_arrow(name: str, array: Any) -> Borrowed:
         error.column = name
         raise
     column.keeps += [schema_capsule, array_capsule, buffers]
-    column.type = NAMES[LAYOUTS.get(column.raw.kind, column.raw.kind)]
+    column.type = name_of_number(column.raw.kind)
     column.nullable = bool(column.raw.nullable)
     return column
 
@@ -338,9 +336,17 @@ def borrow(name: str, values: Any, wanted: Optional[str] = None, nan_is_null: bo
     is a value, or null with `nan_is_null`.
     """
     column = _borrowed(name, values, wanted, nan_is_null)
+    if wanted and _is_narrower(column.type, wanted):
+        column.type, column.raw.kind = wanted, number_of(wanted)
     if wanted not in (None, column.type):
         raise ColumnError(SCOPE_MISMATCH, f'column "{name}" is {column.type}, and the expression has {wanted}', name)
     return column
+
+
+def _is_narrower(kind: str, wanted: str) -> bool:
+    """Whether a type is that of decimals of fewer digits and the same places, whose values are stored alike."""
+    found, other = digits_of(kind), digits_of(wanted)
+    return found is not None and other is not None and found[0] < other[0] and found[1] == other[1]
 
 
 def _borrowed(name: str, values: Any, wanted: Optional[str], nan_is_null: bool) -> Borrowed:
@@ -376,30 +382,7 @@ def column_of(columns: Any, name: str) -> Any:
 
 def type_of(column: Borrowed) -> str:
     """Returns the type of a column, with a question mark if it may have nulls."""
-    return column.type + "?" * column.nullable
-
-
-def type_said(name: str, said: Any) -> str:
-    """Returns the declared type of a column: by its name, as `i64?`, or by a type of numpy or
-    pandas, as `np.dtype("i8")`."""
-    found = said if isinstance(said, str) else _type_of_dtype(said)
-    if found is None or found.removesuffix("?") not in KINDS:
-        told = f'"{said}"' if isinstance(said, str) else repr(said)
-        words = f'column "{name}": no type {told}; types are {", ".join(KINDS)}, each with ? where a row may be null'
-        raise ExpressionError(UNKNOWN_TYPE, words, name)
-    return found
-
-
-def _type_of_dtype(said: Any) -> Optional[str]:
-    """Returns the type for a dtype of numpy or pandas, or for a class of single values."""
-    if hasattr(said, "numpy_dtype"):
-        # of pandas, which has null
-        found = _type_of_dtype(said.numpy_dtype)
-        return found and found + "?"
-    if isinstance(said, np.dtype) and said.kind == "M":
-        return "date" if np.datetime_data(said) == ("D", 1) else "timestamp"
-    cls = said.type if isinstance(said, np.dtype) else said
-    return _type_of(cls) if isinstance(cls, type) else None
+    return with_null(column.type, column.nullable)
 
 
 def fields_of(types: Sequence[tuple[str, str]]) -> tuple[Any, list[Any]]:
@@ -411,5 +394,5 @@ def fields_of(types: Sequence[tuple[str, str]]) -> tuple[Any, list[Any]]:
         room = c.create_string_buffer(encoded, len(encoded) + 1)
         keeps.append(room)
         field.name.at, field.name.length = c.addressof(room), len(encoded)
-        field.kind, field.nullable = KINDS[type_name.removesuffix("?")], type_name.endswith("?")
+        field.kind, field.nullable = number_of(type_name), is_nullable(type_name)
     return fields, keeps

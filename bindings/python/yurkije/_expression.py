@@ -11,11 +11,12 @@ from typing import Any, Callable, Optional, TypeVar, Union
 import numpy as np
 
 from . import _capsules as capsules
-from ._answers import Answer, Answers, Held
-from ._columns import Borrowed, borrow, column_of, fields_of, name_of, type_of, type_said
+from ._answers import Answer, Answers, Held, type_of_format
+from ._columns import Borrowed, borrow, column_of, fields_of, name_of, type_of
 from ._errors import Error, ExpressionError, Told, error_of
-from ._library import NAMES, Column, Handle, Type, lib, text_of
+from ._library import Column, Handle, Type, lib, text_of
 from ._pruning import Verdicts, verdicts_of
+from ._types import bare, is_nullable, name_of_number, type_said, with_null
 
 # A token of an expression that can name a column, or hide one: a text, a comment, `::`, a word, with a bracket if it is a function's, a
 # name in quotes. A comment ends at a line feed or a carriage return, or where its brackets close, which nest.
@@ -154,9 +155,9 @@ class Expression:
     >>> worth.answers
     (Answer(name='worth', type='i64?'), Answer(name='price > 100', type='bool'))
 
-    `columns` has the type of each column: bool, i8 to i64, u8 to u64, utf8, binary, f64, f32, date
-    or timestamp, with a question mark if a row may be null; or a type of numpy or pandas, as
-    `np.dtype("i8")`. Columns
+    `columns` has the type of each column: bool, i8 to i64, u8 to u64, utf8, binary, f64, f32, date,
+    timestamp or decimal(p,s), with a question mark behind the word if a row may be null, as i64? or
+    decimal?(12,2); or a type of numpy or pandas, as `np.dtype("i8")`. Columns
     that the text does not name may have any type. docs/EXPRESSIONS.md has the language.
 
     Threads may share an Expression: the first call in each reads the text anew, since a handle of
@@ -249,7 +250,7 @@ class Expression:
         for number in range(count.value):
             kind = Type()
             type_of_it(handle, number, c.byref(kind))
-            yield text_of(name_of, handle, number), NAMES.get(kind.kind, "none") + "?" * kind.nullable
+            yield text_of(name_of, handle, number), with_null(name_of_number(kind.kind), kind.nullable)
 
     def _fields(self) -> list[tuple[str, str]]:
         return list(self._typed(lib.yk_field_count, lib.yk_field_name, lib.yk_field_type))
@@ -268,11 +269,11 @@ class Expression:
 
     @staticmethod
     def _lent(column: Borrowed, kind: str) -> Borrowed:
-        column.raw.nullable = kind.endswith("?")
+        column.raw.nullable = is_nullable(kind)
         return column
 
     def _borrowed(self, source: Any, nan_is_null: bool) -> list[Borrowed]:
-        return [self._lent(borrow(name, column_of(source, name), kind.rstrip("?"), nan_is_null), kind) for name, kind in self._read]
+        return [self._lent(borrow(name, column_of(source, name), bare(kind), nan_is_null), kind) for name, kind in self._read]
 
     def _schema_capsule(self) -> object:
         capsule, schema = capsules.new(b"arrow_schema")
@@ -329,7 +330,7 @@ class Expression:
         if not 0 <= answer < len(self.answers):
             raise Error(101, f"there is no answer {answer}, of {len(self.answers)}, from 0 on")
         name, kind = self.answers[answer]
-        if kind.rstrip("?") != "bool":
+        if bare(kind) != "bool":
             raise Error(103, f'answer {answer}, "{name}", is {kind}, and rows are taken where a bool is true')
 
     def _true(self, batch: Any, answer: int) -> Any:
@@ -394,13 +395,11 @@ class Stream:
         return capsule
 
     def _types(self) -> Iterator[tuple[str, str]]:
-        from ._answers import FORMATS
-
         capsule = self._schema_capsule()
         schema = capsules.struct_in(capsule, b"arrow_schema")
         for number in range(schema.n_children):
             child = schema.children[number].contents
-            yield child.name.decode(), FORMATS[child.format] + "?" * bool(child.flags & 2)
+            yield child.name.decode(), type_of_format(child.format, bool(child.flags & 2))
 
     def _check(self, code: int) -> None:
         if code:

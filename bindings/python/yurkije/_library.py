@@ -57,6 +57,7 @@ STATUSES: dict[int, str] = {
     140: "UntakenFormat",
     141: "MalformedArray",
     142: "StreamFailed",
+    143: "UntakenValue",
 }
 
 # The types of fields and answers by name, and the kinds of yurkije.h.
@@ -77,6 +78,8 @@ KINDS: dict[str, int] = {
     "date": 18,
     "timestamp": 19,
 }
+# The last byte of a kind of decimals: see YK_DECIMAL.
+DECIMAL = 20
 NAMES: dict[int, str] = {kind: name for name, kind in KINDS.items()}
 LARGE: dict[str, int] = {"utf8": 11, "binary": 14}
 

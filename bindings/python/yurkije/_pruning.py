@@ -10,6 +10,7 @@ import numpy as np
 from ._columns import Borrowed, borrow, column_of, name_of
 from ._errors import ColumnError, Told
 from ._library import Handle, Rooms, Statistics, lib
+from ._types import bare
 
 UNEXPECTED_NULL = 124
 UNKNOWN, NONE_TRUE, ALL_TRUE = range(3)
@@ -68,7 +69,7 @@ def _statistics_of(fields: Sequence[tuple[str, str]], parts: tuple[Any, Any, Any
     low, high, nulls = parts
     made, keeps = (Statistics * max(len(fields), 1))(), []
     for statistics, (name, kind) in zip(made, fields):
-        given = [(part, borrow(name, column_of(ends, name), kind.rstrip("?"))) for part, ends in (("low", low), ("high", high)) if _has(ends, name)]
+        given = [(part, borrow(name, column_of(ends, name), bare(kind))) for part, ends in (("low", low), ("high", high)) if _has(ends, name)]
         if _has(nulls, name):
             given.append(("nulls", _counts_of(name, column_of(nulls, name))))
         for part, column in given:

@@ -34,6 +34,43 @@ pub struct Integers<T> {
     pub values: Vec<T>,
 }
 
+/// A decimal: so many units of its last place, of `scale` digits after the point. 12.50 is 1250 units in two places.
+#[derive(Clone, Copy, Debug, PartialEq, Eq, Hash)]
+pub struct Decimal {
+    pub units: i64,
+    pub scale: u8,
+}
+
+/// All digits after the point, and one before it at least: `12.50`, `-0.05`, `7`.
+impl std::fmt::Display for Decimal {
+    fn fmt(&self, out: &mut std::fmt::Formatter<'_>) -> std::fmt::Result {
+        let places = usize::from(self.scale);
+        let digits = format!("{:0width$}", self.units.unsigned_abs(), width = places + 1);
+        let (whole, rest) = digits.split_at(digits.len() - places);
+        let sign = if self.units < 0 { "-" } else { "" };
+        out.pad(&if places == 0 { format!("{sign}{whole}") } else { format!("{sign}{whole}.{rest}") })
+    }
+}
+
+/// An answer of decimals.
+#[derive(Clone, Debug, PartialEq, Eq)]
+pub struct Decimals {
+    pub validity: Vec<u8>,
+    /// A number of units of the last place for each row; arbitrary where it is null.
+    pub units: Vec<i64>,
+    /// How many digits the type tells, 1 to 18. It is not checked that each value has no more.
+    pub precision: u8,
+    pub scale: u8,
+}
+
+impl Decimals {
+    /// The rows, `None` for null.
+    pub fn iter(&self) -> impl Iterator<Item = Option<Decimal>> + '_ {
+        let decimal = move |(row, units): (usize, &i64)| bit(&self.validity, row).then_some(Decimal { units: *units, scale: self.scale });
+        self.units.iter().enumerate().map(decimal)
+    }
+}
+
 /// An answer of truth values.
 #[derive(Clone, Debug, PartialEq, Eq)]
 pub struct Bools {
@@ -138,6 +175,18 @@ impl Answers {
     /// The answer of that number, of timestamps: microseconds since 1970-01-01T00:00:00.
     pub fn timestamps(&self, answer: usize) -> Result<Integers<i64>, Error> {
         self.numbers(answer, Kind::Timestamp, i64::make_room)
+    }
+
+    /// The answer of that number, of decimals.
+    pub fn decimals(&self, answer: usize) -> Result<Decimals, Error> {
+        match self.kinds.get(answer) {
+            Some(&kind @ Kind::Decimal { precision, scale }) => {
+                let Integers { validity, values: units } = self.numbers(answer, kind, i64::make_room)?;
+                Ok(Decimals { validity, units, precision, scale })
+            }
+            Some(_) => Err(Error::Use { status: Status::OtherKind }),
+            None => Err(Error::Use { status: Status::NoSuchNumber }),
+        }
     }
 
     fn numbers<T: Copy + Default>(

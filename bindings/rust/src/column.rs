@@ -1,4 +1,4 @@
-//! Borrowed columns, and owned columns.
+//! Types, and borrowed columns.
 use crate::raw;
 
 /// The types of fields, columns and answers.
@@ -22,7 +22,13 @@ pub enum Kind {
     Date,
     /// Microseconds since 1970-01-01T00:00:00.
     Timestamp,
-    /// A list, a struct or a decimal, which no call copies.
+    /// Decimals of at most `precision` digits, 1 to 18, the last `scale` of them after the point, as whole numbers of
+    /// the last place: 12.50 in two places is 1250. Another precision or scale is an error where an expression is read.
+    Decimal {
+        precision: u8,
+        scale: u8,
+    },
+    /// A list or a struct, which no call copies.
     Other,
 }
 
@@ -53,12 +59,22 @@ pub(crate) const UTF8_VIEW: u32 = 12;
 pub(crate) const LARGE_BINARY: u32 = 14;
 pub(crate) const BINARY_VIEW: u32 = 15;
 
+/// The last byte of a kind of decimals.
+const DECIMAL: u32 = 20;
+
 impl Kind {
     pub(crate) fn number(self) -> u32 {
+        if let Kind::Decimal { precision, scale } = self {
+            return DECIMAL + 256 * u32::from(precision) + 65536 * u32::from(scale);
+        }
         KINDS.iter().find(|(_, kind)| *kind == self).map_or(0, |(number, _)| *number)
     }
 
     pub(crate) fn of(number: u32) -> Kind {
+        let [last, precision, scale, _] = number.to_le_bytes();
+        if u32::from(last) == DECIMAL {
+            return Kind::Decimal { precision, scale };
+        }
         KINDS.iter().find(|(other, _)| *other == number).map_or(Kind::Other, |(_, kind)| *kind)
     }
 }
@@ -169,7 +185,7 @@ pub struct Column<'a> {
 }
 
 impl<'a> Column<'a> {
-    fn new(kind: u32, rows: usize) -> Column<'a> {
+    pub(crate) fn new(kind: u32, rows: usize) -> Column<'a> {
         Column { raw: raw::Column { kind, rows, ..Default::default() } }
     }
 
@@ -206,6 +222,22 @@ impl<'a> Column<'a> {
     pub fn timestamps(microseconds: &'a [i64]) -> Column<'a> {
         let mut column = Column::new(Kind::Timestamp.number(), microseconds.len());
         column.raw.i64 = microseconds.into();
+        column
+    }
+
+    /// Decimals of so many digits, the last `scale` of them after the point, as whole numbers of the last place.
+    ///
+    /// ```
+    /// # use yurkije::{Column, Expression, Field, Kind};
+    /// let expression = Expression::new("price * 2", &[Field::new("price", Kind::Decimal { precision: 12, scale: 2 })])?;
+    /// let answers = expression.run(&[Column::decimals(&[1250, -5], 12, 2)], 2)?;
+    /// let twice: Vec<String> = answers.decimals(0)?.iter().flatten().map(|price| price.to_string()).collect();
+    /// assert_eq!(twice, ["25.00", "-0.10"]);
+    /// # Ok::<(), yurkije::Error>(())
+    /// ```
+    pub fn decimals(units: &'a [i64], precision: u8, scale: u8) -> Column<'a> {
+        let mut column = Column::new(Kind::Decimal { precision, scale }.number(), units.len());
+        column.raw.i64 = units.into();
         column
     }
 
@@ -296,139 +328,5 @@ impl<'a> Buffers<'a> {
     /// These buffers, in their order.
     pub fn new(buffers: impl IntoIterator<Item = &'a [u8]>) -> Buffers<'a> {
         Buffers(buffers.into_iter().map(raw::Slice::from).collect())
-    }
-}
-
-/// Bits, one for each row.
-#[derive(Clone, Debug, Default, PartialEq, Eq)]
-struct Bits {
-    bytes: Vec<u8>,
-    rows: usize,
-}
-
-impl Bits {
-    fn push(&mut self, bit: bool) {
-        if self.rows % 8 == 0 {
-            self.bytes.push(0);
-        }
-        self.bytes[self.rows / 8] |= u8::from(bit) << (self.rows % 8);
-        self.rows += 1;
-    }
-}
-
-/// A column made from values, some of them null. It owns its buffers.
-///
-/// ```
-/// use yurkije::ColumnBuf;
-/// let stocks = ColumnBuf::integers([Some(7i64), None]);
-/// let names = ColumnBuf::texts([Some("nut"), Some("bolt")]).expect("short");
-/// assert_eq!(stocks.column().rows() + names.column().rows(), 4);
-/// ```
-///
-/// Its rows can be null: `column` borrows it for a nullable field, `column_without_null` for one that is not.
-#[derive(Clone, Debug)]
-pub struct ColumnBuf<T> {
-    validity: Bits,
-    values: Vec<T>,
-    data: Vec<u8>,
-    kind: Kind,
-}
-
-impl<T: Integer> ColumnBuf<T> {
-    /// Whole numbers.
-    pub fn integers(values: impl IntoIterator<Item = Option<T>>) -> ColumnBuf<T> {
-        let mut made = ColumnBuf { validity: Bits::default(), values: Vec::new(), data: Vec::new(), kind: T::KIND };
-        for value in values {
-            made.validity.push(value.is_some());
-            made.values.push(value.unwrap_or_default());
-        }
-        made
-    }
-}
-
-/// The buffers of texts by offsets.
-#[derive(Clone, Copy, Debug)]
-#[repr(transparent)]
-pub struct Offset(i32);
-
-impl ColumnBuf<Offset> {
-    /// Texts; `None` if they have more than 2,147,483,647 bytes together.
-    pub fn texts<'t>(values: impl IntoIterator<Item = Option<&'t str>>) -> Option<ColumnBuf<Offset>> {
-        ColumnBuf::collect(Kind::Utf8, values.into_iter().map(|value| value.map(str::as_bytes)))
-    }
-
-    /// Byte strings.
-    pub fn byte_strings<'t>(values: impl IntoIterator<Item = Option<&'t [u8]>>) -> Option<ColumnBuf<Offset>> {
-        ColumnBuf::collect(Kind::Binary, values.into_iter())
-    }
-
-    fn collect<'t>(kind: Kind, values: impl Iterator<Item = Option<&'t [u8]>>) -> Option<ColumnBuf<Offset>> {
-        let mut made = ColumnBuf { validity: Bits::default(), values: vec![Offset(0)], data: Vec::new(), kind };
-        for value in values {
-            made.validity.push(value.is_some());
-            made.data.extend_from_slice(value.unwrap_or(&[]));
-            made.values.push(Offset(i32::try_from(made.data.len()).ok()?));
-        }
-        Some(made)
-    }
-}
-
-/// The buffers of truth values.
-#[derive(Clone, Copy, Debug)]
-pub struct Truth;
-
-impl ColumnBuf<Truth> {
-    /// Truth values.
-    pub fn bools(values: impl IntoIterator<Item = Option<bool>>) -> ColumnBuf<Truth> {
-        let mut made = ColumnBuf { validity: Bits::default(), values: Vec::new(), data: Vec::new(), kind: Kind::Bool };
-        let mut bits = Bits::default();
-        for value in values {
-            made.validity.push(value.is_some());
-            bits.push(value.unwrap_or(false));
-        }
-        made.data = bits.bytes;
-        made
-    }
-}
-
-/// The buffers of a `ColumnBuf`.
-pub trait Stored: Sized {
-    #[doc(hidden)]
-    fn lend<'a>(values: &'a [Self], data: &'a [u8], column: &mut raw::Column<'a>);
-}
-
-impl<T: Integer> Stored for T {
-    fn lend<'a>(values: &'a [Self], _data: &'a [u8], column: &mut raw::Column<'a>) {
-        T::lend(values, column);
-    }
-}
-
-impl Stored for Offset {
-    fn lend<'a>(values: &'a [Self], data: &'a [u8], column: &mut raw::Column<'a>) {
-        // SAFETY: an `Offset` is exactly an `i32`.
-        let offsets = unsafe { std::slice::from_raw_parts(values.as_ptr().cast::<i32>(), values.len()) };
-        column.offsets32 = offsets.into();
-        column.data = data.into();
-    }
-}
-
-impl Stored for Truth {
-    fn lend<'a>(_values: &'a [Self], data: &'a [u8], column: &mut raw::Column<'a>) {
-        column.bools = data.into();
-    }
-}
-
-impl<T: Stored> ColumnBuf<T> {
-    /// The column of a field whose rows can be null.
-    pub fn column(&self) -> Column<'_> {
-        self.column_without_null().nullable(Some(&self.validity.bytes))
-    }
-
-    /// The column of a field that is not nullable: a null is an error when it is run.
-    pub fn column_without_null(&self) -> Column<'_> {
-        let mut column = Column::new(self.kind.number(), self.validity.rows);
-        column.raw.validity = self.validity.bytes[..].into();
-        T::lend(&self.values, &self.data, &mut column.raw);
-        column
     }
 }

@@ -31,11 +31,13 @@ mod answers;
 mod column;
 mod error;
 mod expression;
+mod owned;
 mod pruning;
 mod raw;
 
-pub use answers::{Answers, Bools, ByteStrings, Integers};
-pub use column::{Buffers, Column, ColumnBuf, Field, Float, Integer, Kind, Offset, Stored, Truth, Type};
+pub use answers::{Answers, Bools, ByteStrings, Decimal, Decimals, Integers};
+pub use column::{Buffers, Column, Field, Float, Integer, Kind, Type};
 pub use error::{Error, Place, Status, STATUSES};
 pub use expression::{is_compatible, version, Expression};
+pub use owned::{ColumnBuf, Offset, Stored, Truth};
 pub use pruning::{Pruned, Statistics, Verdict};

@@ -1,5 +1,5 @@
 //! The crate from a caller's side. Expected values are by hand.
-use yurkije::{Buffers, Column, ColumnBuf, Error, Expression, Field, Kind, Statistics, Status, Type, Verdict, STATUSES};
+use yurkije::{Buffers, Column, ColumnBuf, Decimal, Error, Expression, Field, Kind, Statistics, Status, Type, Verdict, STATUSES};
 
 fn prices() -> Vec<i64> {
     vec![3, 12, 40]
@@ -133,6 +133,53 @@ fn floats_and_times_come_out_as_they_go_in() -> Result<(), Error> {
     assert_eq!(answers.mask(4)?, [true, false, true]);
     assert!(answers.integers::<i64>(0).is_err());
     assert!(expression.run(&[Column::integers(&t), columns[1], columns[2], columns[3]], 3).is_err());
+    Ok(())
+}
+
+#[test]
+fn decimals_come_out_as_they_go_in() -> Result<(), Error> {
+    let price = Kind::Decimal { precision: 12, scale: 2 };
+    let fields = [Field::nullable("price", price), Field::new("rate", Kind::Decimal { precision: 5, scale: 4 })];
+    let expression = Expression::new("price, price + 0.125 as more, price * rate, price > 10 as dear, -rate", &fields)?;
+    assert_eq!(expression.fields()?[0].1, Type { kind: price, nullable: true });
+    assert_eq!(expression.answers()?[1].1, Type { kind: Kind::Decimal { precision: 18, scale: 3 }, nullable: true });
+    let prices = ColumnBuf::decimals([Some(1250), None, Some(-5), Some(i64::MAX / 100_000)], 12, 2);
+    let answers = expression.run(&[prices.column(), Column::decimals(&[10000, 5, -1, 0], 5, 4)], 4)?;
+    let texts = |answer| -> Result<Vec<Option<String>>, Error> {
+        Ok(answers.decimals(answer)?.iter().map(|value| value.map(|value| value.to_string())).collect())
+    };
+    let some = |text: &str| Some(text.to_string());
+    assert_eq!(texts(0)?, [some("12.50"), None, some("-0.05"), some("922337203685.47")]);
+    assert_eq!(texts(1)?, [some("12.625"), None, some("0.075"), some("922337203685.595")]);
+    assert_eq!(texts(2)?, [some("12.500000"), None, some("0.000005"), some("0.000000")]);
+    assert_eq!(texts(4)?, [some("-1.0000"), some("-0.0005"), some("0.0001"), some("0.0000")]);
+    assert_eq!(answers.select(3)?, [0, 3]);
+    let whole = answers.decimals(0)?;
+    assert_eq!((whole.precision, whole.scale, whole.units[0]), (12, 2, 1250));
+    assert_eq!(answers.integers::<i64>(0).unwrap_err(), Error::Use { status: Status::OtherKind });
+    assert_eq!(answers.decimals(3).unwrap_err(), Error::Use { status: Status::OtherKind });
+    assert_eq!(answers.decimals(5).unwrap_err(), Error::Use { status: Status::NoSuchNumber });
+    // another number of digits is another type
+    assert_eq!(expression.run(&[Column::decimals(&[1], 12, 3).nullable(None), Column::decimals(&[1], 5, 4)], 1).unwrap_err().number(), 11);
+    for (precision, scale) in [(0, 0), (19, 2), (2, 3)] {
+        let error = Expression::new("x", &[Field::new("x", Kind::Decimal { precision, scale })]).unwrap_err();
+        assert_eq!((error.number(), error.column()), (102, Some(0)));
+    }
+    assert_eq!(format!("{:>8}|{}", Decimal { units: -5, scale: 1 }, Decimal { units: i64::MIN, scale: 18 }), "    -0.5|-9.223372036854775808");
+    Ok(())
+}
+
+#[test]
+fn columns_of_kinds_own_their_values() -> Result<(), Error> {
+    let fields = [Field::nullable("x", Kind::F64), Field::nullable("y", Kind::F32), Field::nullable("d", Kind::Date), Field::nullable("t", Kind::Timestamp)];
+    let expression = Expression::new("x, y, d, t", &fields)?;
+    let (x, y) = (ColumnBuf::floats([Some(1.5f64), None]), ColumnBuf::floats([None, Some(2.5f32)]));
+    let (d, t) = (ColumnBuf::dates([Some(19723), None]), ColumnBuf::timestamps([None, Some(-1)]));
+    let answers = expression.run(&[x.column(), y.column(), d.column(), t.column()], 2)?;
+    assert_eq!(answers.floats::<f64>(0)?.iter().collect::<Vec<_>>(), [Some(1.5), None]);
+    assert_eq!(answers.floats::<f32>(1)?.iter().collect::<Vec<_>>(), [None, Some(2.5)]);
+    assert_eq!(answers.dates(2)?.iter().collect::<Vec<_>>(), [Some(19723), None]);
+    assert_eq!(answers.timestamps(3)?.iter().collect::<Vec<_>>(), [None, Some(-1)]);
     Ok(())
 }
 
