@@ -283,7 +283,7 @@ mutual
       (function_opens p g d)
       (first (suc d) d (name w) (sign sign.From ∷ end) refl
       (first (suc d) d (sign sign.From) end refl
-      (last (suc d) (suc d) (spelling a) (sign sign.Close) (tree_stays a f (suc d)) refl)))
+      (last (suc d) (suc d) (spelling a) (sign sign.Close) (tree_stays a f.1 (suc d)) refl)))
 
   all_stay : (args : Arguments) → AllFit args → (d : ℕ) → Passes (suc d) (suc d) (all_spelled args)
   all_stay tree.no_arguments f d = passes_none (suc d)

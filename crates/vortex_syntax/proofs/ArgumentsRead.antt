@@ -8,7 +8,7 @@ use Rattle.vortex_syntax.specs.Frames as frame
 use Rattle.vortex_syntax.specs.Tokens.{Token, name, text, sign}
 use Rattle.vortex_syntax.specs.Syntax as tree
 use Rattle.vortex_syntax.specs.Syntax.{Syntax, Tested, Arguments, Branches}
-use Rattle.vortex_syntax.specs.Levels.{sign_level, level}
+use Rattle.vortex_syntax.specs.Levels.{sign_level, level, takes_word}
 use Rattle.vortex_syntax.specs.Levels.{predicate_level, concat_level}
 use Rattle.vortex_syntax.specs.Levels.{atom_level, literal_level}
 use Rattle.vortex_syntax.specs.Spelling.{spelling, all_spelled}
@@ -112,14 +112,14 @@ read_applied p w args a ias ia = λ fs out rest top under end.
     ∙ ap (λ xs. have atom_level fs xs rest)
     (regrouped_3 out (all_postfix args) (postfix a) (applied w (suc n)))
 
-pub read_extracted : (p : Bool) (f w : List ℕ) (a : Syntax) → IsRead a
+pub read_extracted : (p : Bool) (f w : List ℕ) (a : Syntax) → takes_word f ≡ true → IsRead a
     → IsRead (tree.extracted p f w a)
-read_extracted p f w a ia = λ fs out rest top under end.
+read_extracted p f w a is ia = λ fs out rest top under end.
     let end : List Token = spelling a ++ (sign sign.Close ∷ []) in
     let word : List Step = operand (text w) ∷ [] in
     ap (want fs out) (append_assoc (function_tokens p f) (name w ∷ sign sign.From ∷ end) rest)
     ∙ step_function p f fs out (name w ∷ sign sign.From ∷ (end ++ rest))
-    ∙ step_word f w fs out (end ++ rest)
+    ∙ step_word f w is fs out (end ++ rest)
     ∙ ap (want (frame.Extract f ∷ fs) (out ++ word))
     (append_assoc (spelling a) (sign sign.Close ∷ []) rest)
     ∙ ia (frame.Extract f ∷ fs) (out ++ word) (sign sign.Close ∷ rest) (omega arith)

@@ -146,7 +146,7 @@ filled (defaulting bs c v) e s f le under = record {
 }
 filled (extracting p g w) e s f le under = record {
   tree = tree.extracted p g w e;
-  fits = f;
+  fits = (s, f);
   level = refl;
   more = sign sign.Close ∷ [];
   tokens = call_closed (function_tokens p g) (name w ∷ sign sign.From ∷ []) (spelling e)

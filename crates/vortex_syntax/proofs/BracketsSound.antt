@@ -92,7 +92,7 @@ applied_is p w n args a fs out before e s f b =
     (written (calling p w args) ++ (spelling a ++ [])) last close b)))
 
 pub extracted_is : (p : Bool) (f w : List ℕ) (a : Syntax) (fs : List Frame) (out : List Step)
-    (before : List Token) → Fits a → Holding (extracting p f w) a fs out before
+    (before : List Token) → Fits (tree.extracted p f w a) → Holding (extracting p f w) a fs out before
     → HasOperand atom_level fs (out ++ (applied f 2 ∷ [])) (before ++ (sign sign.Close ∷ [])) []
 extracted_is p f w a fs out before fit b =
     completed (extracting p f w) a (tree.extracted p f w a) (applied f 2) sign.Close fs out before
@@ -157,7 +157,8 @@ close_sound l (frame.Extract f ∷ fs) out s before e a =
     let i = extract_is f r.h r.is in
     along (state (mode.Have atom_level) fs (out ++ (applied f 2 ∷ []))) s
     (before ++ (sign sign.Close ∷ [])) e
-    (extracted_is i.0 f i.1 a.tree fs out before a.fits
+    (extracted_is i.0 f i.1 a.tree fs out before
+    (sound_as r.h (extracting i.0 f i.1) i.2 r.sound, a.fits)
     (holding_as r.h (extracting i.0 f i.1) a.tree fs out before i.2 r.behind))
 close_sound l (frame.Items n k ∷ fs) out s before e a =
     let r = popped (frame.Items n k) fs out before (postfix a.tree)

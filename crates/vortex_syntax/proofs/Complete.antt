@@ -321,7 +321,7 @@ mutual
       (is_read e h.3)
   is_read (tree.nullary p w) h = read_nullary p w
   is_read (tree.applied p w args a) h = read_applied p w args a (are_read args h.0) (is_read a h.1)
-  is_read (tree.extracted p f w a) h = read_extracted p f w a (is_read a h)
+  is_read (tree.extracted p f w a) h = read_extracted p f w a h.0 (is_read a h.1)
 
   are_read : (args : Arguments) → AllFit args → AreRead args
   are_read tree.no_arguments h = read_no_arguments

@@ -16,7 +16,7 @@ use Rattle.vortex_syntax.specs.Tokens.{Token, name, text, sign}
 use Rattle.vortex_syntax.specs.Syntax as tree
 use Rattle.vortex_syntax.specs.Syntax.{Syntax, Arguments, Branches}
 use Rattle.vortex_syntax.specs.Levels.{left, level, Fits, AllFit, BranchesFit, is_level}
-use Rattle.vortex_syntax.specs.Levels.{concat_level}
+use Rattle.vortex_syntax.specs.Levels.{concat_level, takes_word}
 use Rattle.vortex_syntax.specs.Spelling.{spelling, all_spelled, operator_sign}
 use Rattle.vortex_syntax.specs.Spelling.{distinct_tokens, in_tokens, like_sign, branches_spelled}
 use Rattle.vortex_syntax.specs.Spelling.{function_tokens, between_tokens, cast_sign}
@@ -123,7 +123,7 @@ IsSound (lower n a) = (concat_level ≤ level a) × Fits a
 IsSound (upper n a b) = (concat_level ≤ level a) × (concat_level ≤ level b) × Fits a × Fits b
 IsSound (matching k a) = (concat_level ≤ level a) × Fits a
 IsSound (calling p w args) = AllFit args
-IsSound (extracting p f w) = Unit {0}
+IsSound (extracting p f w) = takes_word f ≡ true
 IsSound (listing n a args) = (concat_level ≤ level a) × Fits a × AllFit args
 IsSound choosing = Unit {0}
 IsSound (asking bs) = BranchesFit bs

@@ -1,6 +1,6 @@
 -- What a token after a bare name does to what was read.
-use Rattle.std.proofs.Common.{◌≡◌, ℕ, zero, Bool, true, false, List, [], ◌∷◌, ◌++◌, Some, refl, ap, sym, ◌∙◌}
-use Rattle.std.proofs.Common.{append_assoc, subst}
+use Rattle.std.proofs.Common.{◌≡◌, ℕ, zero, Bool, true, false, List, [], ◌∷◌, ◌++◌, Some, None, refl, ap, sym, ◌∙◌}
+use Rattle.std.proofs.Common.{append_assoc, subst, cond}
 use Rattle.std.proofs.lemmas.List.{append-nil}
 use Rattle.vortex_syntax.specs.declared.token.Sign.TheVariants as sign
 use Rattle.vortex_syntax.specs.Frames.{Frame}
@@ -8,7 +8,7 @@ use Rattle.vortex_syntax.specs.Frames as frame
 use Rattle.vortex_syntax.specs.declared.frame.Mode.TheVariants as mode
 use Rattle.vortex_syntax.specs.Tokens.{Token, name, text, sign}
 use Rattle.vortex_syntax.specs.Syntax as tree
-use Rattle.vortex_syntax.specs.Levels.{atom_level}
+use Rattle.vortex_syntax.specs.Levels.{atom_level, takes_word}
 use Rattle.vortex_syntax.specs.Postfix.{Step, operand, typed, last_name}
 use Rattle.vortex_syntax.specs.Reading.{State, state, call_of, open_call, literal_of, text_named}
 use Rattle.vortex_syntax.specs.Reading.{word_of, from_named, after_name}
@@ -20,7 +20,7 @@ use Rattle.vortex_syntax.specs.Postfix.{argument_count}
 use Rattle.vortex_syntax.proofs.Held.{Held, calling, extracting, written, held, all_held}
 use Rattle.vortex_syntax.proofs.Held.{all_written}
 use Rattle.vortex_syntax.proofs.Before.{Behind, pushed, HasOperand, Holds, HoldsIn, along}
-use Rattle.vortex_syntax.proofs.Before.{operand_is, as_tokens, popped, call_is}
+use Rattle.vortex_syntax.proofs.Before.{operand_is, as_tokens, popped, call_is, chosen}
 use Rattle.vortex_syntax.proofs.OperandsSound.{none_are}
 use Rattle.vortex_syntax.proofs.SignsSound.{behind_sound}
 
@@ -100,12 +100,12 @@ word_in p f w args h fs out before e k r =
     (subst (λ (v : Held).
     Behind fs out before (held v ++ (operand (name w) ∷ [])) (written v ++ (name w ∷ []))) is r)
 
-extract_begun : (p : Bool) (f w : List ℕ) (fs : List Frame) (out : List Step)
-    (before : List Token)
+extract_begun : (p : Bool) (f w : List ℕ) → takes_word f ≡ true → (fs : List Frame)
+    (out : List Step) (before : List Token)
     → (b : Behind fs out before (operand (name w) ∷ []) (function_tokens p f ++ (name w ∷ [])))
     → Behind (frame.Extract f ∷ fs) (all_held b.hs ++ (operand (text w) ∷ []))
     (before ++ (sign sign.From ∷ [])) [] []
-extract_begun p f w fs out before b =
+extract_begun p f w is fs out before b =
     let from : List Token = sign sign.From ∷ [] in
     pushed (extracting p f w) fs (all_held b.hs ++ (operand (text w) ∷ [])) (before ++ from)
     (record {
@@ -118,7 +118,7 @@ extract_begun p f w fs out before b =
           ∙ ap (λ ts. all_written b.hs ++ ts)
           (append_assoc (function_tokens p f) (name w ∷ []) from);
       nested = b.nested;
-    }) tt (top_atom fs)
+    }) is (top_atom fs)
 
 from_sound : (fs : List Frame) (out : List Step) (s : State) (before : List Token)
     → from_named fs out ≡ Some s → Holds mode.Named fs out before
@@ -128,10 +128,11 @@ from_sound (frame.Arguments f zero ∷ fs) out s before e h =
     let r = popped (frame.Arguments f 0) fs out before (operand (name w) ∷ []) (name w ∷ []) h.1 in
     let i = call_is f 0 r.h r.is in
     let b = word_in i.1 f w i.0 r.h fs out before i.2 i.3 r.behind in
-    along (state mode.Want (frame.Extract f ∷ fs) (all_held b.hs ++ (operand (text w) ∷ []))) s
-    (before ++ (sign sign.From ∷ []))
-    (sym (ap (word_of f fs) (named_last w fs out before _ b)) ∙ e)
-    (extract_begun i.1 f w fs out before b)
+    let after = state mode.Want (frame.Extract f ∷ fs) (all_held b.hs ++ (operand (text w) ∷ [])) in
+    let taken = ap (word_of f fs) (named_last w fs out before _ b) in
+    let c = chosen (takes_word f) after s
+    (sym (ap (λ o. cond (takes_word f) o None) taken) ∙ e) in
+    along after s (before ++ (sign sign.From ∷ [])) c.1 (extract_begun i.1 f w c.0 fs out before b)
 from_sound fs out s before e h = absurd cc
 
 pub named_sound : (fs : List Frame) (out : List Step) (t : Token) (s : State)

@@ -1,5 +1,5 @@
 -- What each token of a tree's spelling leads to.
-use Rattle.std.proofs.Common.{◌≡◌, ℕ, suc, ◌≤◌, Bool, true, false, List, [], ◌∷◌, ◌++◌, Some, refl}
+use Rattle.std.proofs.Common.{◌≡◌, ℕ, suc, ◌≤◌, Bool, true, false, List, [], ◌∷◌, ◌++◌, Some, None, refl}
 use Rattle.std.proofs.Common.{ap, ◌∙◌, append_assoc, arith}
 use Rattle.vortex_syntax.specs.declared.step.WrittenOperator.{WrittenOperator}
 use Rattle.vortex_syntax.specs.declared.step.WrittenOperator.TheVariants as operator
@@ -15,14 +15,14 @@ use Rattle.vortex_syntax.specs.Tokens.{Token, name, function, number, text, sign
 use Rattle.vortex_syntax.specs.Syntax as tree
 use Rattle.vortex_syntax.specs.Syntax.{Tested}
 use Rattle.vortex_syntax.specs.Levels.{typed_level, own, left, is_operand, operand_level, and_level}
-use Rattle.vortex_syntax.specs.Levels.{bit_not_level, IsTested}
+use Rattle.vortex_syntax.specs.Levels.{bit_not_level, IsTested, takes_word}
 use Rattle.vortex_syntax.specs.Levels.{not_level, distinct_level, is_level, predicate_level}
 use Rattle.vortex_syntax.specs.Levels.{concat_level, atom_level, literal_level}
 use Rattle.vortex_syntax.specs.Spelling.{operator_sign, type_token, with_not, is_tokens, test_token}
 use Rattle.vortex_syntax.specs.Spelling.{null_test_sign, function_tokens, between_tokens, cast_sign}
 use Rattle.vortex_syntax.specs.Spelling.{test_tokens, distinct_tokens, in_tokens, like_sign}
 use Rattle.vortex_syntax.specs.Postfix.{Step, operand, negative, typed, cast, escaped, applied}
-use Rattle.vortex_syntax.specs.Postfix.{listed, called, test_of}
+use Rattle.vortex_syntax.specs.Postfix.{listed, called, test_of, last_name}
 use Rattle.vortex_syntax.specs.Reading as specs
 use Rattle.vortex_syntax.specs.Reading.{state, settled, shifted, joining, and_behind, predicate}
 use Rattle.std.proofs.Common.{cond}
@@ -355,19 +355,23 @@ pub step_applied : (w : List ℕ) (n l : ℕ) (fs : List Frame) (out : List Step
 unfolding run next word_after settled
 step_applied w n l fs out ts = refl
 
-word_read : (f w : List ℕ) (fs : List Frame) (out : List Step) (ts : List Token)
+word_read : (f w : List ℕ) → takes_word f ≡ true → (fs : List Frame) (out : List Step)
+    (ts : List Token)
     → run (state mode.Named (frame.Arguments f 0 ∷ fs) (out ++ (operand (name w) ∷ [])))
     (sign sign.From ∷ ts)
     ≡ want (frame.Extract f ∷ fs) (out ++ (operand (text w) ∷ [])) ts
 unfolding run next
-word_read f w fs out ts = ap (λ o. ran ts (word_of f fs o)) (name_last out w)
+word_read f w is fs out ts =
+    ap (λ b. ran ts (cond b (word_of f fs (last_name (out ++ (operand (name w) ∷ [])))) None)) is
+    ∙ ap (λ o. ran ts (word_of f fs o)) (name_last out w)
 
-pub step_word : (f w : List ℕ) (fs : List Frame) (out : List Step) (ts : List Token)
+pub step_word : (f w : List ℕ) → takes_word f ≡ true → (fs : List Frame) (out : List Step)
+    (ts : List Token)
     → want (frame.Arguments f 0 ∷ fs) out (name w ∷ sign sign.From ∷ ts)
     ≡ want (frame.Extract f ∷ fs) (out ++ (operand (text w) ∷ [])) ts
-step_word f w fs out ts =
+step_word f w is fs out ts =
     let gs : List Frame = frame.Arguments f 0 ∷ fs in
-    step_name w gs out (sign sign.From ∷ ts) (atom_ceiling gs) ∙ word_read f w fs out ts
+    step_name w gs out (sign sign.From ∷ ts) (atom_ceiling gs) ∙ word_read f w is fs out ts
 
 pub step_extracted : (f : List ℕ) (l : ℕ) (fs : List Frame) (out : List Step) (ts : List Token)
     → have l (frame.Extract f ∷ fs) out (sign sign.Close ∷ ts)

@@ -1,5 +1,5 @@
 -- The precedence levels of SQL, as in PostgreSQL: what binds tighter has a higher level.
-use Rattle.std.specs.Prelude.{◌≡◌, ℕ, ◌≤◌, Bool, true, false, codes}
+use Rattle.std.specs.Prelude.{◌≡◌, ℕ, ◌≤◌, Bool, true, false, List, codes}
 use Rattle.vortex_syntax.specs.declared.step.WrittenOperator.{WrittenOperator}
 use Rattle.vortex_syntax.specs.declared.step.WrittenOperator.TheVariants as operator
 use Rattle.vortex_syntax.specs.declared.token.Sign.{Sign}
@@ -171,6 +171,10 @@ IsTested True = Unit {0}
 IsTested False = Unit {0}
 IsTested (Unknown w) = same_word w (codes "unknown") ≡ true
 
+-- the one function that takes a word before `from`
+abbrev pub takes_word : List ℕ → Bool
+takes_word f = same_word f (codes "extract")
+
 -- each operand binds at least as tightly as required there
 abbrev mutual
   pub Fits : Syntax → Type 0
@@ -198,7 +202,7 @@ abbrev mutual
   Fits (chosen_else bs c v e) = BranchesFit bs × Fits c × Fits v × Fits e
   Fits (nullary p w) = Unit {0}
   Fits (applied p w args a) = AllFit args × Fits a
-  Fits (extracted p f w a) = Fits a
+  Fits (extracted p f w a) = (takes_word f ≡ true) × Fits a
 
   pub AllFit : Arguments → Type 0
   AllFit no_arguments = Unit {0}

@@ -22,7 +22,7 @@ use Rattle.vortex_syntax.specs.Tokens.{Token, name, nullable, function, number, 
 use Rattle.vortex_syntax.specs.Levels.{own, left, or_level, and_level, not_level}
 use Rattle.vortex_syntax.specs.Levels.{typed_level, distinct_level, is_level}
 use Rattle.vortex_syntax.specs.Levels.{predicate_level, concat_level, atom_level, literal_level}
-use Rattle.vortex_syntax.specs.Levels.{bit_not_level, is_operand, operand_level}
+use Rattle.vortex_syntax.specs.Levels.{bit_not_level, is_operand, operand_level, takes_word}
 use Rattle.vortex_syntax.specs.Spelling.{operator_of}
 use Rattle.vortex_syntax.specs.declared.reading.Reading.{Reading}
 use Rattle.vortex_syntax.specs.Frames as frame
@@ -256,7 +256,7 @@ literal_of fs bs (Some x) =
 abbrev pub text_named : List Frame → List Step → List ℕ → Option State
 text_named fs out bs = literal_of fs bs (last_name out)
 
--- a bare name before `from` is a text, the first argument of a call
+-- a bare name before `from` is a text, the first argument of a call of `extract`
 abbrev pub word_of : List ℕ → List Frame → Option (List Step × List ℕ) → Option State
 word_of f fs None = None
 word_of f fs (Some x) =
@@ -264,7 +264,8 @@ word_of f fs (Some x) =
 
 abbrev pub from_named : List Frame → List Step → Option State
 from_named [] out = None
-from_named (frame.Arguments f zero ∷ fs) out = word_of f fs (last_name out)
+from_named (frame.Arguments f zero ∷ fs) out =
+    if takes_word f then word_of f fs (last_name out) else None
 from_named (f ∷ fs) out = None
 
 abbrev pub after_name : List Frame → List Step → Token → Option State

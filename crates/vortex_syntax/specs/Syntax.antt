@@ -34,8 +34,8 @@ pub data Tested : Type 0 where
 -- nullary: the function of that name, without arguments; its bracket stands apart where the flag is
 -- true
 -- applied: the function of that name, of some arguments and a last one; its bracket is as above
--- extracted: the function of that name, of a word before `from`, as a text, and a tree after it; its
--- bracket is as above
+-- extracted: the function of that name, `extract`, of a word before `from`, as a text, and a tree
+-- after it; its bracket is as above
 mutual
   pub data Syntax : Type 0 where
     operand : Token → Syntax

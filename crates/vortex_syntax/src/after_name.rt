@@ -6,6 +6,7 @@ ghost use Rattle.vortex_syntax.specs.Reading.{frames_in, steps_in, Gives};
 
 use crate::frame::{Frame, Mode};
 use crate::levels::ATOM;
+use crate::pieces::is_same_word;
 use crate::reading::Reading;
 use crate::step::Step;
 use crate::token::{Sign, Token};
@@ -57,16 +58,20 @@ impl<'a> Reading<'a> {
         }
     }
 
-    /// `from` after a bare name, which a call's bracket comes before.
+    /// `from` after a bare name, which the bracket of a call of `extract` comes before.
     fn from_named(&mut self) -> Result<Option<Mode>, AllocError>
         ensures { Gives result self.new
             (specs.from_named (frames_in self.old) (steps_in self.old)) }
     {
         match self.top() {
             Some(Frame::Arguments(function, 0)) => {
-                self.at = self.top_sign();
-                self.drop_top();
-                self.word_of(function)
+                if is_same_word(function, b"extract") {
+                    self.at = self.top_sign();
+                    self.drop_top();
+                    self.word_of(function)
+                } else {
+                    Ok(None)
+                }
             }
             _ => Ok(None),
         }

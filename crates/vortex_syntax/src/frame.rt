@@ -45,7 +45,7 @@ pub enum Frame<'a> {
     Like(LikeKind),
     /// A call of the function of that name, after as many arguments.
     Arguments(&'a [u8], usize),
-    /// A call of the function of that name, after a word and `from`.
+    /// A call of the function of that name, `extract`, after a word and `from`.
     Extract(&'a [u8]),
     /// The bracket of IN, or of NOT IN, after as many items.
     Items(bool, usize),
