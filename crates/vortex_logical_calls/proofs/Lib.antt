@@ -1,2 +1,5 @@
 mod ShippedCalls
 pub mod RowMeanings
+mod MetKinds
+mod AlignedMeanings
+mod ShiftedMeanings

@@ -25,30 +25,27 @@ use Rattle.vortex_logical_calls.specs.Computation.{compute_exact}
 use Rattle.vortex_logical_calls.specs.RowLaws.{ComparisonsGoByOrder, BoundsGoByOrder}
 use Rattle.vortex_logical_calls.specs.RowLaws.{ComputationsAreExact}
 
-made_is : {A : Type 0} (a b : A) → made a ≡ made b → a ≡ b
+pub made_is : {A : Type 0} (a b : A) → made a ≡ made b → a ≡ b
 made_is a b e = cc
 
-some_is : {A : Type 0} (a b : A) → Some a ≡ Some b → a ≡ b
-some_is a b e = cc
-
 -- the outcomes before one that is made
-record After {A B : Type 0} (o : Outcome A) (f : A → Outcome B) (b : B) : Type 0 where
-  a : A
-  first : o ≡ made a
-  then : f a ≡ made b
+pub record After {A B : Type 0} (o : Outcome A) (f : A → Outcome B) (b : B) : Type 0 where
+  pub a : A
+  pub first : o ≡ made a
+  pub then : f a ≡ made b
 
-after_is : {A B : Type 0} (o : Outcome A) (f : A → Outcome B) (b : B) → and_then o f ≡ made b
+pub after_is : {A B : Type 0} (o : Outcome A) (f : A → Outcome B) (b : B) → and_then o f ≡ made b
     → After o f b
 after_is (made a) f b e = record { a = a; first = refl; then = e }
 after_is (refused r) f b e = absurd cc
 after_is untyped f b e = absurd cc
 
 -- a tree with a type
-record IsMade (t u : Tree) : Type 0 where
-  is : u ≡ t
-  takes : is_some (tree_type meaning u) ≡ true
+pub record IsMade (t u : Tree) : Type 0 where
+  pub is : u ≡ t
+  pub takes : is_some (tree_type meaning u) ≡ true
 
-typed_made : (t u : Tree) → typed t ≡ made u → IsMade t u
+pub typed_made : (t u : Tree) → typed t ≡ made u → IsMade t u
 typed_made t u e = by (is_some (tree_type meaning t)) refl e
   where
     by : (b : Bool) → is_some (tree_type meaning t) ≡ b → cond b (made t) untyped ≡ made u

@@ -1,10 +1,21 @@
 -- What the rows of calls on values of kinds mean, by what the rows of the operands mean that they
 -- become next to each other.
-use Rattle.std.specs.Prelude.{◌≡◌, false}
+use Rattle.std.specs.Prelude.{◌≡◌, ◌≤◌, ℤ, Some, Bool, true, false, is_some}
 use Rattle.vortex_errors.specs.declared.error.NumericOperator.{NumericOperator}
+use Rattle.vortex_errors.specs.declared.error.NumericOperator.TheVariants.{Add, Sub}
+use Rattle.vortex_types.specs.declared.dtype.PType.{PType}
+use Rattle.vortex_columns.specs.ScalarOf.{int_scalar}
+use Rattle.vortex_interface.specs.Trees.{constant}
 use Rattle.vortex_operators.specs.declared.between.BetweenOptions.{BetweenOptions}
 use Rattle.vortex_operators.specs.declared.operators.CompareOperator.{CompareOperator}
-use Rattle.vortex_lowering.specs.Rows.{IsTyped}
+use Rattle.vortex_logical.specs.declared.kind.Kind.TheVariants.{Decimal}
+use Rattle.vortex_logical.specs.declared.operand.Operand.{Operand}
+use Rattle.vortex_logical.specs.declared.operand.Operand.TheVariants.{Whole, Of}
+use Rattle.vortex_logical.specs.CommonKinds.{common_operand}
+use Rattle.vortex_standard.specs.Scales as scales
+use Rattle.vortex_lowering.specs.Operands.{scale_of}
+use Rattle.vortex_lowering.specs.Rows.{lowered, IsTyped}
+use Rattle.vortex_lowering.specs.Aligning.{Aligns}
 use Rattle.vortex_lowering.specs.Comparing.{Compares}
 use Rattle.vortex_lowering.specs.Bounding.{Bounds}
 use Rattle.vortex_lowering.specs.Computing.{Computes}
@@ -12,9 +23,11 @@ use Rattle.vortex_logical_calls.specs.Outcomes.{made}
 use Rattle.vortex_logical_calls.specs.Calls.{Tree, Lowered, meaning}
 use Rattle.vortex_logical_calls.specs.Conversions.{conversion_beside, conversion_by_two, converted}
 use Rattle.vortex_logical_calls.specs.Conversions.{meet_in_float}
+use Rattle.vortex_logical_calls.specs.Alignment.{aligned}
 use Rattle.vortex_logical_calls.specs.Comparison.{compared}
 use Rattle.vortex_logical_calls.specs.Bounds.{between}
 use Rattle.vortex_logical_calls.specs.Computation.{computed}
+use Rattle.vortex_logical_calls.specs.Intervals.{moved_by, shifted}
 
 -- a is what x becomes next to y
 abbrev pub IsBeside : Lowered → Lowered → Lowered → Type 0
@@ -64,3 +77,55 @@ abbrev pub ComputationsAreExact : Type 0
 ComputationsAreExact =
     (o : NumericOperator) (x y z : Lowered) → meet_in_float x.operand y.operand ≡ false
     → computed o x y ≡ made z → ComputedRows o x y z
+
+-- the operand meets the common kind in that kind
+abbrev pub IsWithin : Operand → Operand → Type 0
+IsWithin common a = common_operand a common ≡ Some common
+
+-- a decimal has at most 18 digits after the point
+abbrev pub has_scale : Operand → Bool
+has_scale (Of (Decimal d)) = is_some (scales.scale_of d.scale)
+has_scale a = true
+
+-- a value in the common kind means what it becomes next to a value of that kind
+pub record AlignedRows (common : Operand) (x : Lowered) (t : Tree) : Type 0 where
+  pub a : Lowered
+  pub beside : converted (conversion_beside x.operand common) x ≡ made a
+  pub scale : scale_of a.operand ≤ scale_of common
+  pub rows : Aligns meaning common a t
+
+abbrev pub ValuesAreAligned : Type 0
+ValuesAreAligned =
+    (common : Operand) (x : Lowered) (t : Tree) → has_scale x.operand ≡ true
+    → IsWithin common x.operand → aligned common x ≡ made t → AlignedRows common x t
+
+-- where several values meet from left to right, each of them meets the last kind in that kind
+pub record KindsMeet : Type 0 where
+  pub left : (a b c : Operand) → common_operand a b ≡ Some c → IsWithin c a
+  pub right : (a b c : Operand) → common_operand a b ≡ Some c → IsWithin c b
+  pub on : (a b c : Operand) → IsWithin b a → IsWithin c b → IsWithin c a
+
+-- stored integers as whole numbers: the microseconds of timestamps and the days of dates since 1970
+abbrev pub as_whole : PType → Tree → Lowered
+as_whole p t = lowered t (Whole p)
+
+abbrev pub is_sum : NumericOperator → Bool
+is_sum Add = true
+is_sum Sub = true
+is_sum o = false
+
+-- a date or a timestamp moved by an interval: the sum or the difference of its days or microseconds
+-- since 1970 and those of the interval, in the same kind
+pub record ShiftedRows (o : NumericOperator) (x : Lowered) (z : ℤ) (w : Lowered) : Type 0 where
+  pub ptype : PType
+  pub count : ℤ
+  pub by : moved_by x.operand z ≡ Some (int_scalar ptype count)
+  pub kind : w.operand ≡ x.operand
+  pub rows : IsTyped meaning (as_whole ptype x.tree)
+      → Computes meaning o (as_whole ptype x.tree)
+      (as_whole ptype (constant (int_scalar ptype count))) (as_whole ptype w.tree)
+
+abbrev pub IntervalsMove : Type 0
+IntervalsMove =
+    (o : NumericOperator) (x w : Lowered) (z : ℤ) → is_sum o ≡ true → shifted o x z ≡ made w
+    → ShiftedRows o x z w

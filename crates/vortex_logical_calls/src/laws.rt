@@ -2,7 +2,8 @@
 //! of what its operands become next to each other, these are the theorem of `vortex_lowering` on the
 //! call itself.
 ghost use Rattle.vortex_logical_calls.specs.RowLaws.{ComparisonsGoByOrder, BoundsGoByOrder};
-ghost use Rattle.vortex_logical_calls.specs.RowLaws.{ComputationsAreExact};
+ghost use Rattle.vortex_logical_calls.specs.RowLaws.{ComputationsAreExact, IntervalsMove};
+ghost use Rattle.vortex_logical_calls.specs.RowLaws.{ValuesAreAligned, KindsMeet};
 
 use vortex_logical::decimals::rescaling_orders;
 use vortex_logical::laws::stored_values_are_ordered;
@@ -27,4 +28,23 @@ pub fn bounds_go_by_order()
 #[tactic(auto, using(crate::proofs::RowMeanings::computations))]
 pub fn computations_are_exact()
     ensures { ComputationsAreExact }
+{}
+
+/// Values in the kind in which several meet mean what they mean next to a value of that kind.
+#[tactic(auto, using(crate::proofs::AlignedMeanings::alignments))]
+pub fn values_are_aligned()
+    ensures { ValuesAreAligned }
+{}
+
+/// Each of several values that meet in a kind from left to right meets that kind in itself.
+#[tactic(auto, using(crate::proofs::MetKinds::kinds_meet))]
+pub fn kinds_meet()
+    ensures { KindsMeet }
+{}
+
+/// A date or a timestamp moved by an interval is the sum, or the difference, of its days or its
+/// microseconds since 1970 and those of the interval.
+#[tactic(auto, using(crate::proofs::ShiftedMeanings::shifts))]
+pub fn intervals_move()
+    ensures { IntervalsMove }
 {}

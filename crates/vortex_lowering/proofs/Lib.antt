@@ -8,3 +8,4 @@ mod LengthenedRows
 pub mod RowComparisons
 pub mod RowResults
 pub mod RowBounds
+pub mod AlignedRows
