@@ -3,6 +3,7 @@ pub mod Casts
 pub mod CountedDays
 pub mod CountedLaws
 pub mod Instants
+pub mod MadeDates
 pub mod PartLaws
 pub mod Parts
 pub mod StoredRows

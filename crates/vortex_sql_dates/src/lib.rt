@@ -5,6 +5,7 @@
 mod calendar;
 pub mod casts;
 pub mod laws;
+pub mod made;
 pub mod parts;
 mod stored;
 #[cfg(test)]

@@ -1,5 +1,6 @@
 //! Rows beside what PostgreSQL 15 returned for them on 29 November 2026.
 
+use crate::made::MakeDate;
 use crate::parts::{DatePart, Part, TimestampPart};
 use crate::truncations::{DateTrunc, TimestampTrunc, Unit};
 use vortex_columns::{Cell, PType, VortexResult};
@@ -164,4 +165,46 @@ fn timestamps_begin_there(rt: HostRuntime) {
 fn a_beginning_that_the_type_lacks_is_a_fault(rt: HostRuntime) {
     let answer = DateTrunc { unit: Unit::Year }.answer(PType::I32, &[Cell::Int(-2147483648)]);
     assert!(rt; answer.is_err());
+}
+
+#[test]
+fn dates_are_made(rt: HostRuntime) {
+    let rows: [([i128; 3], i128); 5] = [
+        ([2024, 2, 29], 19782),
+        ([1, 1, 1], -719162),
+        ([9999, 12, 31], 2932896),
+        ([1970, 1, 1], 0),
+        ([1900, 3, 1], -25508),
+    ];
+    for (parts, day) in rows {
+        let cells = [
+            Cell::Int(parts[0]),
+            Cell::Int(parts[1]),
+            Cell::Int(parts[2]),
+        ];
+        assert!(rt; is_number(MakeDate.answer(PType::I32, &cells), day));
+    }
+}
+
+/// PostgreSQL has the last two: 10000-01-01 and 0044-03-15 BC.
+#[test]
+fn no_date_is_a_fault(rt: HostRuntime) {
+    let rows: [[i128; 3]; 8] = [
+        [2023, 2, 29],
+        [1900, 2, 29],
+        [0, 1, 1],
+        [2024, 13, 1],
+        [2024, 4, 31],
+        [2024, 1, 0],
+        [10000, 1, 1],
+        [-44, 3, 15],
+    ];
+    for parts in rows {
+        let cells = [
+            Cell::Int(parts[0]),
+            Cell::Int(parts[1]),
+            Cell::Int(parts[2]),
+        ];
+        assert!(rt; MakeDate.answer(PType::I32, &cells).is_err());
+    }
 }

@@ -205,6 +205,7 @@ first standard.IntToFloat = refl
 first standard.WidenFloat = refl
 first standard.DateToTimestamp = refl
 first standard.TimestampToDate = refl
+first standard.MakeDate = refl
 first (standard.Extreme Greatest) = refl
 first (standard.Extreme Least) = refl
 first (standard.TruthTest IsTrue) = refl

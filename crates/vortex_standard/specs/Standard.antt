@@ -37,6 +37,7 @@ use Rattle.vortex_sql_try_casts.specs.TryCasts.{try_text_lawful, try_truth_row, 
 use Rattle.vortex_sql_texts.specs.Texts.{begins_row, begins_lawful, measure_row, measure_lawful}
 use Rattle.vortex_sql_float_functions.specs.FloatRows as float_functions
 use Rattle.vortex_sql_dates.specs.Casts as date_casts
+use Rattle.vortex_sql_dates.specs.MadeDates.{make_date_row, make_date_lawful}
 use Rattle.vortex_sql_dates.specs.Parts.{date_part_row, timestamp_part_row}
 use Rattle.vortex_sql_dates.specs.PartLaws.{date_part_lawful, timestamp_part_lawful}
 use Rattle.vortex_sql_dates.specs.Truncations.{date_trunc_row, date_trunc_lawful}
@@ -78,6 +79,7 @@ row_of standard.IntToFloat = conversions.from_int_row
 row_of standard.WidenFloat = conversions.widen_row
 row_of standard.DateToTimestamp = date_casts.beginning_row
 row_of standard.TimestampToDate = date_casts.day_row
+row_of standard.MakeDate = make_date_row
 row_of (standard.Extreme x) = extreme_row x
 row_of (standard.TruthTest t) = test_row t
 row_of (standard.BitOperator o) = operator_row o
@@ -131,6 +133,7 @@ lawful_of standard.IntToFloat = conversions.from_int_lawful
 lawful_of standard.WidenFloat = conversions.widen_lawful
 lawful_of standard.DateToTimestamp = date_casts.beginning_lawful
 lawful_of standard.TimestampToDate = date_casts.day_lawful
+lawful_of standard.MakeDate = make_date_lawful
 lawful_of (standard.Extreme x) = extreme_lawful x
 lawful_of (standard.TruthTest t) = test_lawful t
 lawful_of (standard.BitOperator o) = operator_lawful o

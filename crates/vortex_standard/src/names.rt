@@ -121,7 +121,7 @@ pub const FUNCTIONS: [Standard; 91] = [
 
 /// The functions on stored keys, each once: what arithmetic over columns of floats and parts of
 /// dates and timestamps call.
-pub const KEY_FUNCTIONS: [Standard; 87] = [
+pub const KEY_FUNCTIONS: [Standard; 88] = [
     Standard::FloatNegate,
     Standard::IntToFloat,
     Standard::WidenFloat,
@@ -165,6 +165,7 @@ pub const KEY_FUNCTIONS: [Standard; 87] = [
     Standard::FloatFunction(FloatFunction::Sign),
     Standard::DateToTimestamp,
     Standard::TimestampToDate,
+    Standard::MakeDate,
     Standard::DatePart(DatePart { part: Part::Year }),
     Standard::DatePart(DatePart {
         part: Part::Quarter,

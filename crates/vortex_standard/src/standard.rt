@@ -173,6 +173,10 @@ macro_rules! with_row {
                 let $f = &vortex_sql_dates::casts::TimestampToDate;
                 $rows
             }
+            Standard::MakeDate => {
+                let $f = &vortex_sql_dates::made::MakeDate;
+                $rows
+            }
             Standard::Extreme($f) => $rows,
             Standard::TruthTest($f) => $rows,
             Standard::BitOperator($f) => $rows,
@@ -228,6 +232,7 @@ pub enum Standard {
     WidenFloat,
     DateToTimestamp,
     TimestampToDate,
+    MakeDate,
     Extreme(Extreme),
     TruthTest(TruthTest),
     BitOperator(BitOperator),
