@@ -40,4 +40,5 @@ pub mod Why
 pub mod Likened
 pub mod Counted
 pub mod Listing
+mod FunctionRows
 mod TextRows

@@ -19,6 +19,7 @@ use Rattle.vortex_syntax.specs.declared.step.LikeKind.{LikeKind}
 use Rattle.vortex_syntax.specs.declared.token.Sign.{Sign}
 use Rattle.vortex_syntax.specs.declared.token.Sign.TheVariants as sign
 use Rattle.vortex_syntax.specs.Tokens.{Token, name, nullable, function, quoted, number, text, sign}
+use Rattle.vortex_syntax.specs.Keywords.{same_word}
 use Rattle.vortex_syntax.specs.Syntax as tree
 use Rattle.vortex_syntax.specs.Syntax.{Syntax, Arguments, Branches}
 use Rattle.vortex_syntax.specs.Levels.{Fits, AllFit, BranchesFit, level, is_operand, operand_level}
@@ -50,7 +51,7 @@ use Rattle.vortex_expressions.specs.Applied.{values_of, cases_settled, arguments
 use Rattle.vortex_expressions.specs.Applied.{function_call}
 use Rattle.vortex_expressions.specs.Functions.{values_in, call_kind, met_values, aligned_arguments}
 use Rattle.vortex_expressions.specs.Functions.{kinded_call, function_item, applied_item}
-use Rattle.vortex_expressions.specs.Functions.{standard_item, meant_item}
+use Rattle.vortex_expressions.specs.Functions.{standard_item, meant_item, made_date, applied_by}
 use Rattle.vortex_expressions.specs.Kinded.{first_kind}
 use Rattle.vortex_expressions.specs.KindWords.{kind_word}
 use Rattle.vortex_expressions.specs.declared.kind_words.KindName.{KindName}
@@ -512,6 +513,17 @@ module _ (columns : Names) (sure_columns : (w : List ℕ) → Sure IsItem (colum
       sure_if IsItem (calls.is_plain (first_kind is)) _ _ (sure_standard w is h)
       (sure_meant (kind_word w) w is h)
 
+  sure_made_date : (is : List Item) → AllItems is → Sure IsItem (made_date is)
+  sure_made_date is h =
+      sure_then IsTyped IsItem (function_call standard.MakeDate is) _
+      (sure_call_on standard.MakeDate is h) (λ t k. k)
+
+  sure_by : (b : Bool) (w : List ℕ) (is : List Item) → AllItems is → Sure IsItem (applied_by b w is)
+  sure_by false w is h = sure_applied w is h
+  sure_by true w is h =
+      sure_if IsItem (same_word w (codes "make_date")) _ _ (sure_made_date is h)
+      (sure_applied w is h)
+
   mutual
     pub sure : (t : Syntax) → Fits t → Sure IsItem (item_by columns t)
     sure (tree.operand t) f = sure_operand t f
@@ -581,19 +593,19 @@ module _ (columns : Names) (sure_columns : (w : List ℕ) → Sure IsItem (colum
         (sure_pair (branches_by columns bs) (item_by columns c) (item_by columns v)
         (sure_branches bs f.0) (sure c f.1) (sure v f.2)) (sure e f.3))
         (λ is h. sure_chosen (has_operand bs) (reverse is) (all_reversed is h))
-    sure (tree.nullary p w) f = sure_applied w [] tt
+    sure (tree.nullary p w) f = sure_by columns.has_kinds w [] tt
     sure (tree.applied p w args a) f =
         let some = items_by columns (answers []) args in
         sure_then AllItems IsItem (with_item some (item_by columns a)) _
         (sure_more some (item_by columns a) (sure_all_items args (answers []) f.0 tt) (sure a f.1))
-        (λ is h. sure_applied w (reverse is) (all_reversed is h))
+        (λ is h. sure_by columns.has_kinds w (reverse is) (all_reversed is h))
     sure (tree.extracted p g w a) f =
         let word = calls.operand_by columns (text w) in
         let first = with_item (answers []) word in
         sure_then AllItems IsItem (with_item first (item_by columns a)) _
         (sure_more first (item_by columns a)
-        (sure_more (answers []) word tt (sure_operand (text w) refl)) (sure a f))
-        (λ is h. sure_applied g (reverse is) (all_reversed is h))
+        (sure_more (answers []) word tt (sure_operand (text w) refl)) (sure a f.1))
+        (λ is h. sure_by columns.has_kinds g (reverse is) (all_reversed is h))
 
     sure_all_items : (args : Arguments) (o : Outcome (List Item)) → AllFit args → Sure AllItems o
         → Sure AllItems (items_by columns o args)

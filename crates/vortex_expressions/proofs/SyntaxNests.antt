@@ -358,7 +358,7 @@ mutual
   nests_spelled (nullary false w) f d us = refl
   nests_spelled (applied p w args a) f d us =
       call_nests p w args a (all_nest args f.0) (nests_spelled a f.1) d us
-  nests_spelled (extracted p g w a) f d us = extract_nests p g w a (nests_spelled a f) d us
+  nests_spelled (extracted p g w a) f d us = extract_nests p g w a (nests_spelled a f.1) d us
 
   all_nest : (args : Arguments) → AllFit args → AllNestAs args
   all_nest no_arguments f d us = refl

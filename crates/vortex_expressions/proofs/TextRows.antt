@@ -1,39 +1,53 @@
 -- The rows of comparisons, bounds and arithmetic in texts over columns with kinds.
-use Rattle.std.proofs.Common.{◌≡◌, ◌||◌, Bool, true, false, cond, List, [], ◌∷◌, ap, sym, ◌∙◌, refl}
+use Rattle.std.proofs.Common.{◌≡◌, ◌||◌, ℕ, Bool, true, false, cond, List, [], ◌∷◌, ap, sym, ◌∙◌, refl}
+use Rattle.std.specs.Prelude.{Option, Some, None, reverse, codes}
 use Rattle.vortex_types.specs.LogicalTypes.{Fields}
 use Rattle.vortex_errors.specs.declared.error.NumericOperator.{NumericOperator}
+use Rattle.vortex_errors.specs.declared.error.NumericOperator.TheVariants as numeric
 use Rattle.vortex_operators.specs.declared.operators.CompareOperator.{CompareOperator}
 use Rattle.vortex_syntax.specs.declared.step.WrittenOperator.{WrittenOperator}
 use Rattle.vortex_syntax.specs.declared.step.WrittenOperator.TheVariants as written
-use Rattle.vortex_syntax.specs.Syntax.{Syntax}
+use Rattle.vortex_syntax.specs.Syntax.{Syntax, between}
+use Rattle.vortex_syntax.specs.Postfix.{has_operand}
+use Rattle.vortex_syntax.specs.Keywords.{same_word}
 use Rattle.vortex_logical.specs.declared.kind.Kind.{Kind}
 use Rattle.vortex_logical.specs.declared.kind.Kind.TheVariants.{Plain}
-use Rattle.vortex_logical_calls.specs.Outcomes as calls
-use Rattle.vortex_logical_calls.specs.Calls.{Lowered}
 use Rattle.vortex_logical_calls.specs.Comparison.{compared}
 use Rattle.vortex_logical_calls.specs.Computation.{computed}
 use Rattle.vortex_logical_calls.specs.Bounds as bounds
 use Rattle.vortex_logical_calls.specs.RowLaws.{ComparisonsGoByOrder, BoundsGoByOrder}
-use Rattle.vortex_logical_calls.specs.RowLaws.{ComputationsAreExact}
-use Rattle.vortex_expressions.specs.declared.refusal.Refusal.TheVariants.{NotHeld}
-use Rattle.vortex_expressions.specs.Outcomes.{Outcome, answers, refuses, and_then}
-use Rattle.vortex_expressions.specs.Items.{Item, bound, Tree, as_item, settled}
-use Rattle.vortex_expressions.specs.Kinded.{is_kinded, is_interval, first_kind, item_operand, told}
+use Rattle.vortex_logical_calls.specs.RowLaws.{ComputationsAreExact, ValuesAreAligned, KindsMeet}
+use Rattle.vortex_logical_calls.specs.RowLaws.{IntervalsMove, is_sum}
+use Rattle.vortex_logical_calls.specs.Intervals.{shifted}
+use Rattle.vortex_standard.specs.declared.standard.Standard.{Standard}
+use Rattle.vortex_standard.specs.declared.standard.Standard.TheVariants as standard
+use Rattle.vortex_standard.specs.Names.{standard_named}
+use Rattle.vortex_expressions.specs.declared.kind_words.KindName.{KindName}
+use Rattle.vortex_expressions.specs.declared.refusal.Refusal.TheVariants.{NotHeld, NoFunction}
+use Rattle.vortex_expressions.specs.Outcomes.{Outcome, answers, refuses, and_then, or_refuses}
+use Rattle.vortex_expressions.specs.Items.{Item, bound, kinded, interval, Tree, as_item, settled}
+use Rattle.vortex_expressions.specs.Kinded.{is_kinded, is_interval, is_plain, first_kind}
+use Rattle.vortex_expressions.specs.Kinded.{item_operand, told}
 use Rattle.vortex_expressions.specs.Kinded.{value_item, kinded_operator, KindedOperator, compares}
 use Rattle.vortex_expressions.specs.Kinded.{computes, operated, joined_beside, shifted_items}
 use Rattle.vortex_expressions.specs.Kinded.{kinded_joined, kinded_between, within_bounds}
 use Rattle.vortex_expressions.specs.Calls.{Names, names_in, joined_item, plain_joined, between_three}
 use Rattle.vortex_expressions.specs.Calls.{between_all, between_tree, negated_if}
-use Rattle.vortex_expressions.specs.Binding.{LogicalTree, item_by, ended}
+use Rattle.vortex_expressions.specs.Calls.{negated_item, listed_item, distinct_item, chosen_item}
+use Rattle.vortex_expressions.specs.Calls.{conditions_of}
+use Rattle.vortex_expressions.specs.KindWords.{kind_word}
+use Rattle.vortex_expressions.specs.Functions.{call_kind, function_item, standard_item, meant_item}
+use Rattle.vortex_expressions.specs.Functions.{applied_item, made_date, applied_by}
+use Rattle.vortex_expressions.specs.Binding.{LogicalTree, item_by, items_by, branches_by, with_item}
+use Rattle.vortex_expressions.specs.Binding.{of_items, ended, logical_of}
+use Rattle.vortex_expressions.specs.FunctionRows.{FunctionsCallInKind, IsCall}
 use Rattle.vortex_expressions.specs.RowLaws.{ComparesItems, ComputesItems, BoundsItems}
+use Rattle.vortex_expressions.specs.RowLaws.{EitherBoundsItems, EitherBoundsBound, Shift, shift, shift_of, IntervalsShift}
 use Rattle.vortex_expressions.specs.RowLaws.{ComparisonsCompare, ArithmeticComputes, BoundsBound}
-use Rattle.vortex_expressions.specs.RowLaws.{TextsMeanTheirRows}
+use Rattle.vortex_expressions.specs.RowLaws.{ListsCall, DistinctCalls, NamesCall, CasesCall}
+use Rattle.vortex_expressions.specs.RowLaws.{ElseCasesCall, TextsMeanTheirRows}
 use Rattle.vortex_expressions.proofs.LiteralsOver.{Then, then_is, answers_is}
-
-made_told : {A : Type 0} (o : calls.Outcome A) (a : A) → told o ≡ answers a → o ≡ calls.made a
-made_told (calls.made b) a e = ap (λ x. calls.made x) (answers_is b a e)
-made_told (calls.refused r) a e = absurd cc
-made_told calls.untyped a e = absurd cc
+use Rattle.vortex_expressions.proofs.FunctionRows.{made_told, IsTold, item_told, functions}
 
 -- a comparison of intervals is refused
 no_shift : (o : WrittenOperator) (op : CompareOperator) (i j : Item) → kinded_operator o ≡ compares op
@@ -52,20 +66,6 @@ parts_are o p f i j a h k e =
 tree_is : (u : Tree) (t : LogicalTree) → ended (bound u) ≡ answers t → t.tree ≡ u
 tree_is u t e =
     ap (λ x. x.tree) (sym (answers_is (record { tree = u; kind = Plain }) t e))
-
-record IsTold (o : Outcome Tree) (i : Item) : Type 0 where
-  tree : Tree
-  is : o ≡ answers tree
-  same : bound tree ≡ i
-
-item_told : (o : Outcome Tree) (i : Item) → as_item o ≡ answers i → IsTold o i
-item_told o i e =
-    let m = then_is o (λ t. answers (bound t)) i e in
-    record { tree = m.a; is = m.first; same = answers_is (bound m.a) i m.second }
-
--- an item of values next to each other
-record IsBesideKind (o : WrittenOperator) (i j : Item) (r : Item) : Type 0 where
-  beside : joined_beside (first_kind (i ∷ j ∷ [])) (kinded_operator o) i j ≡ answers r
 
 joined_kinded : (o : WrittenOperator) (i j r : Item) → (is_kinded i || is_kinded j) ≡ true
     → joined_item o i j ≡ answers r → kinded_joined o i j ≡ answers r
@@ -91,6 +91,27 @@ compared_beside o op i j r c e = by (is_interval i || is_interval j) refl e
     by true h g =
         let none : refuses NotHeld ≡ answers r = sym (no_shift o op i j c) ∙ g in absurd cc
     by false h g = ap (λ q. joined_beside (first_kind (i ∷ j ∷ [])) q i j) (sym c) ∙ g
+
+shift_is : (s u : Shift) → Some s ≡ Some u → s ≡ u
+shift_is s u e = cc
+
+-- an item moved by an interval
+abbrev moved_item : Shift → Outcome Item
+moved_item s =
+    and_then (told (shifted s.operator s.value s.micros)) (λ x. answers (value_item x.operand x.tree))
+
+shift_made : (o : WrittenOperator) (i j : Item) (s : Shift) (r : Item) → shift_of o i j ≡ Some s
+    → joined_item o i j ≡ answers r → (is_sum s.operator ≡ true) × (moved_item s ≡ answers r)
+shift_made written.Add (kinded k t) (interval z) s r e f =
+    let same = sym (shift_is (shift numeric.Add k t z) s e) in
+    (ap (λ u. is_sum u.operator) same, ap moved_item same ∙ f)
+shift_made written.Add (interval z) (kinded k t) s r e f =
+    let same = sym (shift_is (shift numeric.Add k t z) s e) in
+    (ap (λ u. is_sum u.operator) same, ap moved_item same ∙ f)
+shift_made written.Sub (kinded k t) (interval z) s r e f =
+    let same = sym (shift_is (shift numeric.Sub k t z) s e) in
+    (ap (λ u. is_sum u.operator) same, ap moved_item same ∙ f)
+shift_made o i j s r e f = cc
 
 module _ (scope : Fields) (kinds : List Kind) where
   abbrev names : Names
@@ -135,29 +156,18 @@ module _ (scope : Fields) (kinds : List Kind) where
         rows = λ f. law op left.a right.a z f (made_told (computed op left.a right.a) z done.first);
       }
 
-  all_bounds : BoundsGoByOrder → BoundsBound scope kinds
-  all_bounds law a low high i j k t h l m g e =
-      let whole = then_is (and_then (item_by names a)
-      (λ x. and_then (item_by names low) (λ y. and_then (item_by names high)
-      (λ z. as_item (and_then (between_tree false x y z) (negated_if false)))))) ended t e in
-      let r = whole.a in
-      let first = ap (λ p. and_then p (λ x. and_then (item_by names low) (λ y. and_then (item_by names high)
-      (λ z. as_item (and_then (between_tree false x y z) (negated_if false)))))) (sym h) ∙ whole.first in
-      let two = parts_are (item_by names low) (item_by names high)
-      (λ y z. as_item (and_then (between_tree false i y z) (negated_if false))) j k r l m first in
-      let done = item_told (and_then (between_three i j k) (negated_if false)) r two in
-      let plain = then_is (between_three i j k) (negated_if false) done.tree done.is in
-      let u = done.tree in
-      let three : between_three i j k ≡ answers u = plain.first ∙ plain.second in
+  -- a BETWEEN of three items
+  three_bounds : BoundsGoByOrder → (i j k : Item) (u : Tree)
+      → (is_kinded i || (is_kinded j || is_kinded k)) ≡ true → between_three i j k ≡ answers u
+      → BoundsItems i j k u
+  three_bounds law i j k u g three =
       let kinded = ap (λ b. cond b (kinded_between i j k) (between_all (i ∷ j ∷ k ∷ []))) (sym g) ∙ three in
       let kind = first_kind (i ∷ j ∷ k ∷ []) in
       let x = then_is (item_operand kind i) _ u kinded in
       let y = then_is (item_operand kind j) _ u x.second in
       let z = then_is (item_operand kind k) _ u y.second in
-      let same : t.tree ≡ u = tree_is u t (ap ended done.same ∙ whole.second) in
-      let rows = law within_bounds x.a y.a z.a t.tree
-      (made_told (bounds.between within_bounds x.a y.a z.a) t.tree
-      (z.second ∙ ap (λ v. answers v) (sym same))) in
+      let rows = law within_bounds x.a y.a z.a u
+      (made_told (bounds.between within_bounds x.a y.a z.a) u z.second) in
       record {
         x = x.a;
         y = y.a;
@@ -168,7 +178,157 @@ module _ (scope : Fields) (kinds : List Kind) where
         rows = rows;
       }
 
-  pub texts : ComparisonsGoByOrder → BoundsGoByOrder → ComputationsAreExact
-      → TextsMeanTheirRows scope kinds
-  texts c b a =
-      record { comparisons = comparisons c; bounds = all_bounds b; arithmetic = arithmetic a }
+  -- the tree of a BETWEEN in a text, before it is negated
+  bounds_tree : (s n : Bool) (a low high : Syntax) (i j k : Item) (t : LogicalTree)
+      → item_by names a ≡ answers i → item_by names low ≡ answers j → item_by names high ≡ answers k
+      → logical_of scope kinds (between (record { negated = n; symmetric = s }) a low high) ≡ answers t
+      → (u : Tree) × (between_tree s i j k ≡ answers u) × (negated_if n u ≡ answers t.tree)
+  bounds_tree s n a low high i j k t h l m e =
+      let whole = then_is (and_then (item_by names a)
+      (λ x. and_then (item_by names low) (λ y. and_then (item_by names high)
+      (λ z. as_item (and_then (between_tree s x y z) (negated_if n)))))) ended t e in
+      let r = whole.a in
+      let first = ap (λ p. and_then p (λ x. and_then (item_by names low) (λ y. and_then (item_by names high)
+      (λ z. as_item (and_then (between_tree s x y z) (negated_if n)))))) (sym h) ∙ whole.first in
+      let two = parts_are (item_by names low) (item_by names high)
+      (λ y z. as_item (and_then (between_tree s i y z) (negated_if n))) j k r l m first in
+      let done = item_told (and_then (between_tree s i j k) (negated_if n)) r two in
+      let plain = then_is (between_tree s i j k) (negated_if n) done.tree done.is in
+      let same : t.tree ≡ done.tree = tree_is done.tree t (ap ended done.same ∙ whole.second) in
+      (plain.a, plain.first, plain.second ∙ ap (λ v. answers v) (sym same))
+
+  all_bounds : BoundsGoByOrder → BoundsBound scope kinds
+  all_bounds law n a low high i j k t h l m g e =
+      let u = bounds_tree false n a low high i j k t h l m e in
+      (u.0, three_bounds law i j k u.0 g u.1, u.2)
+
+  -- bounds in the other order have the same kinds
+  or_turned : (a b c : Bool) → (a || (b || c)) ≡ true → (a || (c || b)) ≡ true
+  or_turned true b c h = refl
+  or_turned false true true h = refl
+  or_turned false true false h = refl
+  or_turned false false true h = refl
+  or_turned false false false h = cc
+
+  either : BoundsGoByOrder → EitherBoundsBound scope kinds
+  either law n a low high i j k t h l m g e =
+      let u = bounds_tree true n a low high i j k t h l m e in
+      let one = then_is (between_three i j k) _ u.0 u.1 in
+      let two = then_is (between_three i k j) _ u.0 one.second in
+      let bounds : EitherBoundsItems i j k u.0 = record {
+        first = one.a;
+        second = two.a;
+        as_written = three_bounds law i j k one.a g one.first;
+        turned =
+            three_bounds law i k j two.a (or_turned (is_kinded i) (is_kinded j) (is_kinded k) g) two.first;
+        either = two.second;
+      } in
+      (u.0, bounds, u.2)
+
+  -- a value that an interval moves
+  shifts : IntervalsMove → IntervalsShift scope kinds
+  shifts law o a b i j s t h k e f =
+      let whole = then_is (and_then (item_by names a)
+      (λ x. and_then (item_by names b) (joined_item o x))) ended t f in
+      let r = whole.a in
+      let one = parts_are (item_by names a) (item_by names b) (joined_item o) i j r h k whole.first in
+      let is = shift_made o i j s r e one in
+      let done = then_is (told (shifted s.operator s.value s.micros))
+      (λ x. answers (value_item x.operand x.tree)) r is.1 in
+      let w = done.a in
+      record {
+        w = w;
+        value = ap ended (answers_is (value_item w.operand w.tree) r done.second) ∙ whole.second;
+        rows = law s.operator s.value w s.micros is.0
+            (made_told (shifted s.operator s.value s.micros) w done.first);
+      }
+
+  module _ (law : FunctionsCallInKind) where
+    called : (f : Standard) (is : List Item) (p : Item → Outcome Item) (r : Item)
+        → and_then (function_item f is) p ≡ answers r → IsCall f is p r
+    called f is p r e =
+        let one = then_is (function_item f is) p r e in
+        record { called = one.a; calls = λ k. law f is one.a k one.first; made = one.second }
+
+    -- of items, the last of which is first
+    ended_call : (f : Standard) (is : List Item) (p : Item → Outcome Item) (q : List Item → Outcome Item)
+        (o : Outcome (List Item)) (us : List Item) (t : LogicalTree) → o ≡ answers us
+        → ((r : Item) → q (reverse us) ≡ answers r → IsCall f is p r)
+        → and_then (of_items q o) ended ≡ answers t
+        → (r : Item) × IsCall f is p r × (ended r ≡ answers t)
+    ended_call f is p q o us t h call e =
+        let whole = then_is (of_items q o) ended t e in
+        let one : q (reverse us) ≡ answers whole.a = ap (λ x. of_items q x) (sym h) ∙ whole.first in
+        (whole.a, call whole.a one, whole.second)
+
+    lists : ListsCall scope kinds
+    lists n a b args us t h e =
+        ended_call standard.InList (reverse us) (negated_item n) (listed_item n) _ us t h
+        (λ r k. called standard.InList (reverse us) (negated_item n) r k) e
+
+    distinctions : DistinctCalls scope kinds
+    distinctions n a b i j t h k e =
+        let whole = then_is (and_then (item_by names a) (λ x. and_then (item_by names b)
+        (distinct_item n x))) ended t e in
+        let one = parts_are (item_by names a) (item_by names b) (distinct_item n) i j whole.a h k whole.first in
+        (whole.a, called standard.IsDistinct (i ∷ j ∷ []) (negated_item n) whole.a one, whole.second)
+
+    -- the function of a name that means nothing else next to values of kinds
+    named_call : (w : List ℕ) (f : Standard) (is : List Item) (r : Item) → kind_word w ≡ None
+        → standard_named w ≡ Some f → applied_item w is ≡ answers r → IsCall f is answers r
+    named_call w f is r k n e =
+        let one : standard_item w is ≡ answers r = by (is_plain (first_kind is)) e in
+        let two : function_item f is ≡ answers r =
+        ap (λ o. and_then (or_refuses NoFunction o) (λ g. function_item g is)) (sym n) ∙ one in
+        record { called = r; calls = λ p. law f is r p two; made = refl }
+      where
+        by : (b : Bool) → cond b (standard_item w is) (meant_item (kind_word w) w is) ≡ answers r
+            → standard_item w is ≡ answers r
+        by true h = h
+        by false h = ap (λ (o : Option KindName). meant_item o w is) (sym k) ∙ h
+
+    -- that of no date
+    named_by : (h : Bool) (w : List ℕ) (f : Standard) (is : List Item) (r : Item)
+        → same_word w (codes "make_date") ≡ false → kind_word w ≡ None
+        → standard_named w ≡ Some f → applied_by h w is ≡ answers r → IsCall f is answers r
+    named_by false w f is r m k n e = named_call w f is r k n e
+    named_by true w f is r m k n e =
+        named_call w f is r k n
+        (ap (λ b. cond b (made_date is) (applied_item w is)) (sym m) ∙ e)
+
+    names_call : NamesCall scope kinds
+    names_call p w args a f us t m k n h e =
+        ended_call f (reverse us) answers (applied_by names.has_kinds w) _ us t h
+        (λ r g. named_by names.has_kinds w f (reverse us) r m k n g) e
+
+    case_call : (b : Bool) (is js : List Item) (r : Item) → conditions_of b is ≡ answers js
+        → chosen_item b is ≡ answers r → IsCall standard.Case js answers r
+    case_call b is js r h e =
+        let one : function_item standard.Case js ≡ answers r =
+        ap (λ o. and_then o (function_item standard.Case)) (sym h) ∙ e in
+        record { called = r; calls = λ p. law standard.Case js r p one; made = refl }
+
+    cases : CasesCall scope kinds
+    cases bs c v us js t h k e =
+        ended_call standard.Case js answers (chosen_item (has_operand bs)) _ us t h
+        (λ r g. case_call (has_operand bs) (reverse us) js r k g) e
+
+    cases_with_else : ElseCasesCall scope kinds
+    cases_with_else bs c v d us js t h k e =
+        ended_call standard.Case js answers (chosen_item (has_operand bs)) _ us t h
+        (λ r g. case_call (has_operand bs) (reverse us) js r k g) e
+
+  pub texts : ComparisonsGoByOrder → BoundsGoByOrder → ComputationsAreExact → IntervalsMove
+      → ValuesAreAligned → KindsMeet → TextsMeanTheirRows scope kinds
+  texts c b a s v m = record {
+    comparisons = comparisons c;
+    bounds = all_bounds b;
+    either_bounds = either b;
+    arithmetic = arithmetic a;
+    shifts = shifts s;
+    lists = lists (functions v m);
+    distinctions = distinctions (functions v m);
+    functions = names_call (functions v m);
+    cases = cases (functions v m);
+    cases_with_else = cases_with_else (functions v m);
+  }

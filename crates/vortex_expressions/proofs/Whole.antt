@@ -24,7 +24,7 @@ use Rattle.vortex_expressions.specs.Calls.{bit_not_item, Names, names_of, typed_
 use Rattle.vortex_expressions.specs.Calls.{operand_by}
 use Rattle.vortex_expressions.specs.Binding.{with_item, of_items, item_by, items_by}
 use Rattle.vortex_expressions.specs.Binding.{branches_by, tree_of}
-use Rattle.vortex_expressions.specs.Functions.{applied_item}
+use Rattle.vortex_expressions.specs.Functions.{applied_by}
 use Rattle.vortex_expressions.specs.Stacks.{run, stepped, pushed, with_last, case_count, left_as}
 use Rattle.vortex_expressions.specs.Stacks.{tree_left}
 use Rattle.vortex_expressions.proofs.Chains.{and_then-assoc, and_then-same, and_then-there}
@@ -207,13 +207,14 @@ module _ (columns : Names) where
     leaves (minus a) =
         next [] (postfix a) _ _ minus_item (leaves a) (λ i. last (i ∷ []) _ _ (λ st. refl))
     leaves (nullary p w) =
-        last [] _ (item_by columns (nullary p w)) (λ st. last_taken (applied_item w) [] st)
+        last [] _ (item_by columns (nullary p w)) (λ st.
+        last_taken (applied_by columns.has_kinds w) [] st)
     leaves (applied p w args a) = λ ss st.
         let n = suc (argument_count args) in
         let s : Step = step.applied w n in
         ap (λ zs. run columns (zs ++ ss) st)
         (sym (append_assoc (all_postfix args) (postfix a) (s ∷ [])))
-        ∙ call_leaves _ _ s (applied_item w) n
+        ∙ call_leaves _ _ s (applied_by columns.has_kinds w) n
         (one_more (all_postfix args) (postfix a) _ _ (all_leave args [] _ none_leave) (leaves a))
         (applied_count args _ _ (counted args _ 0 none_count)) (λ st. refl) ss st
     leaves (extracted p f w a) = λ ss st.
@@ -221,7 +222,7 @@ module _ (columns : Names) where
         let field = operand_by columns (text w) in
         let first = with_item (answers []) field in
         call_leaves (word ++ postfix a) (with_item first (item_by columns a)) (step.applied f 2)
-        (applied_item f) 2
+        (applied_by columns.has_kinds f) 2
         (one_more word (postfix a) first (item_by columns a)
         (one_more [] word (answers []) field none_leave
         (last [] (step.operand (text w)) field (λ st. refl))) (leaves a))

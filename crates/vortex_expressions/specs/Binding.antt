@@ -23,7 +23,7 @@ use Rattle.vortex_expressions.specs.Calls.{not_item, joined_item, tested_item, d
 use Rattle.vortex_expressions.specs.Calls.{between_item, minus_item, listed_item, chosen_item}
 use Rattle.vortex_syntax.specs.Postfix.{has_operand, test_of}
 use Rattle.vortex_expressions.specs.Calls.{matched_item, plus_item, bit_not_item}
-use Rattle.vortex_expressions.specs.Functions.{applied_item}
+use Rattle.vortex_expressions.specs.Functions.{applied_by}
 
 -- one more item, before those that come before it
 abbrev pub with_item : Outcome (List Item) → Outcome Item → Outcome (List Item)
@@ -69,11 +69,12 @@ module _ (columns : Names) where
     item_by (chosen_else bs c v e) =
         of_items (chosen_item (has_operand bs))
         (with_item (with_item (with_item (branches_by bs) (item_by c)) (item_by v)) (item_by e))
-    item_by (nullary p w) = applied_item w []
+    item_by (nullary p w) = applied_by columns.has_kinds w []
     item_by (applied p w args a) =
-        of_items (applied_item w) (with_item (items_by (answers []) args) (item_by a))
+        of_items (applied_by columns.has_kinds w)
+        (with_item (items_by (answers []) args) (item_by a))
     item_by (extracted p f w a) =
-        of_items (applied_item f)
+        of_items (applied_by columns.has_kinds f)
         (with_item (with_item (answers []) (operand_by columns (text w))) (item_by a))
 
     -- items after these; the last is first

@@ -1,12 +1,13 @@
 -- Calls of functions on items. Of values of kinds some functions take those that meet in a kind: each becomes the
 -- integer that stores it in that kind.
 use Rattle.std.specs.Prelude.{ℕ, List, [], ◌∷◌, Bool, true, false, ◌||◌, if◌then◌else◌}
-use Rattle.std.specs.Prelude.{Option, Some, None}
+use Rattle.std.specs.Prelude.{Option, Some, None, codes}
 use Rattle.vortex_logical.specs.declared.kind.Kind.{Kind}
-use Rattle.vortex_logical.specs.declared.kind.Kind.TheVariants.{Plain}
+use Rattle.vortex_logical.specs.declared.kind.Kind.TheVariants.{Date, Plain}
 use Rattle.vortex_logical.specs.declared.operand.Operand.{Operand}
 use Rattle.vortex_logical.specs.declared.operand.Operand.TheVariants.{Of}
 use Rattle.vortex_logical_calls.specs.Alignment.{meet_next, aligned}
+use Rattle.vortex_syntax.specs.Keywords.{same_word}
 use Rattle.vortex_sql_rows.specs.declared.types.Takes.{Takes}
 use Rattle.vortex_sql_rows.specs.declared.types.Takes.TheVariants.{Cases}
 use Rattle.vortex_standard.specs.declared.standard.Standard.{Standard}
@@ -16,7 +17,7 @@ use Rattle.vortex_standard.specs.Names.{standard_named}
 use Rattle.vortex_expressions.specs.declared.refusal.Refusal.TheVariants.{NoFunction}
 use Rattle.vortex_expressions.specs.declared.kind_words.KindName.{KindName}
 use Rattle.vortex_expressions.specs.Outcomes.{Outcome, answers, and_then, or_refuses}
-use Rattle.vortex_expressions.specs.Items.{Item, bound, Tree, as_item}
+use Rattle.vortex_expressions.specs.Items.{Item, bound, kinded, Tree, as_item}
 use Rattle.vortex_expressions.specs.Applied.{values_of, function_call}
 use Rattle.vortex_expressions.specs.Kinded.{told, first_kind, is_plain, item_operand, value_item}
 use Rattle.vortex_expressions.specs.KindWords.{kind_word}
@@ -108,3 +109,13 @@ meant_item None w is = standard_item w is
 abbrev pub applied_item : List ℕ → List Item → Outcome Item
 applied_item w is =
     if is_plain (first_kind is) then standard_item w is else meant_item (kind_word w) w is
+
+-- the date of a year, a month and a day
+abbrev pub made_date : List Item → Outcome Item
+made_date is = and_then (function_call standard.MakeDate is) (λ t. answers (kinded Date t))
+
+-- what a name means in a text, over columns with kinds where the flag is true
+abbrev pub applied_by : Bool → List ℕ → List Item → Outcome Item
+applied_by false w is = applied_item w is
+applied_by true w is =
+    if same_word w (codes "make_date") then made_date is else applied_item w is

@@ -21,4 +21,5 @@ pub mod WritingSteps
 pub mod Likeness
 pub mod Places
 pub mod Messages
+pub mod FunctionRows
 pub mod RowLaws

@@ -1,24 +1,38 @@
--- What the rows of comparisons, bounds and arithmetic in texts over columns with kinds mean.
-use Rattle.std.specs.Prelude.{◌≡◌, ◌||◌, true, false, List, [], ◌∷◌}
+-- What the rows of comparisons, bounds, arithmetic and functions in texts over columns with kinds mean.
+use Rattle.std.specs.Prelude.{◌≡◌, ◌||◌, ℕ, ℤ, Bool, true, false, List, [], ◌∷◌, Option, Some, None}
+use Rattle.std.specs.Prelude.{reverse, codes}
 use Rattle.vortex_types.specs.LogicalTypes.{Fields}
 use Rattle.vortex_errors.specs.declared.error.NumericOperator.{NumericOperator}
+use Rattle.vortex_errors.specs.declared.error.NumericOperator.TheVariants.{Add, Sub}
 use Rattle.vortex_operators.specs.declared.operators.CompareOperator.{CompareOperator}
+use Rattle.vortex_operators.specs.declared.operators.Operator.TheVariants as operator
+use Rattle.vortex_interface.specs.Shipped.{Binary}
+use Rattle.vortex_interface.specs.Functions.{ours}
 use Rattle.vortex_syntax.specs.declared.step.WrittenOperator.{WrittenOperator}
-use Rattle.vortex_syntax.specs.Syntax.{Syntax, joined, between}
+use Rattle.vortex_syntax.specs.declared.step.WrittenOperator.TheVariants as written
+use Rattle.vortex_syntax.specs.Syntax.{Syntax, joined, between, listed, distinct, applied, chosen}
+use Rattle.vortex_syntax.specs.Syntax.{chosen_else, Arguments, Branches}
+use Rattle.vortex_syntax.specs.Postfix.{has_operand}
+use Rattle.vortex_syntax.specs.Keywords.{same_word}
 use Rattle.vortex_logical.specs.declared.kind.Kind.{Kind}
+use Rattle.vortex_logical.specs.declared.operand.Operand.TheVariants.{Of}
+use Rattle.vortex_lowering.specs.Rows.{lowered}
 use Rattle.vortex_logical_calls.specs.Calls.{Lowered}
 use Rattle.vortex_logical_calls.specs.Conversions.{meet_in_float}
 use Rattle.vortex_logical_calls.specs.RowLaws.{ComparedRows, BoundedRows, ComputedRows}
-use Rattle.vortex_expressions.specs.Outcomes.{answers}
-use Rattle.vortex_expressions.specs.Items.{Item, Tree}
-use Rattle.vortex_expressions.specs.Kinded.{is_kinded, is_interval, first_kind, item_operand, value_item}
+use Rattle.vortex_logical_calls.specs.RowLaws.{ShiftedRows}
+use Rattle.vortex_standard.specs.declared.standard.Standard.{Standard}
+use Rattle.vortex_standard.specs.declared.standard.Standard.TheVariants as standard
+use Rattle.vortex_standard.specs.Names.{standard_named}
+use Rattle.vortex_expressions.specs.Outcomes.{Outcome, answers}
+use Rattle.vortex_expressions.specs.Items.{Item, bound, kinded, interval, Tree, called}
+use Rattle.vortex_expressions.specs.Kinded.{is_kinded, is_interval, first_kind, value_item}
 use Rattle.vortex_expressions.specs.Kinded.{kinded_operator, compares, computes, within_bounds}
-use Rattle.vortex_expressions.specs.Calls.{Names, names_in}
-use Rattle.vortex_expressions.specs.Binding.{LogicalTree, item_by, ended, logical_of}
-
--- x is what the item is next to values, of which the first with a kind has that one
-abbrev pub IsNext : Kind → Item → Lowered → Type 0
-IsNext k i x = item_operand k i ≡ answers x
+use Rattle.vortex_expressions.specs.KindWords.{kind_word}
+use Rattle.vortex_expressions.specs.Calls.{Names, names_in, negated_if, negated_item, conditions_of}
+use Rattle.vortex_expressions.specs.Binding.{LogicalTree, item_by, items_by, branches_by, with_item}
+use Rattle.vortex_expressions.specs.Binding.{ended, logical_of}
+use Rattle.vortex_expressions.specs.FunctionRows.{IsNext, IsCall}
 
 -- a comparison in a text: its operands, and its rows
 pub record ComparesItems (op : CompareOperator) (i j : Item) (t : Tree) : Type 0 where
@@ -48,6 +62,36 @@ pub record BoundsItems (i low high : Item) (t : Tree) : Type 0 where
   pub upper : IsNext (first_kind (i ∷ low ∷ high ∷ [])) high z
   pub rows : BoundedRows within_bounds x y z t
 
+-- between the bounds in either order
+pub record EitherBoundsItems (i low high : Item) (t : Tree) : Type 0 where
+  pub first : Tree
+  pub second : Tree
+  pub as_written : BoundsItems i low high first
+  pub turned : BoundsItems i high low second
+  pub either : called (ours (Binary operator.Or)) None (bound first ∷ bound second ∷ []) ≡ answers t
+
+-- a value, the interval that moves it, and whether it is added
+pub record Shift : Type 0 where
+  pub operator : NumericOperator
+  pub value : Lowered
+  pub micros : ℤ
+
+abbrev pub shift : NumericOperator → Kind → Tree → ℤ → Shift
+shift o k t z = record { operator = o; value = lowered t (Of k); micros = z }
+
+-- an interval is added to a value of a kind, or taken from it
+abbrev pub shift_of : WrittenOperator → Item → Item → Option Shift
+shift_of written.Add (kinded k t) (interval z) = Some (shift Add k t z)
+shift_of written.Add (interval z) (kinded k t) = Some (shift Add k t z)
+shift_of written.Sub (kinded k t) (interval z) = Some (shift Sub k t z)
+shift_of o i j = None
+
+-- a value moved by an interval, and its rows
+pub record MovesItem (s : Shift) (t : LogicalTree) : Type 0 where
+  pub w : Lowered
+  pub value : ended (value_item w.operand w.tree) ≡ answers t
+  pub rows : ShiftedRows s.operator s.value s.micros w
+
 module _ (scope : Fields) (kinds : List Kind) where
   abbrev names : Names
   names = names_in scope kinds
@@ -72,14 +116,83 @@ module _ (scope : Fields) (kinds : List Kind) where
 
   abbrev pub BoundsBound : Type 0
   BoundsBound =
-      (a low high : Syntax) (i j k : Item) (t : LogicalTree) → Is a i → Is low j → Is high k
+      (n : Bool) (a low high : Syntax) (i j k : Item) (t : LogicalTree)
+      → Is a i → Is low j → Is high k
       → (is_kinded i || (is_kinded j || is_kinded k)) ≡ true
-      → logical_of scope kinds (between (record { negated = false; symmetric = false }) a low high)
-      ≡ answers t → BoundsItems i j k t.tree
+      → logical_of scope kinds (between (record { negated = n; symmetric = false }) a low high)
+      ≡ answers t
+      → (u : Tree) × BoundsItems i j k u × (negated_if n u ≡ answers t.tree)
+
+  abbrev pub EitherBoundsBound : Type 0
+  EitherBoundsBound =
+      (n : Bool) (a low high : Syntax) (i j k : Item) (t : LogicalTree)
+      → Is a i → Is low j → Is high k
+      → (is_kinded i || (is_kinded j || is_kinded k)) ≡ true
+      → logical_of scope kinds (between (record { negated = n; symmetric = true }) a low high)
+      ≡ answers t
+      → (u : Tree) × EitherBoundsItems i j k u × (negated_if n u ≡ answers t.tree)
+
+  abbrev pub IntervalsShift : Type 0
+  IntervalsShift =
+      (o : WrittenOperator) (a b : Syntax) (i j : Item) (s : Shift) (t : LogicalTree)
+      → Is a i → Is b j → shift_of o i j ≡ Some s
+      → logical_of scope kinds (joined o a b) ≡ answers t → MovesItem s t
+
+  -- what follows from the items of a part, the last of which is first: it is the call on them
+  abbrev IsEnded : Standard → List Item → (Item → Outcome Item) → LogicalTree → Type 0
+  IsEnded f is p t = (r : Item) × IsCall f is p r × (ended r ≡ answers t)
+
+  abbrev pub ListsCall : Type 0
+  ListsCall =
+      (n : Bool) (a b : Syntax) (args : Arguments) (us : List Item) (t : LogicalTree)
+      → with_item (items_by names (with_item (answers []) (item_by names a)) args)
+      (item_by names b) ≡ answers us
+      → logical_of scope kinds (listed n a args b) ≡ answers t
+      → IsEnded standard.InList (reverse us) (negated_item n) t
+
+  abbrev pub DistinctCalls : Type 0
+  DistinctCalls =
+      (n : Bool) (a b : Syntax) (i j : Item) (t : LogicalTree) → Is a i → Is b j
+      → logical_of scope kinds (distinct n a b) ≡ answers t
+      → IsEnded standard.IsDistinct (i ∷ j ∷ []) (negated_item n) t
+
+  abbrev pub NamesCall : Type 0
+  NamesCall =
+      (p : Bool) (w : List ℕ) (args : Arguments) (a : Syntax) (f : Standard) (us : List Item)
+      (t : LogicalTree) → same_word w (codes "make_date") ≡ false → kind_word w ≡ None
+      → standard_named w ≡ Some f
+      → with_item (items_by names (answers []) args) (item_by names a) ≡ answers us
+      → logical_of scope kinds (applied p w args a) ≡ answers t
+      → IsEnded f (reverse us) answers t
+
+  abbrev pub CasesCall : Type 0
+  CasesCall =
+      (bs : Branches) (c v : Syntax) (us js : List Item) (t : LogicalTree)
+      → with_item (with_item (branches_by names bs) (item_by names c)) (item_by names v)
+      ≡ answers us → conditions_of (has_operand bs) (reverse us) ≡ answers js
+      → logical_of scope kinds (chosen bs c v) ≡ answers t
+      → IsEnded standard.Case js answers t
+
+  abbrev pub ElseCasesCall : Type 0
+  ElseCasesCall =
+      (bs : Branches) (c v e : Syntax) (us js : List Item) (t : LogicalTree)
+      → with_item (with_item (with_item (branches_by names bs) (item_by names c))
+      (item_by names v)) (item_by names e) ≡ answers us
+      → conditions_of (has_operand bs) (reverse us) ≡ answers js
+      → logical_of scope kinds (chosen_else bs c v e) ≡ answers t
+      → IsEnded standard.Case js answers t
 
 -- each comparison, BETWEEN and operator of arithmetic between values of kinds in a text means what
--- its operands do
+-- its operands do, an interval moves them, and each call of a function on them is that on what
+-- stores them in one kind: IN, IS DISTINCT FROM, a function's name, and CASE
 pub record TextsMeanTheirRows (scope : Fields) (kinds : List Kind) : Type 0 where
   pub comparisons : ComparisonsCompare scope kinds
   pub bounds : BoundsBound scope kinds
+  pub either_bounds : EitherBoundsBound scope kinds
   pub arithmetic : ArithmeticComputes scope kinds
+  pub shifts : IntervalsShift scope kinds
+  pub lists : ListsCall scope kinds
+  pub distinctions : DistinctCalls scope kinds
+  pub functions : NamesCall scope kinds
+  pub cases : CasesCall scope kinds
+  pub cases_with_else : ElseCasesCall scope kinds

@@ -18,7 +18,7 @@ use Rattle.vortex_expressions.specs.Calls.{typed_by, cast_by}
 use Rattle.vortex_expressions.specs.Calls.{not_item, joined_item, tested_item, distinct_item}
 use Rattle.vortex_expressions.specs.Calls.{between_item, minus_item, listed_item, chosen_item}
 use Rattle.vortex_expressions.specs.Calls.{matched_item, plus_item, bit_not_item}
-use Rattle.vortex_expressions.specs.Functions.{applied_item}
+use Rattle.vortex_expressions.specs.Functions.{applied_by}
 use Rattle.vortex_expressions.specs.Binding.{LogicalTree, ended}
 use Rattle.vortex_logical.specs.declared.kind.Kind.{Kind}
 
@@ -74,7 +74,7 @@ module _ (columns : Names) where
   stepped (typed w n) st = with_one (typed_by columns.has_kinds w n) st
   stepped (cast p w n) st = with_one (cast_by columns.has_kinds p w n) st
   stepped (escaped k e) st = with_two (matched_item k (Some e)) st
-  stepped (applied w n) st = with_last (applied_item w) n st
+  stepped (applied w n) st = with_last (applied_by columns.has_kinds w) n st
   stepped (listed n k) st = with_last (listed_item n) (suc k) st
   stepped (chosen h k e) st = with_last (chosen_item h) (case_count h k e) st
   stepped (called c) st = call_made c st

@@ -9,7 +9,7 @@ ghost use Rattle.vortex_expressions.specs.Binding.{ended, logical_in};
 ghost use Rattle.vortex_expressions.specs.Stacks.{stack_in, call_made, stepped, tree_left, left_as};
 ghost use Rattle.vortex_expressions.specs.Stacks.{logical_left, RunsTo};
 ghost use Rattle.vortex_expressions.specs.Stacks.{with_two, last_items, with_last, case_count};
-ghost use Rattle.vortex_expressions.specs.Functions.{applied_item};
+ghost use Rattle.vortex_expressions.specs.Functions.{applied_by};
 ghost use Rattle.vortex_expressions.specs.Outcomes.{answers};
 ghost use Rattle.vortex_expressions.specs.Calls.{matched_item, listed_item, chosen_item, names_in};
 ghost use Rattle.vortex_expressions.specs.Answering.{Gives, StopsBy};
@@ -20,7 +20,7 @@ use crate::calls::{
     operand_item, plus_item, tested_item,
 };
 use crate::cases::chosen_item;
-use crate::functions::applied_item;
+use crate::functions::applied_by;
 use crate::item::{Item, LogicalTree};
 use crate::kind_casts::{are_given, cast_by, typed_by};
 use crate::patterns::matched_item;
@@ -143,12 +143,18 @@ impl Stack {
     }
 
     /// The call of the function of that name on so many of the last items.
-    fn apply(&mut self, alloc: Global, name: &[u8], count: usize) -> Result<(), BindStop>
+    fn apply(
+        &mut self,
+        alloc: Global,
+        has_kinds: bool,
+        name: &[u8],
+        count: usize,
+    ) -> Result<(), BindStop>
         ensures { Gives (λ _. stack_in self.new.items.items) result
-            (with_last (applied_item name.now) count (stack_in self.old.items.items)) }
+            (with_last (applied_by has_kinds name.now) count (stack_in self.old.items.items)) }
     {
         let items = self.take(count)?;
-        self.push(applied_item(alloc, name, items)?)
+        self.push(applied_by(alloc, has_kinds, name, items)?)
     }
 
     /// IN of an operand and so many items after it, or NOT IN.
@@ -207,7 +213,7 @@ impl Stack {
                 self.push(cast_by(alloc, has_kinds, is_tried, name, is_nullable, item)?)
             }
             Step::Escaped(kind, escape) => self.like(alloc, kind, Some(escape)),
-            Step::Apply(name, count) => self.apply(alloc, name, count),
+            Step::Apply(name, count) => self.apply(alloc, are_given(kinds), name, count),
             Step::In(negated, count) => self.list(alloc, negated, count),
             Step::Case(has_operand, count, has_else) => {
                 self.case(alloc, has_operand, count, has_else)

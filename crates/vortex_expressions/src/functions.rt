@@ -10,7 +10,7 @@ ghost use Rattle.vortex_expressions.specs.Answering.{Gives};
 use crate::applied::function_call;
 use crate::item::Item;
 use crate::kind_functions::kind_call;
-use crate::kind_words::kind_word;
+use crate::kind_words::{is_word, kind_word};
 use crate::kinded::{fraction_kind, is_plain, item_operand, value_item};
 use crate::refusal::{BindStop, Refusal};
 use std::alloc::Global;
@@ -292,7 +292,7 @@ fn standard_item(alloc: Global, name: &[u8], items: Vec<Item>) -> Result<Item, B
 }
 
 /// What a name means next to a value of a kind, or without one.
-pub(crate) fn applied_item(alloc: Global, name: &[u8], items: Vec<Item>) -> Result<Item, BindStop>
+fn applied_item(alloc: Global, name: &[u8], items: Vec<Item>) -> Result<Item, BindStop>
     ensures { Gives item_in result (specs.applied_item name.now (map item_in items.items)) }
 {
     if is_plain(&first_kind(false, &items)) {
@@ -301,5 +301,33 @@ pub(crate) fn applied_item(alloc: Global, name: &[u8], items: Vec<Item>) -> Resu
     match kind_word(name) {
         Some(meant) => kind_call(alloc, meant, &items),
         None => standard_item(alloc, name, items),
+    }
+}
+
+/// The date of a year, a month and a day.
+fn made_date(alloc: Global, items: Vec<Item>) -> Result<Item, BindStop>
+    ensures { Gives item_in result (specs.made_date (map item_in items.items)) }
+{
+    let tree = function_call(alloc, Standard::MakeDate, items)?;
+    Ok(Item::Kinded(Kind::Date, tree))
+}
+
+/// What a name means in a text, over columns with kinds if the flag is true.
+pub(crate) fn applied_by(
+    alloc: Global,
+    has_kinds: bool,
+    name: &[u8],
+    items: Vec<Item>,
+) -> Result<Item, BindStop>
+    ensures { Gives item_in result
+        (specs.applied_by has_kinds name.now (map item_in items.items)) }
+{
+    if !has_kinds {
+        return applied_item(alloc, name, items);
+    }
+    if is_word(name, b"make_date") {
+        made_date(alloc, items)
+    } else {
+        applied_item(alloc, name, items)
     }
 }

@@ -27,7 +27,7 @@ pub(crate) enum KindName {
     UnitByText,
 }
 
-fn is_word(word: &[u8], other: &[u8]) -> bool
+pub(crate) fn is_word(word: &[u8], other: &[u8]) -> bool
     ensures { result ≡ same_word word.now other.now }
 {
     word.eq_ignore_ascii_case(other)

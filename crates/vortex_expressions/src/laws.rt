@@ -8,7 +8,8 @@ ghost use Rattle.vortex_logical.specs.declared.kind.Kind.{Kind};
 ghost use Rattle.vortex_expressions.specs.RowLaws.{TextsMeanTheirRows};
 
 use vortex_logical_calls::laws::{
-    bounds_go_by_order, comparisons_go_by_order, computations_are_exact,
+    bounds_go_by_order, comparisons_go_by_order, computations_are_exact, intervals_move,
+    kinds_meet, values_are_aligned,
 };
 
 /// The text of a tree over the columns of a scope means that tree.
@@ -33,11 +34,17 @@ pub fn text_is_read_back()
 /// Each comparison, each BETWEEN and each operator of arithmetic between values of kinds in a text
 /// means in each row what its operands mean there: dates, timestamps, decimals and floats in their
 /// order, and exact sums, differences and products. Operands are as they become next to each other: a
-/// whole number next to a float is the nearest float.
+/// whole number next to a float is the nearest float. An interval moves a date or a timestamp by its
+/// days or its microseconds. A function that chooses among values or compares
+/// them, as IN, CASE, `coalesce` and `greatest`, is called on integers, each of which stores in the
+/// kind in which the values meet what its value means; what is chosen has that kind.
 pub fn texts_mean_their_rows()
     ensures { (scope : Fields) (kinds : List Kind) → TextsMeanTheirRows scope kinds }
 {
     comparisons_go_by_order();
     bounds_go_by_order();
     computations_are_exact();
+    intervals_move();
+    values_are_aligned();
+    kinds_meet();
 }
