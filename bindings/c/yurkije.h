@@ -68,7 +68,7 @@
  * - Calls read nothing outside of the slices that they are handed, whatever stands in them.
  *
  * A batch of which no column that is read and no answer is of texts or byte strings runs in parts of
- * 2,048 rows, and may have any number of rows. With texts or byte strings batches of some 8,192 rows run fastest: for
+ * 2,048 rows (with long lists up to 65,536), and may have any number of rows. With texts or byte strings batches of some 8,192 rows run fastest: for
  * larger ones the C library may give memory back to the system and fetch it again at each call.
  */
 #ifndef YURKIJE_H

@@ -7,17 +7,44 @@ use rowfn_batches::{Refusals, RefusedRows, Request, Settings, StreamError, Summa
 use rowfn_csv::Format;
 use rowfn_options::Options;
 use rowfn_queries::{Query, Question};
+use std::alloc::Global;
 use std::cell::Cell;
 use std::io::{self, Read, Write};
 use vortex_columns::StructFields;
+use vortex_program::rows_at_once;
 
-/// How rows are read and written; those that were passed on are counted in a cell.
-fn settings_of<'a>(options: &Options<'_>, format: Format<'a>, rows: &'a Cell<u64>) -> Settings<'a> {
+/// Over how many rows a question is asked at once; 0 where there is none.
+fn rows_at_once_of(alloc: Global, question: &Option<Question>) -> Result<usize, StreamError> {
+    match question {
+        Some(question) => match rows_at_once(alloc, &question.program.optimized) {
+            Ok(rows) => Ok(rows),
+            Err(_) => Err(StreamError::OutOfMemory),
+        },
+        None => Ok(0),
+    }
+}
+
+/// How many rows a batch has where the options do not say it: as the question that takes most.
+fn usual_batch(alloc: Global, query: &Query) -> Result<usize, StreamError> {
+    let answers = rows_at_once_of(alloc, &query.answers)?;
+    let condition = rows_at_once_of(alloc, &query.condition)?;
+    Ok(answers.max(condition))
+}
+
+/// How rows are read and written, with batches of so many rows where the options do not say it; the
+/// rows that were passed on are counted in a cell.
+fn settings_of<'a>(
+    options: &Options<'_>,
+    format: Format<'a>,
+    usual: usize,
+    rows: &'a Cell<u64>,
+) -> Settings<'a> {
+    let bytes = (usual as u64).saturating_mul(64).max(1 << 20);
     Settings {
         format,
         header: options.header,
-        batch: options.batch as usize,
-        batch_bytes: options.batch_bytes,
+        batch: options.batch.map(|rows| rows as usize).unwrap_or(usual),
+        batch_bytes: options.batch_bytes.unwrap_or(bytes),
         flushes: options.flushes,
         max_field: options.max_field as usize,
         picks_rows: false,
@@ -80,10 +107,12 @@ fn run_watched<R: Read + Drop, E: Write + Drop>(
     reader: R,
     refused: &mut RefusedRows<E>,
 ) -> Result<Summary, StreamError> {
-    let null = String::from_str(console.alloc(), options.null)?;
+    let alloc = console.alloc();
+    let usual = usual_batch(alloc, query)?;
+    let null = String::from_str(alloc, options.null)?;
     let rows = Cell::new(0);
     let format = format_with(options, null.as_bytes(), &options.more_nulls);
-    let settings = settings_of(options, format, &rows);
+    let settings = settings_of(options, format, usual, &rows);
     if !options.progress {
         return run_query(console, settings, query, reader, refused);
     }

@@ -8,7 +8,8 @@ const AFTER_HELP: &str = "Rows are CSV. EXPRESSION is one answer or more:
   price * stock as worth, price      answers, each with a name if it has one
   price, \"unit price\"                columns; in double quotes any name
   7  -7  7::u8  'it''s'  true  null  literals; null::utf8? is a null of a type
-  + - * / %  -a                      numbers; of two types in the wider one
+  + - * / %  -a                      numbers; of two types in the wider one; 7 / 2 is 3, as whole
+                                     numbers are cut off toward zero: write a::f64 / b for 3.5
   a & b, a | b, a # b, ~a, a << n    operations on bits; a >> n
   s || t                             one text after the other
   = <> != < <= > >=                  two values of one type; texts by their bytes
@@ -20,6 +21,9 @@ const AFTER_HELP: &str = "Rows are CSV. EXPRESSION is one answer or more:
   coalesce(a, 0), substr(s, 1, 3)    and nullif if greatest least mod abs sign length octet_length
                                      lower upper left right btrim ltrim rtrim strpos starts_with
                                      replace split_part repeat reverse concat regexp_like
+  round(x), sqrt(x)                  of floats; floor ceil trunc abs sign; n::f64 is a float
+  day + 30, at + interval '3 days'   dates and timestamps: year quarter month week day dow doy hour
+                                     minute second epoch date_trunc make_date extract(year from at)
   cast(a as int), a::int             between integers, truth values and texts; try_cast gives null
                                      where cast fails
 Types are bool, i8 to i64, u8 to u64, f32, f64, decimal(12,2), date, timestamp and utf8; a ? after
@@ -189,8 +193,8 @@ const READING: [Row; 8] = [
         long: Some("batch"),
         takes: Takes::Number32,
         value: "N",
-        default: Some("2048"),
-        help: "How many rows are read, answered and written together, at most",
+        help: "How many rows are read, answered and written together, at most: 2048 unless it is \
+               said, or 64 for each item of a list of more than 32, up to 65536",
         ..TEXT
     },
     Row {
@@ -198,8 +202,8 @@ const READING: [Row; 8] = [
         long: Some("batch-bytes"),
         takes: Takes::Number64,
         value: "N",
-        default: Some("1048576"),
-        help: "With how many bytes of the input those rows are enough",
+        help: "With how many bytes of the input those rows are enough: 1048576 unless it is said, \
+               or 4096 for each item of a list of more than 256, up to 4194304",
         ..TEXT
     },
     Row {

@@ -52,10 +52,10 @@ pub struct Options<'a> {
     pub blank_rows: bool,
     /// Whether truth values are read in any spelling.
     pub any_truths: bool,
-    /// How many rows are read, answered and written together; at least 1.
-    pub batch: u32,
-    /// With how many bytes of the input those are enough; at least 1.
-    pub batch_bytes: u64,
+    /// How many rows are read, answered and written together, if that is said; at least 1.
+    pub batch: Option<u32>,
+    /// With how many bytes of the input those are enough, if that is said; at least 1.
+    pub batch_bytes: Option<u64>,
     /// Whether answers are written whenever the input pauses.
     pub flushes: bool,
     /// How many bytes a field has, at most; at least 1.
@@ -186,8 +186,8 @@ fn options_of<'a>(
         fits: fields.shapes.fits,
         blank_rows: fields.shapes.blank_rows,
         any_truths: fields.shapes.any_truths,
-        batch: matches.get_one::<u32>("batch").unwrap_or(2048),
-        batch_bytes: matches.get_one::<u64>("batch-bytes").unwrap_or(1 << 20),
+        batch: matches.get_one::<u32>("batch"),
+        batch_bytes: matches.get_one::<u64>("batch-bytes"),
         flushes: matches.get_flag("flush"),
         max_field: matches.get_one::<u64>("max-field").unwrap_or(1 << 28),
         first_row: matches.get_one::<u64>("first-row").unwrap_or(1),

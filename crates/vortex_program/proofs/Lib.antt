@@ -15,3 +15,4 @@ pub mod Parsing
 pub mod ReadColumns
 pub mod SomeRows
 pub mod TakenRows
+pub mod WideTrees

@@ -8,3 +8,4 @@ pub mod Reads
 pub mod Rows
 pub mod Running
 pub mod Texts
+pub mod Widths

@@ -16,6 +16,7 @@ pub mod reads;
 mod rows;
 pub mod running;
 mod truths;
+pub mod widths;
 
 pub use answer::Answer;
 pub use executing::execute_answers;
@@ -25,3 +26,4 @@ pub use parsed::{Parsed, parse_answers, parse_condition};
 pub use program::Program;
 pub use reads::{columns_read, unread_columns_change_nothing};
 pub use running::RunError;
+pub use widths::rows_at_once;

@@ -1,5 +1,5 @@
 //! A program run over a batch chunk by chunk: what lies between is made anew for each chunk, and is
-//! small enough to stay in the caches.
+//! small enough to stay in the caches, but for programs of long lists, whose chunks have more rows.
 ghost use Rattle.std.specs.Prelude.{◌≡◌, ◌<◌, ◌≤◌, ◌+◌, ◌*◌, ◌/◌, ◌^◌, ◌⊎◌, ℕ, List};
 ghost use Rattle.std.specs.Prelude.{All, IfOk, IfErr};
 ghost use Rattle.std.specs.Prelude.{IfSome, MatchResult, MatchOption, None, [], length, map};
@@ -20,15 +20,11 @@ ghost use Rattle.yurkije_core.specs.Chunks.{HasChunkIfRead, TakesRows, ArePut};
 use std::alloc::Global;
 use vortex_arrow::{ArrowColumn, to_column};
 use vortex_columns::{Column, VortexError, VortexResult};
-use vortex_program::{Answer, Program, RunError};
+use vortex_program::{Answer, Program, RunError, rows_at_once};
 use yurkije_columns::Joined;
 
-/// How many rows are run at once: a multiple of 64, and so few that what a chunk takes is less than
-/// `malloc` maps from the system.
-pub(crate) const CHUNK: usize = 2048;
-
-/// How many rows are run as a whole still: these are less than `malloc` maps, too, and a run has a
-/// fixed cost.
+/// How many rows are run as a whole still: a run has a fixed cost, and so many rows take less than
+/// `malloc` maps from the system, as those of a usual chunk.
 pub(crate) const WHOLE: usize = 8192;
 
 /// Some rows of a column. Where it has no null, no bits are read.
@@ -231,14 +227,17 @@ fn columns_of(alloc: Global, joined: Vec<Joined>) -> VortexResult<Vec<Column>>
     Ok(columns)
 }
 
-/// Appends the answers of a batch to none, chunk by chunk.
+/// Appends the answers of a batch to none, so many rows at a time: a multiple of 8, for the bits.
 fn add_chunks(
     alloc: Global,
     program: &Program,
     columns: &[Option<ArrowColumn<'_>>],
     rows: usize,
+    count: usize,
     joined: &mut Vec<Joined>,
 ) -> Result<(), RunError>
+    requires count { 0 < count }
+    requires bytes { 8 * (count / 8) ≡ count }
     requires chunk { All (HasChunkIfRead 0 rows) columns.now }
     requires place { All (λ o. IfSome o (λ c. c.offset + rows < 2 ^ 64)) columns.now }
     requires some { 0 < rows }
@@ -259,13 +258,24 @@ fn add_chunks(
     learn_bound(&program.written);
     learn_bound(&program.optimized);
     let mut first = 0;
-    'chunks: while rows - first > CHUNK {
-        match add_chunk(alloc, program, columns, rows, first, CHUNK, joined) {
-            Ok(()) => first += CHUNK,
+    'chunks: while rows - first > count {
+        match add_chunk(alloc, program, columns, rows, first, count, joined) {
+            Ok(()) => first += count,
             Err(error) => return Err(error),
         }
     }
     add_chunk(alloc, program, columns, rows, first, rows - first, joined)
+}
+
+/// How many rows are run at once: the usual number, if memory is refused as the lists are measured.
+fn chunk_rows(alloc: Global, program: &Program) -> usize
+    ensures some { 0 < result }
+    ensures bytes { 8 * (result / 8) ≡ result }
+{
+    match rows_at_once(alloc, &program.optimized) {
+        Ok(rows) => rows,
+        Err(_) => 2048,
+    }
 }
 
 /// What `Program::run` answers over the columns that are lent, of so many rows, run chunk by chunk
@@ -290,8 +300,9 @@ pub(crate) fn run_chunks(
         (RefusesTrees (map (batch_column rows) columns.now) rows
         (trees_of program.now.written.items) (trees_of program.now.optimized.items)) }
 {
+    let count = chunk_rows(alloc, program);
     let mut joined = begun;
-    match add_chunks(alloc, program, columns, rows, &mut joined) {
+    match add_chunks(alloc, program, columns, rows, count, &mut joined) {
         Ok(()) => {}
         Err(error) => return Err(error),
     }

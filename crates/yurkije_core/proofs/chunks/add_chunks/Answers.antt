@@ -4,5 +4,5 @@ use Rattle.yurkije_core.proofs.chunks.add_chunks.Goals as goal
 
 pub add_chunk-requires-clause-chunk : goal.add_chunk-requires-clause-chunk
 add_chunk-requires-clause-chunk c =
-    chunk_at c.chunks.first 2048 c.args.rows c.args.columns.now
+    chunk_at c.chunks.first c.args.count c.args.rows c.args.columns.now
     (omega (arith, c.chunks.invariant.some, c.chunks-test.true)) c.requires.chunk c.requires.place
