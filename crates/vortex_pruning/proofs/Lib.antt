@@ -5,3 +5,10 @@ pub mod GroupsPruned
 pub mod SoleValues
 pub mod TreesLeft
 pub mod VerdictsKept
+pub mod MixedColumns
+pub mod OrderedPairs
+pub mod MadeRows
+pub mod FirstRows
+pub mod ExactLeaves
+pub mod ExactTrees
+pub mod ExactCalls

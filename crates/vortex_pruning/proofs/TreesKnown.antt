@@ -1,6 +1,6 @@
 -- What is known of a leaf, of a literal, and of a call from what is known of its children.
 use Rattle.std.specs.Prelude.{◌≡◌, ℕ, zero, suc, ◌<◌, ◌||◌, List, [], ◌∷◌, Option, Some, None, ⊤}
-use Rattle.std.specs.Prelude.{Bool, true, map, slice_get, refl, length, take}
+use Rattle.std.specs.Prelude.{Bool, true, map, slice_get, refl, length, take, IfSome}
 use Rattle.std.specs.List.{list_any}
 use Rattle.std.proofs.Common.{sym, ap, ◌∙◌, subst}
 use Rattle.std.proofs.lemmas.Option.{slice_get-map}
@@ -8,8 +8,9 @@ use Rattle.std.specs.Option.{option_map}
 use Rattle.vortex_types.specs.LogicalTypes.{LogicalType}
 use Rattle.vortex_types.specs.ScalarView.{ScalarView}
 use Rattle.vortex_types.specs.Values.{Value, null}
+use Rattle.vortex_types.specs.Typing.{HasType}
 use Rattle.vortex_columns.specs.ColumnView.{ColumnView, row}
-use Rattle.vortex_statistics.specs.StatisticsView.{StatisticsView}
+use Rattle.vortex_statistics.specs.StatisticsView.{StatisticsView, AreConsistent}
 use Rattle.vortex_interface.specs.Outcomes.{Outcome, gives, faults, Fault}
 use Rattle.vortex_interface.specs.Meaning.{Meaning, Lawful}
 use Rattle.vortex_interface.specs.Functions.{Function, function_type, function_means}
@@ -40,16 +41,39 @@ use Rattle.vortex_ranges.specs.declared.range.Range.{Range}
 use Rattle.vortex_ranges.specs.BoundViews.{range_of}
 use Rattle.vortex_pruning.specs.Knowing.{typed_column, AreTold, Knows, with_faults, HasStatistics}
 use Rattle.vortex_pruning.specs.Knowing.{RefusesLeaves}
+use Rattle.vortex_pruning.specs.Exact.{IsExact, IsSimpleRange}
+use Rattle.vortex_pruning.specs.Sharpness.{HasRoom, AllReadOnce, IsExactIfReadOnce}
+use Rattle.vortex_pruning.proofs.ExactLeaves.{leaf_exact, literal_exact}
+use Rattle.vortex_pruning.proofs.ExactCalls.{AllReady, call_exact}
 use Rattle.vortex_pruning.proofs.DescribedColumns.{described_lengths, described_typed}
 use Rattle.vortex_pruning.proofs.DescribedColumns.{described_column, all_described_fit}
 
 module _ {V O : Type 0} (m : Meaning V O) (n : ℕ) (ss : List StatisticsView) where
-  pub literal_known : (s : ScalarView) → Knows m n ss (constant s) (literal_range s.value)
-  literal_known s = record { told = tt; admitted = λ cs d i h. literal-admits s.value }
+  pub literal_known : (s : ScalarView) → HasType s.dtype s.value
+      → Knows m n ss (constant s) (literal_range s.value)
+  literal_known s h = record {
+    told = tt;
+    admitted = λ cs d i lt. literal-admits s.value;
+    exact = λ once lt cs d k typed.
+        let is : s.dtype ≡ k = cc in
+        subst (λ (l : LogicalType). IsExact m n ss (constant s) l (literal_range s.value)) is
+        (literal_exact m n ss cs d lt s.dtype s.value once h);
+  }
+
+  leaf_is_exact : (p : ℕ) (name : List ℕ) (s : StatisticsView) → slice_get ss p ≡ Some s
+      → AreConsistent s
+      → IsExactIfReadOnce m n ss (leaf (place p name s.dtype)) (described n s)
+  leaf_is_exact p name s e consistent = λ once lt cs d k typed.
+      let is : s.dtype ≡ k = cc in
+      let room = subst (λ (o : Option StatisticsView). IfSome o (HasRoom n)) e once.1 in
+      subst (λ (l : LogicalType).
+      IsExact m n ss (leaf (place p name s.dtype)) l (described n s)) is
+      (leaf_exact m n ss cs d lt p name s e consistent once.0 room)
 
   pub leaf_known : (p : ℕ) (name : List ℕ) (t : LogicalType) (s : StatisticsView)
-      → slice_get ss p ≡ Some s → s.dtype ≡ t → Knows m n ss (leaf (place p name t)) (described n s)
-  leaf_known p name t s e same = record {
+      → slice_get ss p ≡ Some s → s.dtype ≡ t → AreConsistent s
+      → Knows m n ss (leaf (place p name t)) (described n s)
+  leaf_known p name t s e same consistent = record {
     told = (
       typed_column s,
       slice_get-map typed_column ss p ∙ ap (option_map typed_column) e,
@@ -59,6 +83,9 @@ module _ {V O : Type 0} (m : Meaning V O) (n : ℕ) (ss : List StatisticsView) w
         let a = described_column n ss cs p s d e in
         subst (λ (o : Option ColumnView). Admits (described n s) (row (rows_or_none o) i))
         (sym a.1) (described-admits n s a.0 a.2 i h);
+    exact = subst (λ (l : LogicalType).
+        IsExactIfReadOnce m n ss (leaf (place p name l)) (described n s)) same
+        (leaf_is_exact p name s e consistent);
   }
 
   -- what is known of the children, side by side
@@ -115,6 +142,17 @@ module _ {V O : Type 0} (m : Meaning V O) (n : ℕ) (ss : List StatisticsView) w
             let is : v ∷ ws ≡ vs = cc in
             subst (λ (us : List Value). AllAdmit (r ∷ rs) us) is (p, rest ws q)
 
+  -- of arguments that are known, what an exact call needs
+  all_ready : (cs : List ColumnView) (d : DescribeAll n ss cs) (lt : 0 < n) (ts : Trees V O)
+      (rs : List RangeView) → AllKnown ts rs → AllReadOnce n ss ts → AllReady m n ss cs d lt ts rs
+  all_ready cs d lt no_trees [] h once = tt
+  all_ready cs d lt no_trees (r ∷ rs) h once = absurd h
+  all_ready cs d lt (tree t ts) [] h once = absurd h
+  all_ready cs d lt (tree t ts) (r ∷ rs) h once = (
+    (λ k e. h.0.exact once.0 lt cs d k e, h.0.admitted cs d 0 lt),
+    all_ready cs d lt ts rs h.1 once.1,
+  )
+
   weaker : (b : Bool) (r : RangeView) (o : Outcome) → AdmitsOutcome r o
       → AdmitsOutcome (with_faults b r) o
   weaker b r (faults x) h = on_right b r.may_fault h
@@ -127,7 +165,8 @@ module _ {V O : Type 0} (m : Meaning V O) (n : ℕ) (ss : List StatisticsView) w
   module _ (lawful : Lawful m) (f : Function V O) (ts : Trees V O) (t : LogicalType)
       (typed : tree_type m (call f ts) ≡ Some t) (bound : IsBound (call f ts))
       (rs : List RangeView) (known : AllKnown ts rs) (r : RangeView)
-      (admits : AdmitsCalls (function_type m f) (function_means m f) t rs r) where
+      (admits : AdmitsCalls (function_type m f) (function_means m f) t rs r)
+      (shape : IsSimpleRange f t rs r) where
     all_rows : (cs : List ColumnView) → DescribeAll n ss cs → (i : ℕ) → i < n
         → AllHaveRow cs i ts
     all_rows cs d i lt =
@@ -160,7 +199,17 @@ module _ {V O : Type 0} (m : Meaning V O) (n : ℕ) (ss : List StatisticsView) w
         by (all_give vs) e = of_values vs e
 
     call_known : Knows m n ss (call f ts) (with_faults (any_faulty rs) r)
-    call_known = record { told = all_told ts rs known; admitted = call_admits }
+    call_known = record {
+      told = all_told ts rs known;
+      admitted = call_admits;
+      exact = λ once lt cs d k e.
+          let p : Some t ≡ Some k = sym typed ∙ e in
+          let is : t ≡ k = cc in
+          subst (λ (l : LogicalType).
+          IsExact m n ss (call f ts) l (with_faults (any_faulty rs) r)) is
+          (call_exact m n ss cs d lt f ts t typed once.0 once.1 rs
+          (all_ready cs d lt ts rs known once.1) r (shape once.0));
+    }
 
   -- the same of a node whose kind is told, with the results of a walk for its children
   abbrev pub KnowsRange : Tree V O → Range → Type 0
@@ -179,7 +228,8 @@ module _ {V O : Type 0} (m : Meaning V O) (n : ℕ) (ss : List StatisticsView) w
 
   module _ (lawful : Lawful m) (f : Function V O) (k : LogicalType) (rs : List Range)
       (r : RangeView)
-      (admits : AdmitsCalls (function_type m f) (function_means m f) k (map range_of rs) r) where
+      (admits : AdmitsCalls (function_type m f) (function_means m f) k (map range_of rs) r)
+      (shape : IsSimpleRange f k (map range_of rs) r) where
     pub called_known : (t : Tree V O) → called t ≡ Some f → tree_type m t ≡ Some k → IsBound t
         → AllMean KnowsRange (children_of t) rs
         → Knows m n ss t (with_faults (list_any (λ s. s.may_fault) rs) r)
@@ -190,26 +240,27 @@ module _ {V O : Type 0} (m : Meaning V O) (n : ℕ) (ss : List StatisticsView) w
         let calls = subst (λ (x : Function V O).
         AdmitsCalls (function_type m x) (function_means m x) k (map range_of rs) r) is admits in
         subst (λ (b : Bool). Knows m n ss (call g ts) (with_faults b r)) (any_mapped rs)
-        (call_known lawful g ts k typed bound (map range_of rs) (side_by_side ts rs h) r calls)
+        (call_known lawful g ts k typed bound (map range_of rs) (side_by_side ts rs h) r calls
+        (subst (λ (x : Function V O). IsSimpleRange x k (map range_of rs) r) is shape))
 
-  pub literal_node : (t : Tree V O) (s : ScalarView) → Some s ≡ literal t
+  pub literal_node : (t : Tree V O) (s : ScalarView) → IsBound t → Some s ≡ literal t
       → Knows m n ss t (literal_range s.value)
-  literal_node (leaf l) s e = cc
-  literal_node (call f ts) s e = cc
-  literal_node (constant x) s e =
+  literal_node (leaf l) s h e = cc
+  literal_node (call f ts) s h e = cc
+  literal_node (constant x) s h e =
       let is : x ≡ s = cc in
       subst (λ (y : ScalarView). Knows m n ss (constant x) (literal_range y.value)) is
-      (literal_known x)
+      (literal_known x h)
 
   pub column_node : (t : Tree V O) (p : ℕ) (k : LogicalType) (s : StatisticsView)
       → IsLeafAt p t → tree_type m t ≡ Some k → slice_get ss p ≡ Some s → s.dtype ≡ k
-      → Knows m n ss t (described n s)
-  column_node (leaf (place q name u)) p k s h typed e same =
+      → AreConsistent s → Knows m n ss t (described n s)
+  column_node (leaf (place q name u)) p k s h typed e same c =
       let is : k ≡ u = cc in
-      leaf_known q name u s (subst (λ (x : ℕ). slice_get ss x ≡ Some s) h e) (same ∙ is)
-  column_node (leaf (held c)) p k s h typed e same = absurd h
-  column_node (constant x) p k s h typed e same = absurd h
-  column_node (call f ts) p k s h typed e same = absurd h
+      leaf_known q name u s (subst (λ (x : ℕ). slice_get ss x ≡ Some s) h e) (same ∙ is) c
+  column_node (leaf (held x)) p k s h typed e same c = absurd h
+  column_node (constant x) p k s h typed e same c = absurd h
+  column_node (call f ts) p k s h typed e same c = absurd h
 
   pub no_node : (t : Tree V O) → called t ≡ None → None ≡ literal t → ¬ IsLeaf t → ⊥
   no_node (leaf l) e g h = h tt

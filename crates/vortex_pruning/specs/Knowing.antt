@@ -16,6 +16,7 @@ use Rattle.vortex_ranges.specs.BoundViews.{range_of}
 use Rattle.vortex_ranges.specs.Ranges.{RangeView}
 use Rattle.vortex_ranges.specs.Calls.{AdmitsOutcome}
 use Rattle.vortex_ranges.specs.Described.{DescribeAll}
+use Rattle.vortex_pruning.specs.Sharpness.{IsExactIfReadOnce}
 
 -- a column of the statistics' type, without rows
 abbrev pub typed_column : StatisticsView → ColumnView
@@ -26,12 +27,13 @@ abbrev pub AreTold : {V O : Type 0} → List StatisticsView → Tree V O → Typ
 AreTold ss t = LeavesFit (map typed_column ss) t
 
 -- each leaf has statistics, and of all columns of n rows that they describe, the range admits the
--- outcome of the tree in each row
+-- outcome of the tree in each row; and nothing more, if the tree reads each column once
 pub record Knows {V O : Type 0} (m : Meaning V O) (n : ℕ) (ss : List StatisticsView) (t : Tree V O)
     (r : RangeView) : Type 0 where
   pub told : AreTold ss t
   pub admitted : (cs : List ColumnView) → DescribeAll n ss cs → (i : ℕ) → i < n
       → AdmitsOutcome r (eval m cs t i)
+  pub exact : IsExactIfReadOnce m n ss t r
 
 -- the same range, of what may fault if that is so
 abbrev pub with_faults : Bool → RangeView → RangeView

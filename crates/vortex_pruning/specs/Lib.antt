@@ -1,3 +1,5 @@
+pub mod Exact
+pub mod Sharpness
 pub mod Knowing
 pub mod Pruning
 pub mod Groups

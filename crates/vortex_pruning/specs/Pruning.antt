@@ -19,6 +19,7 @@ use Rattle.vortex_pruning.specs.declared.pruned.Verdict.{Verdict}
 use Rattle.vortex_pruning.specs.declared.pruned.Verdict.TheVariants.{Unknown, NoneTrue, AllTrue}
 use Rattle.vortex_pruning.specs.declared.pruned.Pruned.{Pruned}
 use Rattle.vortex_pruning.specs.Knowing.{AreTold}
+use Rattle.vortex_pruning.specs.Sharpness.{IsSharpIfReadOnce}
 
 abbrev pub IsTrueOutcome : Outcome → Type 0
 IsTrueOutcome o = o ≡ gives (truth true)
@@ -48,7 +49,7 @@ pub record TellsRows {V O : Type 0} (m : Meaning V O) (cs : List ColumnView) (n 
   pub most : true_count n (eval m cs t) ≤ p.trues.1
 
 -- the tree is a condition, each leaf has statistics, and what is told is so of all columns of n
--- rows that they describe
+-- rows that they describe; no more can be told, if the tree reads each column once
 pub record Prunes {V O : Type 0} (m : Meaning V O) (n : ℕ) (ss : List StatisticsView)
     (t : Tree V O) (p : Pruned) : Type 0 where
   pub told : AreTold ss t
@@ -56,6 +57,7 @@ pub record Prunes {V O : Type 0} (m : Meaning V O) (n : ℕ) (ss : List Statisti
   pub typed : tree_type m t ≡ Some dtype
   pub condition : is_bool_type dtype ≡ true
   pub tells : (cs : List ColumnView) → DescribeAll n ss cs → TellsRows m cs n t p
+  pub sharp : IsSharpIfReadOnce m n ss t p
 
 -- first a leaf without statistics in its place, or with some of another type; then a tree that is
 -- no condition

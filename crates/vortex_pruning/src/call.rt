@@ -6,6 +6,7 @@ ghost use Rattle.vortex_functions.specs.Words.{function_means, type_of};
 ghost use Rattle.vortex_ranges.specs.BoundViews.{range_of};
 ghost use Rattle.vortex_ranges.specs.Calls.{AdmitsCalls};
 ghost use Rattle.vortex_pruning.specs.Knowing.{with_faults};
+ghost use Rattle.vortex_pruning.specs.Exact.{IsSimpleRange};
 
 use crate::functions::ScalarFnRanges;
 use std::alloc::Global;
@@ -22,10 +23,12 @@ pub(crate) fn call_range<'a, C: ScalarFnRanges>(
     dtype: &DType,
     inputs: &[Range<'a>],
 ) -> VortexResult<Range<'a>>
-    ensures { AnswersUnlessMemory result (λ r. AdmitsCalls
+    ensures admits { AnswersUnlessMemory result (λ r. AdmitsCalls
         (function_type C.meaning (function_of function.now))
         (function_means C.meaning (function_of function.now)) (type_of dtype.now)
         (map range_of inputs.now) (range_of r)) }
+    ensures shape { AnswersUnlessMemory result (λ r. IsSimpleRange (function_of function.now)
+        (type_of dtype.now) (map range_of inputs.now) (range_of r)) }
 {
     match function {
         ScalarFnRef::Binary(operator) => Ok(binary_range(*operator, dtype, inputs)),

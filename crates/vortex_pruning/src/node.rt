@@ -2,6 +2,7 @@
 ghost use Rattle.std.specs.Prelude.{◌≡◌, None, Some, MatchOption, slice_get};
 ghost use Rattle.vortex_functions.specs.Words.{AllMean, AnswersUnlessMemory, children_of, called};
 ghost use Rattle.vortex_functions.specs.Words.{function_of, literal, type_of};
+ghost use Rattle.vortex_statistics.specs.StatisticsView.{AreConsistent};
 ghost use Rattle.vortex_ranges.specs.BoundViews.{range_of};
 ghost use Rattle.vortex_pruning.specs.Knowing.{Knows, AnswersRange, HasStatistics};
 
@@ -20,7 +21,8 @@ fn statistics_at<'a>(
     dtype: &DType,
 ) -> Option<&'a Statistics>
     ensures { MatchOption result (¬ HasStatistics statistics.now place (type_of dtype.now))
-        (λ s. (slice_get statistics.now place ≡ Some s.now) × (s.now.dtype ≡ type_of dtype.now)) }
+        (λ s. (slice_get statistics.now place ≡ Some s.now) × (s.now.dtype ≡ type_of dtype.now)
+        × AreConsistent s.now) }
 {
     let found = statistics.get(place)?;
     if *found.dtype() == *dtype {
@@ -58,6 +60,7 @@ fn leaf_range<'a, C: ScalarFnRanges>(
     requires { called node.now ≡ None }
     ensures { AnswersRange C.meaning rows statistics.now node.now result }
 {
+    let _typed = node.dtype();
     match node.as_literal() {
         Some(scalar) => Ok(Range::literal(scalar)),
         None => column_range(node, statistics, rows),

@@ -59,6 +59,9 @@ pub fn ranges<'a, C: ScalarFnRanges>(
 /// which stand in the places of the scope: whether no row is true, or every row is; whether no row
 /// faults; and between which ends the number of true rows lies.
 ///
+/// No more can be known of a condition of And, Or, Not, comparisons and null tests that reads each
+/// column once, where no column has as few rows as its attained ends (`specs/Sharpness.antt`).
+///
 /// In order: E11 exactly where a leaf has no statistics in its place, or some of another type; E3
 /// exactly where the tree is not of Bool; and E9. A fault excludes nothing: where a row may fault,
 /// `NoneTrue` says that it is not true, and `faultless` is not set.

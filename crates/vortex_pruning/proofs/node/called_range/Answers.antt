@@ -6,6 +6,7 @@ use Rattle.vortex_ranges.specs.declared.range.Range.{Range}
 use Rattle.vortex_ranges.specs.BoundViews.{range_of}
 use Rattle.vortex_ranges.specs.Calls.{AdmitsCalls}
 use Rattle.vortex_pruning.specs.Knowing.{Knows, with_faults}
+use Rattle.vortex_pruning.specs.Exact.{IsSimpleRange}
 use Rattle.vortex_pruning.proofs.TreesKnown.{called_known}
 use Rattle.vortex_pruning.proofs.node.called_range.Goals as goal
 
@@ -22,8 +23,10 @@ returns g c =
     ∙ ap (λ (rs : List Range). list_any (λ (r : Range). r.may_fault) rs) c.deref-2.ensures.value in
     let admits = subst (λ (rs : List Range).
     AdmitsCalls (function_type m f) (function_means m f) k (map range_of rs) own)
-    c.deref.ensures.value c.in_ok-own.ensures in
+    c.deref.ensures.value c.in_ok-own.ensures.admits in
+    let shape = subst (λ (rs : List Range). IsSimpleRange f k (map range_of rs) own)
+    c.deref.ensures.value c.in_ok-own.ensures.shape in
     subst (λ r. Knows m n ss t r)
     (sym (c.with_faults.ensures ∙ ap (λ b. with_faults b own) faulty))
-    (called_known m n ss g.met.C.ScalarFnVTable.lawful f k c.args.inputs.items own admits t
+    (called_known m n ss g.met.C.ScalarFnVTable.lawful f k c.args.inputs.items own admits shape t
     c.requires.called c.dtype.ensures.dtype c.dtype.ensures.typed c.requires.inputs)

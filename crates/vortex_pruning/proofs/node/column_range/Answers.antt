@@ -19,7 +19,8 @@ returns-in-Some-statistics_at g c =
     subst (λ r. Knows m n ss c.args.node.now r) (sym c.described.ensures)
     (column_node m n ss c.args.node.now c.in-Some.place (type_of c.dtype.result.now)
     c.in-Some-statistics_at.found.now c.in-Some.ensures c.dtype.ensures.dtype
-    c.in-Some-statistics_at.ensures.0 c.in-Some-statistics_at.ensures.1)
+    c.in-Some-statistics_at.ensures.0 c.in-Some-statistics_at.ensures.1
+    c.in-Some-statistics_at.ensures.2)
 
 pub returns-in-None : goal.returns-in-None
 returns-in-None g c = (

@@ -9,4 +9,5 @@ returns-in-Some g c =
     let ss = c.args.statistics.now in
     let n = c.args.rows in
     subst (λ r. Knows m n ss c.args.node.now r) (sym c.literal.ensures)
-    (literal_node m n ss c.args.node.now c.in-Some.scalar.now c.in-Some.ensures)
+    (literal_node m n ss c.args.node.now c.in-Some.scalar.now c.dtype-typed.ensures.typed
+    c.in-Some.ensures)

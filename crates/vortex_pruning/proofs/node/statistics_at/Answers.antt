@@ -18,6 +18,7 @@ returns-then-eq c =
           c.in_ok-found.ensures.lookup.1,
       (type_eq-decides s.dtype t).0
           (sym (c.eq.ensures ∙ ap (λ u. type_eq u t) c.dtype.ensures.dtype) ∙ c.if-eq.true),
+      c.dtype.ensures.consistent,
     )
 
 pub returns-else-eq : goal.returns-else-eq

@@ -3,7 +3,7 @@ use Rattle.std.specs.Prelude.{IsSome, MatchOption}
 use Rattle.vortex_types.specs.ScalarView.{ScalarView}
 use Rattle.vortex_types.specs.Values.{Value}
 use Rattle.vortex_types.specs.TypeOf.{type_of}
-use Rattle.vortex_interface.specs.Trees.{Tree, children_of}
+use Rattle.vortex_interface.specs.Trees.{children_of}
 use Rattle.vortex_interface.specs.Eval.{tree_type}
 use Rattle.vortex_functions.specs.Walks.{AllMean}
 use Rattle.vortex_rewriting.specs.Places.{with_children}

@@ -3,6 +3,7 @@ use Rattle.vortex_types.specs.TypeOf.{type_of}
 use Rattle.vortex_ranges.specs.BoundViews.{range_of}
 use Rattle.vortex_pruning.specs.Pruning.{Prunes, uncondition}
 use Rattle.vortex_pruning.proofs.Verdicts.{tells_rows}
+use Rattle.vortex_pruning.proofs.ExactCalls.{sharp}
 use Rattle.vortex_pruning.proofs.trees.prune.Goals as goal
 
 pub returns : goal.returns
@@ -19,6 +20,10 @@ returns g c =
       typed = c.dtype.ensures.dtype;
       condition = sym c.is_boolean.ensures ∙ c.if-not-is_boolean.false;
       tells = tells_rows m n ss t (range_of c.in_ok-range.range) known;
+      sharp = λ once lt cs d.
+          sharp m n ss cs d lt t (type_of c.dtype.result.now) (range_of c.in_ok-range.range)
+          (sym c.is_boolean.ensures ∙ c.if-not-is_boolean.false)
+          (known.exact once lt cs d (type_of c.dtype.result.now) c.dtype.ensures.dtype);
     })
 
 pub returns-then-not-is_boolean : goal.returns-then-not-is_boolean
