@@ -35,6 +35,13 @@ fault_number (fault.NoInteger U8) = 25
 fault_number (fault.NoInteger U16) = 26
 fault_number (fault.NoInteger U32) = 27
 fault_number (fault.NoInteger U64) = 28
+fault_number fault.NoDate = 31
+fault_number fault.NoTimestamp = 32
+fault_number fault.NoFloat = 33
+fault_number fault.NoDecimal = 34
+fault_number fault.DecimalDigits = 35
+fault_number fault.DateRange = 36
+fault_number fault.TimestampRange = 37
 
 -- the fault with a number
 abbrev pub fault_of : ℕ → Option RowFault
@@ -67,6 +74,13 @@ fault_of n =
     else if nat_eq n 26 then Some (fault.NoInteger U16)
     else if nat_eq n 27 then Some (fault.NoInteger U32)
     else if nat_eq n 28 then Some (fault.NoInteger U64)
+    else if nat_eq n 31 then Some fault.NoDate
+    else if nat_eq n 32 then Some fault.NoTimestamp
+    else if nat_eq n 33 then Some fault.NoFloat
+    else if nat_eq n 34 then Some fault.NoDecimal
+    else if nat_eq n 35 then Some fault.DecimalDigits
+    else if nat_eq n 36 then Some fault.DateRange
+    else if nat_eq n 37 then Some fault.TimestampRange
     else None
 
 abbrev pub fault_text : RowFault → List ℕ
@@ -82,6 +96,13 @@ fault_text fault.FieldZero = codes "field 0 in split_part, where the first field
 fault_text fault.NoPattern = codes "text that is no regular expression"
 fault_text fault.FloatOverflow = codes "value out of range: overflow"
 fault_text fault.FloatUnderflow = codes "value out of range: underflow"
+fault_text fault.NoDate = codes "text that is no date in cast"
+fault_text fault.NoTimestamp = codes "text that is no timestamp in cast"
+fault_text fault.NoFloat = codes "text that is no f64 number in cast"
+fault_text fault.NoDecimal = codes "text that is no decimal of that scale in cast"
+fault_text fault.DecimalDigits = codes "number of more digits than the decimal has in cast"
+fault_text fault.DateRange = codes "date out of range"
+fault_text fault.TimestampRange = codes "timestamp out of range"
 fault_text (fault.OutOfRange I8) = codes "integer out of range in cast to i8"
 fault_text (fault.OutOfRange I16) = codes "integer out of range in cast to i16"
 fault_text (fault.OutOfRange I32) = codes "integer out of range in cast to i32"

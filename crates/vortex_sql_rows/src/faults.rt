@@ -32,6 +32,20 @@ pub enum RowFault {
     FloatOverflow,
     /// The result of a function on floats that are not zero is zero.
     FloatUnderflow,
+    /// A text in a cast is no date.
+    NoDate,
+    /// A text in a cast is no timestamp.
+    NoTimestamp,
+    /// A text in a cast is no float.
+    NoFloat,
+    /// A text in a cast is no decimal of the scale.
+    NoDecimal,
+    /// A decimal of the precision does not have the number.
+    DecimalDigits,
+    /// The calendar of dates does not have the day.
+    DateRange,
+    /// The calendar of timestamps does not have the time.
+    TimestampRange,
     /// The type of a cast does not have the integer.
     OutOfRange(PType),
     /// A text in a cast is no number of the type.
@@ -118,6 +132,13 @@ impl RowFault {
             RowFault::NoPattern => 10,
             RowFault::FloatOverflow => 19,
             RowFault::FloatUnderflow => 20,
+            RowFault::NoDate => 31,
+            RowFault::NoTimestamp => 32,
+            RowFault::NoFloat => 33,
+            RowFault::NoDecimal => 34,
+            RowFault::DecimalDigits => 35,
+            RowFault::DateRange => 36,
+            RowFault::TimestampRange => 37,
             RowFault::OutOfRange(ptype) => range_number(ptype),
             RowFault::NoInteger(ptype) => cast_number(ptype),
         }
@@ -156,6 +177,13 @@ impl RowFault {
             26 => Some(RowFault::NoInteger(PType::U16)),
             27 => Some(RowFault::NoInteger(PType::U32)),
             28 => Some(RowFault::NoInteger(PType::U64)),
+            31 => Some(RowFault::NoDate),
+            32 => Some(RowFault::NoTimestamp),
+            33 => Some(RowFault::NoFloat),
+            34 => Some(RowFault::NoDecimal),
+            35 => Some(RowFault::DecimalDigits),
+            36 => Some(RowFault::DateRange),
+            37 => Some(RowFault::TimestampRange),
             _ => None,
         }
     }
@@ -179,6 +207,13 @@ impl RowFault {
             RowFault::NoPattern => "text that is no regular expression",
             RowFault::FloatOverflow => "value out of range: overflow",
             RowFault::FloatUnderflow => "value out of range: underflow",
+            RowFault::NoDate => "text that is no date in cast",
+            RowFault::NoTimestamp => "text that is no timestamp in cast",
+            RowFault::NoFloat => "text that is no f64 number in cast",
+            RowFault::NoDecimal => "text that is no decimal of that scale in cast",
+            RowFault::DecimalDigits => "number of more digits than the decimal has in cast",
+            RowFault::DateRange => "date out of range",
+            RowFault::TimestampRange => "timestamp out of range",
             RowFault::OutOfRange(ptype) => range_text(ptype),
             RowFault::NoInteger(ptype) => cast_text(ptype),
         }
@@ -202,6 +237,13 @@ pub fn numbers_tell_faults(fault: RowFault)
         RowFault::NoPattern => {}
         RowFault::FloatOverflow => {}
         RowFault::FloatUnderflow => {}
+        RowFault::NoDate => {}
+        RowFault::NoTimestamp => {}
+        RowFault::NoFloat => {}
+        RowFault::NoDecimal => {}
+        RowFault::DecimalDigits => {}
+        RowFault::DateRange => {}
+        RowFault::TimestampRange => {}
         RowFault::OutOfRange(PType::I8) => {}
         RowFault::OutOfRange(PType::I16) => {}
         RowFault::OutOfRange(PType::I32) => {}
