@@ -284,6 +284,24 @@ mutual
       (first (suc d) d (name w) (sign sign.From ∷ end) refl
       (first (suc d) d (sign sign.From) end refl
       (last (suc d) (suc d) (spelling a) (sign sign.Close) (tree_stays a f.1 (suc d)) refl)))
+  tree_stays (tree.parted p g s a) f d =
+      let end : List Token = spelling a ++ (sign sign.Close ∷ []) in
+      both d (suc d) d (function_tokens p g) (spelling s ++ (sign sign.From ∷ end))
+      (function_opens p g d)
+      (both (suc d) (suc d) d (spelling s) (sign sign.From ∷ end) (tree_stays s f.1 (suc d))
+      (first (suc d) d (sign sign.From) end refl
+      (last (suc d) (suc d) (spelling a) (sign sign.Close) (tree_stays a f.2 (suc d)) refl)))
+  tree_stays (tree.parted_for p g s a w b) f d =
+      let end : List Token = spelling b ++ (sign sign.Close ∷ []) in
+      let limit : List Token = name w ∷ end in
+      both d (suc d) d (function_tokens p g)
+      (spelling s ++ (sign sign.From ∷ (spelling a ++ limit))) (function_opens p g d)
+      (both (suc d) (suc d) d (spelling s) (sign sign.From ∷ (spelling a ++ limit))
+      (tree_stays s f.2 (suc d))
+      (first (suc d) d (sign sign.From) (spelling a ++ limit) refl
+      (both (suc d) (suc d) d (spelling a) limit (tree_stays a f.3 (suc d))
+      (first (suc d) d (name w) end refl
+      (last (suc d) (suc d) (spelling b) (sign sign.Close) (tree_stays b f.4 (suc d)) refl)))))
 
   all_stay : (args : Arguments) → AllFit args → (d : ℕ) → Passes (suc d) (suc d) (all_spelled args)
   all_stay tree.no_arguments f d = passes_none (suc d)

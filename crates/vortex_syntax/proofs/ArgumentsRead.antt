@@ -1,6 +1,11 @@
 -- Arguments and items are read as they are spelled.
 use Rattle.std.proofs.Common.{◌≡◌, ℕ, suc, ◌<◌, ◌≤◌, Bool, true, false, List, [], ◌∷◌, ◌++◌}
-use Rattle.std.proofs.Common.{refl, ap, sym, ◌∙◌, append_assoc, arith, lit<, lit≤}
+use Rattle.std.proofs.Common.{refl, ap, sym, ◌∙◌, append_assoc, arith, lit<, lit≤, map, ◌||◌}
+use Rattle.std.specs.Prelude.{codes}
+use Rattle.std.specs.Char.{to_ascii_lowercase}
+use Rattle.std.specs.Str.{bytes_eq}
+use Rattle.std.proofs.lemmas.Bool.{false≢true}
+use Rattle.std.proofs.lemmas.Slice.Eq.{bytes_eq-Decides}
 use Rattle.std.proofs.lemmas.List.{append-nil}
 use Rattle.vortex_syntax.specs.declared.token.Sign.TheVariants as sign
 use Rattle.vortex_syntax.specs.Frames.{Frame, hole, top_hole, ceiling, top_ceiling, guard, whole}
@@ -8,7 +13,7 @@ use Rattle.vortex_syntax.specs.Frames as frame
 use Rattle.vortex_syntax.specs.Tokens.{Token, name, text, sign}
 use Rattle.vortex_syntax.specs.Syntax as tree
 use Rattle.vortex_syntax.specs.Syntax.{Syntax, Tested, Arguments, Branches}
-use Rattle.vortex_syntax.specs.Levels.{sign_level, level, takes_word}
+use Rattle.vortex_syntax.specs.Levels.{sign_level, level, takes_word, takes_from, is_for}
 use Rattle.vortex_syntax.specs.Levels.{predicate_level, concat_level}
 use Rattle.vortex_syntax.specs.Levels.{atom_level, literal_level}
 use Rattle.vortex_syntax.specs.Spelling.{spelling, all_spelled}
@@ -18,11 +23,12 @@ use Rattle.vortex_syntax.specs.Postfix.{Step, operand, applied, listed}
 use Rattle.vortex_syntax.specs.Postfix.{argument_count, postfix, all_postfix}
 use Rattle.vortex_syntax.proofs.Tables.{level_literal}
 use Rattle.vortex_syntax.proofs.Tables.{ceiling_below}
-use Rattle.vortex_syntax.proofs.Tables.{reach}
+use Rattle.vortex_syntax.proofs.Tables.{reach_at, unworded}
 use Rattle.vortex_syntax.proofs.Closes.{want, have, IsRead}
 use Rattle.vortex_syntax.proofs.StepsRead.{step_function}
 use Rattle.vortex_syntax.proofs.StepsRead.{step_nullary, step_comma, step_applied, step_in}
 use Rattle.vortex_syntax.proofs.StepsRead.{step_item, step_listed, step_word, step_extracted}
+use Rattle.vortex_syntax.proofs.StepsRead.{step_from, step_for, step_parted, step_parted_for}
 
 pub regrouped_2 : (out a : List Step) (x : Step) → (out ++ a) ++ (x ∷ []) ≡ out ++ (a ++ (x ∷ []))
 regrouped_2 out a x = append_assoc out a (x ∷ [])
@@ -127,9 +133,76 @@ read_extracted p f w a is ia = λ fs out rest top under end.
     ∙ step_extracted f (level a) fs ((out ++ word) ++ postfix a) rest
     ∙ ap (λ xs. have atom_level fs xs rest) (regrouped_3 out word (postfix a) (applied f 2))
 
-reach_in : (n : Bool) (ts : List Token) → reach (in_tokens n ++ ts) ≡ predicate_level
-reach_in true ts = refl
-reach_in false ts = refl
+-- no function takes both a word and `from`
+one_form : (f : List ℕ) → takes_from f ≡ true → takes_word f ≡ false
+one_form f h = by (takes_word f) refl
+  where
+    by : (b : Bool) → takes_word f ≡ b → takes_word f ≡ false
+    by false e = e
+    by true e =
+        let w = map to_ascii_lowercase f in
+        let is : w ≡ codes "extract" = grind (arith, e, bytes_eq-Decides w (codes "extract")) in
+        absurd (false≢true
+        (sym (ap (λ v. bytes_eq v (codes "substring") || bytes_eq v (codes "substr")) is) ∙ h))
+
+word_reach : (f : List ℕ) → takes_from f ≡ true → (fs : List Frame) (ts : List Token)
+    → reach_at (frame.Arguments f 0 ∷ fs) (sign sign.From ∷ ts) ≡ 0
+word_reach f h fs ts = unworded (frame.Arguments f 0 ∷ fs) (sign sign.From ∷ ts) (one_form f h)
+
+-- `from` and what follows, up to the next operand
+from_read : (p : Bool) (f : List ℕ) (s : Syntax) → takes_from f ≡ true → IsRead s
+    → (fs : List Frame) (out : List Step) (end : List Token)
+    → want fs out (function_tokens p f ++ (spelling s ++ (sign sign.From ∷ end)))
+    ≡ want (frame.From f ∷ fs) (out ++ postfix s) end
+from_read p f s is ist fs out end =
+    step_function p f fs out (spelling s ++ (sign sign.From ∷ end))
+    ∙ ist (frame.Arguments f 0 ∷ fs) out (sign sign.From ∷ end) (omega arith) (level_literal s)
+    (omega (arith, word_reach f is fs end))
+    ∙ step_from f is (level s) fs (out ++ postfix s) end
+
+parted_written : (a b c rest : List Token)
+    → (a ++ (b ++ (sign sign.From ∷ (c ++ (sign sign.Close ∷ []))))) ++ rest
+    ≡ a ++ (b ++ (sign sign.From ∷ (c ++ (sign sign.Close ∷ rest))))
+parted_written a b c rest = simp append_assoc
+
+pub read_parted : (p : Bool) (f : List ℕ) (s a : Syntax) → takes_from f ≡ true → IsRead s
+    → IsRead a → IsRead (tree.parted p f s a)
+read_parted p f s a is ist ia = λ fs out rest top under end.
+    let close : List Token = sign sign.Close ∷ rest in
+    ap (want fs out) (parted_written (function_tokens p f) (spelling s) (spelling a) rest)
+    ∙ from_read p f s is ist fs out (spelling a ++ close)
+    ∙ ia (frame.From f ∷ fs) (out ++ postfix s) close (omega arith) (level_literal a)
+    (omega arith)
+    ∙ step_parted f (level a) fs ((out ++ postfix s) ++ postfix a) rest
+    ∙ ap (λ xs. have atom_level fs xs rest) (regrouped_3 out (postfix s) (postfix a) (applied f 2))
+
+parted_for_written : (w : List ℕ) (a b c d rest : List Token)
+    → (a ++ (b ++ (sign sign.From ∷ (c ++ (name w ∷ (d ++ (sign sign.Close ∷ []))))))) ++ rest
+    ≡ a ++ (b ++ (sign sign.From ∷ (c ++ (name w ∷ (d ++ (sign sign.Close ∷ rest))))))
+parted_for_written w a b c d rest = simp append_assoc
+
+pub read_parted_for : (p : Bool) (f : List ℕ) (s a : Syntax) (w : List ℕ) (b : Syntax)
+    → takes_from f ≡ true → is_for w ≡ true → IsRead s → IsRead a → IsRead b
+    → IsRead (tree.parted_for p f s a w b)
+read_parted_for p f s a w b is word ist ia ib = λ fs out rest top under end.
+    let close : List Token = sign sign.Close ∷ rest in
+    let limit : List Token = name w ∷ (spelling b ++ close) in
+    let first : List Step = out ++ postfix s in
+    ap (want fs out)
+    (parted_for_written w (function_tokens p f) (spelling s) (spelling a) (spelling b) rest)
+    ∙ from_read p f s is ist fs out (spelling a ++ limit)
+    ∙ ia (frame.From f ∷ fs) first limit (omega arith) (level_literal a) (omega arith)
+    ∙ step_for f w word (level a) fs (first ++ postfix a) (spelling b ++ close)
+    ∙ ib (frame.For f ∷ fs) (first ++ postfix a) close (omega arith) (level_literal b)
+    (omega arith)
+    ∙ step_parted_for f (level b) fs ((first ++ postfix a) ++ postfix b) rest
+    ∙ ap (λ xs. have atom_level fs xs rest)
+    (regrouped_4 out (postfix s) (postfix a) (postfix b) (applied f 3))
+
+reach_in : (n : Bool) (fs : List Frame) (ts : List Token)
+    → reach_at fs (in_tokens n ++ ts) ≡ predicate_level
+reach_in true fs ts = refl
+reach_in false fs ts = refl
 
 list_written : (a b c d rest : List Token)
     → (a ++ (b ++ (c ++ (d ++ (sign sign.Close ∷ []))))) ++ rest
@@ -147,7 +220,7 @@ read_listed n a args b h ia ias ib = λ fs out rest top under end.
     ap (want fs out)
     (list_written (spelling a) (in_tokens n) (all_spelled args) (spelling b) rest)
     ∙ ia fs out (in_tokens n ++ items) (omega (arith, top, h))
-    (beneath a fs predicate_level top (lit< tt)) (omega (arith, h, reach_in n items))
+    (beneath a fs predicate_level top (lit< tt)) (omega (arith, h, reach_in n fs items))
     ∙ step_in n (level a) fs first items h top
     ∙ ias (λ m. frame.Items n m) (items_separate n) fs first last
     ∙ ib (frame.Items n k ∷ fs) (first ++ all_postfix args) close (omega arith) (level_literal b)

@@ -19,7 +19,7 @@ use Rattle.vortex_syntax.specs.Spelling.{spelling, type_token, with_not, is_toke
 use Rattle.vortex_syntax.specs.Postfix.{Step, operand, cast, argument_count, postfix}
 use Rattle.vortex_syntax.specs.Reading.{State, Operand, settled}
 use Rattle.vortex_syntax.proofs.Held.{Held, opened, casting, lower, matching, calling, listing}
-use Rattle.vortex_syntax.proofs.Held.{extracting}
+use Rattle.vortex_syntax.proofs.Held.{extracting, parting, limiting}
 use Rattle.vortex_syntax.proofs.Held.{frame_of, written, held, IsSound, frames_of, all_written}
 use Rattle.vortex_syntax.proofs.Held.{all_held, Nested, Settles, settled_sound}
 
@@ -172,6 +172,23 @@ pub extract_is : (f : List ℕ) (h : Held) → frame.Extract f ≡ frame_of h
     → (p : Bool) × (w : List ℕ) × (h ≡ extracting p f w)
 extract_is f (extracting p g w) e = (p, w, ap (λ v. extracting p v w) (sym (extract_name f g e)))
 extract_is f h e = absurd cc
+
+pub from_name : (f g : List ℕ) → frame.From f ≡ frame.From g → f ≡ g
+from_name f g e = cc
+
+pub part_is : (f : List ℕ) (h : Held) → frame.From f ≡ frame_of h
+    → (p : Bool) × (s : Syntax) × (h ≡ parting p f s)
+part_is f (parting p g s) e = (p, s, ap (λ v. parting p v s) (sym (from_name f g e)))
+part_is f h e = absurd cc
+
+pub for_name : (f g : List ℕ) → frame.For f ≡ frame.For g → f ≡ g
+for_name f g e = cc
+
+pub limit_is : (f : List ℕ) (h : Held) → frame.For f ≡ frame_of h
+    → (p : Bool) × (s : Syntax) × (a : Syntax) × (w : List ℕ) × (h ≡ limiting p f s a w)
+limit_is f (limiting p g s a w) e =
+    (p, s, a, w, ap (λ v. limiting p v s a w) (sym (for_name f g e)))
+limit_is f h e = absurd cc
 
 pub item_mark : (n m : Bool) (k i : ℕ) → frame.Items n k ≡ frame.Items m i → n ≡ m
 item_mark n m k i e = cc

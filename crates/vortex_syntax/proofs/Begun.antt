@@ -20,7 +20,7 @@ use Rattle.vortex_syntax.specs.Postfix.{Step, postfix}
 use Rattle.vortex_syntax.specs.Refusals.{Begins}
 use Rattle.vortex_syntax.proofs.Tables.{top_atom, top_sign, own_right, whole_atom, atom_ceiling}
 use Rattle.vortex_syntax.proofs.Held.{Held, opened, casting, negating, minusing, joining}
-use Rattle.vortex_syntax.proofs.Held.{plusing, inverting, extracting}
+use Rattle.vortex_syntax.proofs.Held.{plusing, inverting, extracting, parting, limiting}
 use Rattle.vortex_syntax.proofs.Held.{distinguishing, lower, upper, matching, calling, listing}
 use Rattle.vortex_syntax.proofs.Held.{frame_of, written, choosing, asking, answering, defaulting}
 use Rattle.vortex_syntax.proofs.Held.{IsSound, frames_of, all_written, Nested, Plugged, plugged}
@@ -70,6 +70,16 @@ defaulted : (a b c d e : List Token)
     → ((a ++ (sign sign.When ∷ (b ++ (sign sign.Then ∷ (c ++ (sign sign.Else ∷ [])))))) ++ d) ++ e
     ≡ a ++ (sign sign.When ∷ (b ++ (sign sign.Then ∷ (c ++ (sign sign.Else ∷ (d ++ e))))))
 defaulted a b c d e = simp append_assoc
+
+part_closed : (a b c : List Token)
+    → ((a ++ (b ++ (sign sign.From ∷ []))) ++ c) ++ (sign sign.Close ∷ [])
+    ≡ a ++ (b ++ (sign sign.From ∷ (c ++ (sign sign.Close ∷ []))))
+part_closed a b c = simp append_assoc
+
+limit_closed : (w : List ℕ) (a b c d : List Token)
+    → ((a ++ (b ++ (sign sign.From ∷ (c ++ (name w ∷ []))))) ++ d) ++ (sign sign.Close ∷ [])
+    ≡ a ++ (b ++ (sign sign.From ∷ (c ++ (name w ∷ (d ++ (sign sign.Close ∷ []))))))
+limit_closed w a b c d = simp append_assoc
 
 filled : (h : Held) (e : Syntax) → IsSound h → Fits e → hole (frame_of h) ≤ level e
     → level e ≤ ceiling (frame_of h) → Filled h e
@@ -151,6 +161,20 @@ filled (extracting p g w) e s f le under = record {
   more = sign sign.Close ∷ [];
   tokens = call_closed (function_tokens p g) (name w ∷ sign sign.From ∷ []) (spelling e)
       (sign sign.Close ∷ []);
+}
+filled (parting p g b) e s f le under = record {
+  tree = tree.parted p g b e;
+  fits = (s.0, s.1, f);
+  level = refl;
+  more = sign sign.Close ∷ [];
+  tokens = part_closed (function_tokens p g) (spelling b) (spelling e);
+}
+filled (limiting p g b a w) e s f le under = record {
+  tree = tree.parted_for p g b a w e;
+  fits = (s.0, s.1, s.2, s.3, f);
+  level = refl;
+  more = sign sign.Close ∷ [];
+  tokens = limit_closed w (function_tokens p g) (spelling b) (spelling a) (spelling e);
 }
 filled (calling p w args) e s f le under = record {
   tree = tree.applied p w args e;

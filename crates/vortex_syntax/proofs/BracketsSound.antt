@@ -16,12 +16,14 @@ use Rattle.vortex_syntax.specs.Postfix.{Step, applied, listed, argument_count, p
 use Rattle.vortex_syntax.specs.Reading.{State, state, close_behind, comma_behind}
 use Rattle.vortex_syntax.proofs.Tables.{top_atom, atom_ceiling}
 use Rattle.vortex_syntax.proofs.Held.{Held, opened, calling, extracting, listing, written, held}
+use Rattle.vortex_syntax.proofs.Held.{parting, limiting}
 use Rattle.vortex_syntax.proofs.Held.{IsSound}
 use Rattle.vortex_syntax.proofs.Before.{Behind, more, more_tokens, as_tokens, as_steps, pushed}
 use Rattle.vortex_syntax.proofs.Before.{popped, open_is, call_is, items_are, HasOperand, HoldsIn}
-use Rattle.vortex_syntax.proofs.Before.{along, operand_is, extract_is}
+use Rattle.vortex_syntax.proofs.Before.{along, operand_is, extract_is, part_is, limit_is}
 use Rattle.vortex_syntax.proofs.Grown.{Holding, holding_as, sound_as, completed}
 use Rattle.vortex_syntax.proofs.ItemsSound.{item_is, listed_is}
+use Rattle.vortex_syntax.proofs.PartsSound.{parted_is, limited_is}
 
 pub grouped_is : (a : Syntax) (h : Held) (fs : List Frame) (out : List Step) (before : List Token)
     → Fits a → h ≡ opened
@@ -160,6 +162,21 @@ close_sound l (frame.Extract f ∷ fs) out s before e a =
     (extracted_is i.0 f i.1 a.tree fs out before
     (sound_as r.h (extracting i.0 f i.1) i.2 r.sound, a.fits)
     (holding_as r.h (extracting i.0 f i.1) a.tree fs out before i.2 r.behind))
+close_sound l (frame.From f ∷ fs) out s before e a =
+    let r = popped (frame.From f) fs out before (postfix a.tree) (spelling a.tree ++ []) a.behind in
+    let i = part_is f r.h r.is in
+    along (state (mode.Have atom_level) fs (out ++ (applied f 2 ∷ []))) s
+    (before ++ (sign sign.Close ∷ [])) e
+    (parted_is i.0 f i.1 a.tree fs out before (sound_as r.h (parting i.0 f i.1) i.2 r.sound) a.fits
+    (holding_as r.h (parting i.0 f i.1) a.tree fs out before i.2 r.behind))
+close_sound l (frame.For f ∷ fs) out s before e a =
+    let r = popped (frame.For f) fs out before (postfix a.tree) (spelling a.tree ++ []) a.behind in
+    let i = limit_is f r.h r.is in
+    let h : Held = limiting i.0 f i.1 i.2 i.3 in
+    along (state (mode.Have atom_level) fs (out ++ (applied f 3 ∷ []))) s
+    (before ++ (sign sign.Close ∷ [])) e
+    (limited_is i.0 f i.1 i.2 i.3 a.tree fs out before (sound_as r.h h i.4 r.sound) a.fits
+    (holding_as r.h h a.tree fs out before i.4 r.behind))
 close_sound l (frame.Items n k ∷ fs) out s before e a =
     let r = popped (frame.Items n k) fs out before (postfix a.tree)
     (spelling a.tree ++ []) a.behind in

@@ -14,7 +14,7 @@ use Rattle.vortex_syntax.specs.Spelling.{spelling, branches_spelled}
 use Rattle.vortex_syntax.specs.Postfix.{Step, chosen, has_operand, branch_count, postfix}
 use Rattle.vortex_syntax.specs.Postfix.{branches_postfix}
 use Rattle.vortex_syntax.specs.Reading.{next, run, word_after, settled}
-use Rattle.vortex_syntax.proofs.Tables.{reach, level_literal}
+use Rattle.vortex_syntax.proofs.Tables.{reach_at, level_literal}
 use Rattle.vortex_syntax.proofs.Closes.{want, have, IsRead}
 
 -- a step for each word
@@ -91,7 +91,8 @@ branch_steps : (a b c d : List Step) → ((a ++ b) ++ c) ++ d ≡ a ++ (b ++ (c 
 branch_steps a b c d = simp append_assoc
 
 one_branch : (bs : Branches) (c v : Syntax) → BranchesRead bs → IsRead c → IsRead v
-    → (fs : List Frame) (out : List Step) (rest : List Token) → reach rest ≤ level v
+    → (fs : List Frame) (out : List Step) (rest : List Token)
+    → reach_at (frame.Case part.Then (has_operand bs) (branch_count bs) ∷ fs) rest ≤ level v
     → want fs out
     (branches_spelled bs ++ (sign sign.When ∷ (spelling c ++ (sign sign.Then ∷
     (spelling v ++ rest)))))

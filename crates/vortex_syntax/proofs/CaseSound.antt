@@ -144,7 +144,7 @@ module _ (n : Bool) (k l : ℕ) (fs : List Frame) (out : List Step) (s : State)
       (spelling a.tree ++ []) a.behind in
       along (state mode.Want (frame.Case part.When true 0 ∷ fs) out) s
       (before ++ (sign sign.When ∷ [])) e
-      (grown choosing (asking (tree.of_operand a.tree)) a.tree sign.When fs out before refl refl
+      (grown choosing (asking (tree.of_operand a.tree)) a.tree (sign sign.When) fs out before refl refl
       a.fits (top_atom fs)
       (holding_as r.h choosing a.tree fs out before (choosing_is n k r.h r.is) r.behind))
 
@@ -159,7 +159,7 @@ module _ (n : Bool) (k l : ℕ) (fs : List Frame) (out : List Step) (s : State)
       along (state mode.Want (frame.Case part.Then n k ∷ fs) out) s (before ++ then) e
       (frame_as part.Then n (has_operand i.bs) k (branch_count i.bs) fs out (before ++ then) i.flag
       i.count
-      (grown (asking i.bs) (answering i.bs a.tree) a.tree sign.Then fs out before refl
+      (grown (asking i.bs) (answering i.bs a.tree) a.tree (sign sign.Then) fs out before refl
       (asked (branches_spelled i.bs) (spelling a.tree ++ then))
       (sound_as r.h (asking i.bs) i.is r.sound, a.fits) (top_atom fs)
       (holding_as r.h (asking i.bs) a.tree fs out before i.is r.behind)))
@@ -176,7 +176,7 @@ module _ (n : Bool) (k l : ℕ) (fs : List Frame) (out : List Step) (s : State)
       along (state mode.Want (frame.Case part.When n (suc k) ∷ fs) out) s (before ++ when) e
       (frame_as part.When n (has_operand i.bs) (suc k) (suc (branch_count i.bs)) fs out
       (before ++ when) i.flag (ap suc i.count)
-      (grown (answering i.bs i.c) (asking (tree.branch i.bs i.c a.tree)) a.tree sign.When fs out
+      (grown (answering i.bs i.c) (asking (tree.branch i.bs i.c a.tree)) a.tree (sign sign.When) fs out
       before (append_assoc (branches_postfix i.bs) (postfix i.c) (postfix a.tree))
       (branched (branches_spelled i.bs) (spelling i.c) (spelling a.tree) when)
       (sound.0, sound.1, a.fits) (top_atom fs)
@@ -194,7 +194,7 @@ module _ (n : Bool) (k l : ℕ) (fs : List Frame) (out : List Step) (s : State)
       along (state mode.Want (frame.Case part.Else n (suc k) ∷ fs) out) s (before ++ other) e
       (frame_as part.Else n (has_operand i.bs) (suc k) (suc (branch_count i.bs)) fs out
       (before ++ other) i.flag (ap suc i.count)
-      (grown (answering i.bs i.c) (defaulting i.bs i.c a.tree) a.tree sign.Else fs out before refl
+      (grown (answering i.bs i.c) (defaulting i.bs i.c a.tree) a.tree (sign sign.Else) fs out before refl
       (answered (branches_spelled i.bs) (spelling i.c) (spelling a.tree ++ other))
       (sound.0, sound.1, a.fits) (top_atom fs)
       (holding_as r.h (answering i.bs i.c) a.tree fs out before i.is r.behind)))

@@ -9,7 +9,7 @@ use Rattle.vortex_syntax.specs.declared.token.Sign.TheVariants as sign
 use Rattle.vortex_syntax.specs.Frames.{Frame, top_hole, top_ceiling, guard, whole, closing}
 use Rattle.vortex_syntax.specs.Frames as frame
 use Rattle.vortex_syntax.specs.declared.frame.Mode.TheVariants as mode
-use Rattle.vortex_syntax.specs.Tokens.{Token, sign}
+use Rattle.vortex_syntax.specs.Tokens.{Token, name, sign}
 use Rattle.vortex_syntax.specs.Levels.{level, own, left, and_level, is_level, predicate_level}
 use Rattle.vortex_syntax.specs.Levels.{concat_level, or_level}
 use Rattle.vortex_syntax.specs.Syntax.{Syntax}
@@ -19,8 +19,8 @@ use Rattle.vortex_syntax.specs.Reading as specs
 use Rattle.vortex_syntax.specs.Reading.{State, state, Operand, operand_of, settled, waiting}
 use Rattle.vortex_syntax.specs.Reading.{shifted, joining, and_behind, predicate, word_after, next}
 use Rattle.vortex_syntax.specs.Reading.{finish, run}
-use Rattle.vortex_syntax.proofs.Tables.{guard_hole, hole_sign, reach_of, reach, lower, not_lower}
-use Rattle.vortex_syntax.proofs.Tables.{at_most}
+use Rattle.vortex_syntax.proofs.Tables.{guard_hole, hole_sign, reach_of, reach, reach_at, lower}
+use Rattle.vortex_syntax.proofs.Tables.{at_most, not_lower}
 
 -- a frame that binds tighter than the sign is closed, and one that does not stays
 pub settled_one : (p l : ℕ) (f : Frame) (fs : List Frame) (out : List Step) → p < guard f
@@ -105,6 +105,8 @@ sign_closes l f fs out sign.In ts h =
     (settled_one predicate_level l f fs out h)
 sign_closes l f fs out sign.Escape ts h =
     ap (λ a. ran ts (specs.escape_behind a.frames a.steps)) (settled_one concat_level l f fs out h)
+sign_closes l f fs out sign.From ts h =
+    ap (λ a. ran ts (specs.from_behind a.frames a.steps)) (settled_one or_level l f fs out h)
 sign_closes l f fs out sign.As ts h =
     ap (λ a. ran ts (specs.as_behind a.frames a.steps)) (settled_one or_level l f fs out h)
 sign_closes l f fs out sign.Equal ts h = join_closes operator.Equal l f fs out ts h
@@ -142,10 +144,12 @@ pub closes : (l : ℕ) (f : Frame) (fs : List Frame) (out : List Step) (ts : Lis
 unfolding run next finish
 closes l f fs out [] h = ap (λ a. specs.end_behind a.frames a.steps) (settled_one 0 l f fs out h)
 closes l f fs out (sign s ∷ ts) h = sign_closes l f fs out s ts h
+closes l f fs out (name w ∷ ts) h =
+    ap (λ a. ran ts (specs.for_behind w a.frames a.steps)) (settled_one or_level l f fs out h)
 closes l f fs out (t ∷ ts) h = refl
 
 -- a tree's tokens lead to its steps, before a sign that binds no tighter
 abbrev pub IsRead : Syntax → Type 0
 IsRead t = (fs : List Frame) (out : List Step) (rest : List Token) → top_hole fs ≤ level t
-    → level t ≤ top_ceiling fs → reach rest ≤ level t
+    → level t ≤ top_ceiling fs → reach_at fs rest ≤ level t
     → want fs out (spelling t ++ rest) ≡ have (level t) fs (out ++ postfix t) rest

@@ -29,7 +29,7 @@ use Rattle.vortex_syntax.specs.Reading as specs
 use Rattle.vortex_syntax.specs.Reading.{next, settled, finish, run, steps_of}
 use Rattle.vortex_syntax.proofs.Tables.{not_eight, not_eleven, own_product, level_literal}
 use Rattle.vortex_syntax.proofs.Tables.{typed_ceiling, top_atom, own_left, own_right, tight}
-use Rattle.vortex_syntax.proofs.Tables.{reach_of, reach, not_two}
+use Rattle.vortex_syntax.proofs.Tables.{reach, reach_at, weaker, unworded, not_two}
 use Rattle.vortex_syntax.proofs.Closes.{want, have, closed, closes, IsRead}
 use Rattle.vortex_syntax.proofs.MinusRead.{signed_read, step_minus}
 use Rattle.vortex_syntax.proofs.CaseRead.{BranchesRead, read_without_operand, read_of_operand}
@@ -42,49 +42,51 @@ use Rattle.vortex_syntax.proofs.StepsRead.{step_plus, step_bit_not, step_titled}
 use Rattle.vortex_syntax.proofs.StepsRead.{step_null_test}
 use Rattle.vortex_syntax.proofs.ArgumentsRead.{beneath, AreRead, read_no_arguments, read_argument}
 use Rattle.vortex_syntax.proofs.ArgumentsRead.{read_nullary, read_applied, read_extracted}
-use Rattle.vortex_syntax.proofs.ArgumentsRead.{read_listed}
+use Rattle.vortex_syntax.proofs.ArgumentsRead.{read_listed, read_parted, read_parted_for}
 use Rattle.vortex_syntax.proofs.ArgumentsRead.{regrouped_2, regrouped_3, regrouped_4}
 
 waits_closed : (l : ℕ) (f : Frame) (fs : List Frame) (out : List Step) (rest : List Token)
-    → 0 < guard f → reach rest ≤ whole f
+    → 0 < guard f → reach_at fs rest ≤ whole f
     → have l (f ∷ fs) out rest ≡ have (whole f) fs (closed out f) rest
 waits_closed l f fs out rest h k =
     closes l f fs out rest
-    (tight f (reach rest) h k (not_two rest) (not_eight rest) (not_eleven rest))
+    (tight f (reach rest) h (omega (arith, k, weaker fs rest)) (not_two rest) (not_eight rest)
+    (not_eleven rest))
 
-reach_operator : (o : WrittenOperator) → reach_of (operator_sign o) ≡ own o
-reach_operator operator.Or = refl
-reach_operator operator.And = refl
-reach_operator operator.Equal = refl
-reach_operator operator.NotEqual = refl
-reach_operator operator.Less = refl
-reach_operator operator.LessOrEqual = refl
-reach_operator operator.Greater = refl
-reach_operator operator.GreaterOrEqual = refl
-reach_operator operator.Add = refl
-reach_operator operator.Sub = refl
-reach_operator operator.Mul = refl
-reach_operator operator.Div = refl
-reach_operator operator.Mod = refl
-reach_operator operator.Concat = refl
-reach_operator operator.BitAnd = refl
-reach_operator operator.BitOr = refl
-reach_operator operator.BitXor = refl
-reach_operator operator.ShiftLeft = refl
-reach_operator operator.ShiftRight = refl
+reach_operator : (o : WrittenOperator) (fs : List Frame) (ts : List Token)
+    → reach_at fs (sign (operator_sign o) ∷ ts) ≡ own o
+reach_operator operator.Or fs ts = refl
+reach_operator operator.And fs ts = refl
+reach_operator operator.Equal fs ts = refl
+reach_operator operator.NotEqual fs ts = refl
+reach_operator operator.Less fs ts = refl
+reach_operator operator.LessOrEqual fs ts = refl
+reach_operator operator.Greater fs ts = refl
+reach_operator operator.GreaterOrEqual fs ts = refl
+reach_operator operator.Add fs ts = refl
+reach_operator operator.Sub fs ts = refl
+reach_operator operator.Mul fs ts = refl
+reach_operator operator.Div fs ts = refl
+reach_operator operator.Mod fs ts = refl
+reach_operator operator.Concat fs ts = refl
+reach_operator operator.BitAnd fs ts = refl
+reach_operator operator.BitOr fs ts = refl
+reach_operator operator.BitXor fs ts = refl
+reach_operator operator.ShiftLeft fs ts = refl
+reach_operator operator.ShiftRight fs ts = refl
 
 read_joined : (o : WrittenOperator) (a b : Syntax) → left o ≤ level a → right o ≤ level b
     → IsRead a → IsRead b → IsRead (tree.joined o a b)
 read_joined o a b h k ia ib = λ fs out rest top under end.
     let ts = spelling b ++ rest in
-    let first : reach (sign (operator_sign o) ∷ ts) ≤ level a =
-    omega (arith, own_left o, h, reach_operator o) in
+    let first : reach_at fs (sign (operator_sign o) ∷ ts) ≤ level a =
+    omega (arith, own_left o, h, reach_operator o fs ts) in
     ap (want fs out) (append_assoc (spelling a) (sign (operator_sign o) ∷ spelling b) rest)
     ∙ ia fs out (sign (operator_sign o) ∷ ts) (omega (arith, top, own_left o, h))
     (beneath a fs (own o) top (omega (arith, own_product o))) first
     ∙ step_join o (level a) fs (out ++ postfix a) ts h top
     ∙ ib (frame.Join o ∷ fs) (out ++ postfix a) rest k (level_literal b)
-    (omega (arith, end, own_right o, k))
+    (omega (arith, end, own_right o, k, weaker fs rest, unworded (frame.Join o ∷ fs) rest refl))
     ∙ waits_closed (level b) (frame.Join o) fs ((out ++ postfix a) ++ postfix b) rest
     (omega (arith, own_right o)) end
     ∙ ap (λ xs. have (own o) fs xs rest)
@@ -123,21 +125,24 @@ read_minus : (a : Syntax) → sign_level ≤ level a → level a ≤ atom_level 
 read_minus a h k ia = λ fs out rest top under end.
     step_minus fs out (spelling a ++ rest)
     ∙ signed_read a h k fs out rest
-    ∙ ia (frame.Minus ∷ fs) out rest h k (omega (arith, end, h))
+    ∙ ia (frame.Minus ∷ fs) out rest h k
+    (omega (arith, end, h, weaker fs rest, unworded (frame.Minus ∷ fs) rest refl))
     ∙ waits_closed (level a) frame.Minus fs (out ++ postfix a) rest (lit< tt) end
     ∙ ap (λ xs. have sign_level fs xs rest) (regrouped_2 out (postfix a) (called call.Minus))
 
 read_plus : (a : Syntax) → sign_level ≤ level a → IsRead a → IsRead (tree.plus a)
 read_plus a h ia = λ fs out rest top under end.
     step_plus fs out (spelling a ++ rest)
-    ∙ ia (frame.Plus ∷ fs) out rest h (level_literal a) (omega (arith, end, h))
+    ∙ ia (frame.Plus ∷ fs) out rest h (level_literal a)
+    (omega (arith, end, h, weaker fs rest, unworded (frame.Plus ∷ fs) rest refl))
     ∙ waits_closed (level a) frame.Plus fs (out ++ postfix a) rest (lit< tt) end
     ∙ ap (λ xs. have sign_level fs xs rest) (regrouped_2 out (postfix a) (called call.Plus))
 
 read_bit_not : (a : Syntax) → bit_not_level ≤ level a → IsRead a → IsRead (tree.bit_not a)
 read_bit_not a h ia = λ fs out rest top under end.
     step_bit_not fs out (spelling a ++ rest) top
-    ∙ ia (frame.BitNot ∷ fs) out rest h (level_literal a) (omega (arith, end, h))
+    ∙ ia (frame.BitNot ∷ fs) out rest h (level_literal a)
+    (omega (arith, end, h, weaker fs rest, unworded (frame.BitNot ∷ fs) rest refl))
     ∙ waits_closed (level a) frame.BitNot fs (out ++ postfix a) rest (lit< tt) end
     ∙ ap (λ xs. have bit_not_level fs xs rest) (regrouped_2 out (postfix a) (called call.BitNot))
 
@@ -153,13 +158,15 @@ read_grouped a ia = λ fs out rest top under end.
 read_negated : (a : Syntax) → not_level ≤ level a → IsRead a → IsRead (tree.negated a)
 read_negated a h ia = λ fs out rest top under end.
     step_not fs out (spelling a ++ rest) top
-    ∙ ia (frame.Not ∷ fs) out rest h (level_literal a) (omega (arith, end, h))
+    ∙ ia (frame.Not ∷ fs) out rest h (level_literal a)
+    (omega (arith, end, h, weaker fs rest, unworded (frame.Not ∷ fs) rest refl))
     ∙ waits_closed (level a) frame.Not fs (out ++ postfix a) rest (lit< tt) end
     ∙ ap (λ xs. have not_level fs xs rest) (regrouped_2 out (postfix a) (called call.Not))
 
-reach_test : (k : Tested) (n : Bool) (ts : List Token) → reach (test_tokens k n ++ ts) ≡ is_level
-reach_test k true ts = refl
-reach_test k false ts = refl
+reach_test : (k : Tested) (n : Bool) (fs : List Frame) (ts : List Token)
+    → reach_at fs (test_tokens k n ++ ts) ≡ is_level
+reach_test k true fs ts = refl
+reach_test k false fs ts = refl
 
 read_tested : (k : Tested) (n : Bool) (a : Syntax) → IsTested k → is_level ≤ level a → IsRead a
     → IsRead (tree.tested k n a)
@@ -167,14 +174,15 @@ read_tested k n a i h ia = λ fs out rest top under end.
     ap (want fs out) (append_assoc (spelling a) (test_tokens k n) rest)
     ∙ ia fs out (test_tokens k n ++ rest) (omega (arith, top, h))
     (beneath a fs is_level top (lit< tt))
-    (omega (arith, h, reach_test k n rest))
+    (omega (arith, h, reach_test k n fs rest))
     ∙ step_test k n (level a) fs (out ++ postfix a) rest i h top
     ∙ ap (λ xs. have is_level fs xs rest)
     (regrouped_2 out (postfix a) (called (call.Is (test_of k) n)))
 
-reach_null_test : (n : Bool) → reach_of (null_test_sign n) ≡ is_level
-reach_null_test true = refl
-reach_null_test false = refl
+reach_null_test : (n : Bool) (fs : List Frame) (ts : List Token)
+    → reach_at fs (sign (null_test_sign n) ∷ ts) ≡ is_level
+reach_null_test true fs ts = refl
+reach_null_test false fs ts = refl
 
 read_null_tested : (n : Bool) (a : Syntax) → is_level ≤ level a → IsRead a
     → IsRead (tree.null_tested n a)
@@ -182,14 +190,15 @@ read_null_tested n a h ia = λ fs out rest top under end.
     let last : List Token = sign (null_test_sign n) ∷ rest in
     ap (want fs out) (append_assoc (spelling a) (sign (null_test_sign n) ∷ []) rest)
     ∙ ia fs out last (omega (arith, top, h)) (beneath a fs is_level top (lit< tt))
-    (omega (arith, h, reach_null_test n))
+    (omega (arith, h, reach_null_test n fs rest))
     ∙ step_null_test n (level a) fs (out ++ postfix a) rest h top
     ∙ ap (λ xs. have is_level fs xs rest)
     (regrouped_2 out (postfix a) (called (call.Is test.Null n)))
 
-reach_distinct : (n : Bool) (ts : List Token) → reach (distinct_tokens n ++ ts) ≡ is_level
-reach_distinct true ts = refl
-reach_distinct false ts = refl
+reach_distinct : (n : Bool) (fs : List Frame) (ts : List Token)
+    → reach_at fs (distinct_tokens n ++ ts) ≡ is_level
+reach_distinct true fs ts = refl
+reach_distinct false fs ts = refl
 
 read_distinct : (n : Bool) (a b : Syntax) → is_level ≤ level a → comparison_level ≤ level b
     → IsRead a → IsRead b → IsRead (tree.distinct n a b)
@@ -200,19 +209,19 @@ read_distinct n a b h k ia ib = λ fs out rest top under end.
     ∙ ap (λ ts. spelling a ++ ts) (append_assoc (distinct_tokens n) (spelling b) rest))
     ∙ ia fs out (distinct_tokens n ++ last) (omega (arith, top, h))
     (beneath a fs distinct_level top (lit< tt))
-    (omega (arith, h, reach_distinct n last))
+    (omega (arith, h, reach_distinct n fs last))
     ∙ step_distinct n (level a) fs (out ++ postfix a) last h top
     ∙ ib (frame.Distinct n ∷ fs) (out ++ postfix a) rest k (level_literal b)
-    (omega (arith, end, k))
+    (omega (arith, end, k, weaker fs rest, unworded (frame.Distinct n ∷ fs) rest refl))
     ∙ waits_closed (level b) (frame.Distinct n) fs ((out ++ postfix a) ++ postfix b) rest
     (lit< tt) end
     ∙ ap (λ xs. have distinct_level fs xs rest)
     (regrouped_3 out (postfix a) (postfix b) (called (call.Distinct n)))
 
-reach_between : (n s : Bool) (ts : List Token)
-    → reach (between_tokens (specs.between_kind n s) ++ ts) ≡ predicate_level
-reach_between true s ts = refl
-reach_between false s ts = refl
+reach_between : (n s : Bool) (fs : List Frame) (ts : List Token)
+    → reach_at fs (between_tokens (specs.between_kind n s) ++ ts) ≡ predicate_level
+reach_between true s fs ts = refl
+reach_between false s fs ts = refl
 
 read_between : (k : BetweenKind) (a b c : Syntax) → concat_level ≤ level a → concat_level ≤ level b
     → concat_level ≤ level c → IsRead a
@@ -230,35 +239,37 @@ read_between k a b c ha hb hc ia ib ic = λ fs out rest top under end.
     (append_assoc (spelling b) (sign sign.And ∷ spelling c) rest))
     ∙ ia fs out (between_tokens k ++ lower) (omega (arith, top, ha))
     (beneath a fs predicate_level top (lit< tt))
-    (omega (arith, ha, reach_between k.negated k.symmetric lower))
+    (omega (arith, ha, reach_between k.negated k.symmetric fs lower))
     ∙ step_between k (level a) fs (out ++ postfix a) lower ha top
     ∙ ib (frame.Between k ∷ fs) (out ++ postfix a) upper hb (level_literal b) (omega (arith, hb))
     ∙ step_bound k (level b) fs ((out ++ postfix a) ++ postfix b) last
     ∙ ic (frame.Bounded k ∷ fs) ((out ++ postfix a) ++ postfix b) rest hc (level_literal c)
-    (omega (arith, end, hc))
+    (omega (arith, end, hc, weaker fs rest, unworded (frame.Bounded k ∷ fs) rest refl))
     ∙ waits_closed (level c) (frame.Bounded k) fs
     (((out ++ postfix a) ++ postfix b) ++ postfix c) rest (lit< tt) end
     ∙ ap (λ xs. have predicate_level fs xs rest)
     (regrouped_4 out (postfix a) (postfix b) (postfix c) (called (call.Between k)))
 
-reach_like : (n i : Bool) (ts : List Token)
-    → reach (like_sign (specs.like_kind n i) ++ ts) ≡ predicate_level
-reach_like true true ts = refl
-reach_like true false ts = refl
-reach_like false true ts = refl
-reach_like false false ts = refl
+reach_like : (n i : Bool) (fs : List Frame) (ts : List Token)
+    → reach_at fs (like_sign (specs.like_kind n i) ++ ts) ≡ predicate_level
+reach_like true true fs ts = refl
+reach_like true false fs ts = refl
+reach_like false true fs ts = refl
+reach_like false false fs ts = refl
 
 behind_pattern : (k : LikeKind) (e : Option (List ℕ)) (l : ℕ) (fs : List Frame) (out : List Step)
-    (rest : List Token) → reach rest ≤ predicate_level
+    (rest : List Token) → reach_at fs rest ≤ predicate_level
     → have l (frame.Like k ∷ fs) out (escape_tokens e ++ rest)
     ≡ have predicate_level fs (out ++ (like_step k e ∷ [])) rest
 behind_pattern k None l fs out rest h = waits_closed l (frame.Like k) fs out rest (lit< tt) h
 behind_pattern k (Some e) l fs out rest h = step_escape k e l fs out rest
 
-reach_pattern : (e : Option (List ℕ)) (rest : List Token) → reach rest ≤ predicate_level
-    → reach (escape_tokens e ++ rest) ≤ concat_level
-reach_pattern None rest h = omega (arith, h)
-reach_pattern (Some e) rest h = lit≤ tt
+reach_pattern : (k : LikeKind) (e : Option (List ℕ)) (fs : List Frame) (rest : List Token)
+    → reach_at fs rest ≤ predicate_level
+    → reach_at (frame.Like k ∷ fs) (escape_tokens e ++ rest) ≤ concat_level
+reach_pattern k None fs rest h =
+    omega (arith, h, weaker fs rest, unworded (frame.Like k ∷ fs) rest refl)
+reach_pattern k (Some e) fs rest h = lit≤ tt
 
 read_matched : (k : LikeKind) (a p : Syntax) (e : Option (List ℕ)) → concat_level ≤ level a
     → concat_level ≤ level p
@@ -273,10 +284,10 @@ read_matched k a p e ha hp ia ip = λ fs out rest top under end.
     (append_assoc (spelling p) (escape_tokens e) rest))
     ∙ ia fs out (like_sign k ++ pattern) (omega (arith, top, ha))
     (beneath a fs predicate_level top (lit< tt))
-    (omega (arith, ha, reach_like k.negated k.case_insensitive pattern))
+    (omega (arith, ha, reach_like k.negated k.case_insensitive fs pattern))
     ∙ step_like k.negated k.case_insensitive (level a) fs (out ++ postfix a) pattern ha top
     ∙ ip (frame.Like k ∷ fs) (out ++ postfix a) last hp (level_literal p)
-    (omega (arith, hp, reach_pattern e rest end))
+    (omega (arith, hp, reach_pattern k e fs rest end))
     ∙ behind_pattern k e (level p) fs ((out ++ postfix a) ++ postfix p) rest end
     ∙ ap (λ xs. have predicate_level fs xs rest) (regrouped_3 out (postfix a) (postfix p)
     (like_step k e))
@@ -322,6 +333,9 @@ mutual
   is_read (tree.nullary p w) h = read_nullary p w
   is_read (tree.applied p w args a) h = read_applied p w args a (are_read args h.0) (is_read a h.1)
   is_read (tree.extracted p f w a) h = read_extracted p f w a h.0 (is_read a h.1)
+  is_read (tree.parted p f s a) h = read_parted p f s a h.0 (is_read s h.1) (is_read a h.2)
+  is_read (tree.parted_for p f s a w b) h =
+      read_parted_for p f s a w b h.0 h.1 (is_read s h.2) (is_read a h.3) (is_read b h.4)
 
   are_read : (args : Arguments) → AllFit args → AreRead args
   are_read tree.no_arguments h = read_no_arguments

@@ -28,14 +28,14 @@ sound_as h g e s = subst (λ (v : Held). IsSound v) e s
 closed_by : (a b c : List Token) → (a ++ (b ++ [])) ++ c ≡ a ++ (b ++ c)
 closed_by a b c = simp (append_assoc, append-nil)
 
--- the frame that a sign makes of it
-pub grown : (h g : Held) (a : Syntax) (u : Sign) (fs : List Frame) (out : List Step)
+-- the frame that a token makes of it
+pub grown : (h g : Held) (a : Syntax) (u : Token) (fs : List Frame) (out : List Step)
     (before : List Token) → held h ++ postfix a ≡ held g
-    → written h ++ (spelling a ++ (sign u ∷ [])) ≡ written g → IsSound g
+    → written h ++ (spelling a ++ (u ∷ [])) ≡ written g → IsSound g
     → top_hole fs ≤ whole (frame_of g) → Holding h a fs out before
-    → Behind (frame_of g ∷ fs) out (before ++ (sign u ∷ [])) [] []
+    → Behind (frame_of g ∷ fs) out (before ++ (u ∷ [])) [] []
 grown h g a u fs out before e k s place b =
-    let last : List Token = sign u ∷ [] in
+    let last : List Token = u ∷ [] in
     let xs = held h ++ postfix a in
     let here = written h ++ (spelling a ++ []) in
     pushed g fs out (before ++ last)

@@ -16,7 +16,7 @@ use Rattle.vortex_syntax.specs.Tokens.{Token, name, text, sign}
 use Rattle.vortex_syntax.specs.Syntax as tree
 use Rattle.vortex_syntax.specs.Syntax.{Syntax, Arguments, Branches}
 use Rattle.vortex_syntax.specs.Levels.{left, level, Fits, AllFit, BranchesFit, is_level}
-use Rattle.vortex_syntax.specs.Levels.{concat_level, takes_word}
+use Rattle.vortex_syntax.specs.Levels.{concat_level, takes_word, takes_from, is_for}
 use Rattle.vortex_syntax.specs.Spelling.{spelling, all_spelled, operator_sign}
 use Rattle.vortex_syntax.specs.Spelling.{distinct_tokens, in_tokens, like_sign, branches_spelled}
 use Rattle.vortex_syntax.specs.Spelling.{function_tokens, between_tokens, cast_sign}
@@ -40,6 +40,8 @@ pub data Held : Type 0 where
   matching : LikeKind → Syntax → Held
   calling : Bool → List ℕ → Arguments → Held
   extracting : Bool → List ℕ → List ℕ → Held
+  parting : Bool → List ℕ → Syntax → Held
+  limiting : Bool → List ℕ → Syntax → Syntax → List ℕ → Held
   listing : Bool → Syntax → Arguments → Held
   choosing : Held
   asking : Branches → Held
@@ -60,6 +62,8 @@ frame_of (upper k a b) = frame.Bounded k
 frame_of (matching k a) = frame.Like k
 frame_of (calling p w args) = frame.Arguments w (argument_count args)
 frame_of (extracting p f w) = frame.Extract f
+frame_of (parting p f s) = frame.From f
+frame_of (limiting p f s a w) = frame.For f
 frame_of (listing n a args) = frame.Items n (argument_count args)
 frame_of choosing = frame.Case part.Operand false 0
 frame_of (asking bs) = frame.Case part.When (has_operand bs) (branch_count bs)
@@ -81,6 +85,9 @@ written (upper k a b) =
 written (matching k a) = spelling a ++ like_sign k
 written (calling p w args) = function_tokens p w ++ all_spelled args
 written (extracting p f w) = function_tokens p f ++ (name w ∷ sign sign.From ∷ [])
+written (parting p f s) = function_tokens p f ++ (spelling s ++ (sign sign.From ∷ []))
+written (limiting p f s a w) =
+    function_tokens p f ++ (spelling s ++ (sign sign.From ∷ (spelling a ++ (name w ∷ []))))
 written (listing n a args) = spelling a ++ (in_tokens n ++ all_spelled args)
 written choosing = sign sign.Case ∷ []
 written (asking bs) = branches_spelled bs ++ (sign sign.When ∷ [])
@@ -104,6 +111,8 @@ held (upper n a b) = postfix a ++ postfix b
 held (matching k a) = postfix a
 held (calling p w args) = all_postfix args
 held (extracting p f w) = operand (text w) ∷ []
+held (parting p f s) = postfix s
+held (limiting p f s a w) = postfix s ++ postfix a
 held (listing n a args) = postfix a ++ all_postfix args
 held choosing = []
 held (asking bs) = branches_postfix bs
@@ -124,6 +133,8 @@ IsSound (upper n a b) = (concat_level ≤ level a) × (concat_level ≤ level b)
 IsSound (matching k a) = (concat_level ≤ level a) × Fits a
 IsSound (calling p w args) = AllFit args
 IsSound (extracting p f w) = takes_word f ≡ true
+IsSound (parting p f s) = (takes_from f ≡ true) × Fits s
+IsSound (limiting p f s a w) = (takes_from f ≡ true) × (is_for w ≡ true) × Fits s × Fits a
 IsSound (listing n a args) = (concat_level ≤ level a) × Fits a × AllFit args
 IsSound choosing = Unit {0}
 IsSound (asking bs) = BranchesFit bs
@@ -204,6 +215,8 @@ plugged (matching k a) e g s f le under = record {
 }
 plugged (calling p w args) e g s f le under = absurd (let k : ⊥ = omega (arith, g) in k)
 plugged (extracting p v w) e g s f le under = absurd (let k : ⊥ = omega (arith, g) in k)
+plugged (parting p v b) e g s f le under = absurd (let k : ⊥ = omega (arith, g) in k)
+plugged (limiting p v b a w) e g s f le under = absurd (let k : ⊥ = omega (arith, g) in k)
 plugged (listing n a args) e g s f le under = absurd (let k : ⊥ = omega (arith, g) in k)
 plugged choosing e g s f le under = absurd (let k : ⊥ = omega (arith, g) in k)
 plugged (asking bs) e g s f le under = absurd (let k : ⊥ = omega (arith, g) in k)

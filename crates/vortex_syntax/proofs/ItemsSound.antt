@@ -58,7 +58,7 @@ module _ (n : Bool) (k : ℕ) (a : Syntax) (args : Arguments) (b : Syntax) (fs :
   item_is e s f place r =
       let comma : List Token = sign sign.Comma ∷ [] in
       subst (λ (m : ℕ). Behind (frame.Items n (suc m) ∷ fs) out (before ++ comma) [] []) (sym e)
-      (grown (listing n a args) (listing n a (tree.argument args b)) b sign.Comma fs out before
+      (grown (listing n a args) (listing n a (tree.argument args b)) b (sign sign.Comma) fs out before
       (append_assoc (postfix a) (all_postfix args) (postfix b))
       (in_list (spelling a) (in_tokens n) (all_spelled args) (spelling b ++ comma))
       (s.0, s.1, (s.2, f)) place r)

@@ -1,4 +1,5 @@
 pub mod Runs
+pub mod SizedNames
 pub mod Numbers
 pub mod Quotes
 pub mod Comments
@@ -23,6 +24,7 @@ pub mod Before
 pub mod Grown
 pub mod ItemsSound
 pub mod CaseSound
+pub mod PartsSound
 pub mod BracketsSound
 pub mod BetweenSound
 pub mod SignsSound

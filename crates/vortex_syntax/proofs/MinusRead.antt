@@ -67,6 +67,10 @@ signed_read (tree.applied true w args a) h k fs out ts = refl
 signed_read (tree.applied false w args a) h k fs out ts = refl
 signed_read (tree.extracted true f w a) h k fs out ts = refl
 signed_read (tree.extracted false f w a) h k fs out ts = refl
+signed_read (tree.parted true f s a) h k fs out ts = refl
+signed_read (tree.parted false f s a) h k fs out ts = refl
+signed_read (tree.parted_for true f s a w b) h k fs out ts = refl
+signed_read (tree.parted_for false f s a w b) h k fs out ts = refl
 signed_read (tree.chosen bs c v) h k fs out ts =
     case_signed bs
     (sign sign.When ∷ (spelling c ++ (sign sign.Then ∷ (spelling v ++ (sign sign.End ∷ [])))))

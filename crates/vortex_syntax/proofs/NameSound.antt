@@ -1,5 +1,5 @@
 -- What a token after a bare name does to what was read.
-use Rattle.std.proofs.Common.{◌≡◌, ℕ, zero, Bool, true, false, List, [], ◌∷◌, ◌++◌, Some, None, refl, ap, sym, ◌∙◌}
+use Rattle.std.proofs.Common.{◌≡◌, ℕ, zero, Bool, true, false, List, [], ◌∷◌, ◌++◌, Some, refl, ap, sym, ◌∙◌}
 use Rattle.std.proofs.Common.{append_assoc, subst, cond}
 use Rattle.std.proofs.lemmas.List.{append-nil}
 use Rattle.vortex_syntax.specs.declared.token.Sign.TheVariants as sign
@@ -11,7 +11,7 @@ use Rattle.vortex_syntax.specs.Syntax as tree
 use Rattle.vortex_syntax.specs.Levels.{atom_level, takes_word}
 use Rattle.vortex_syntax.specs.Postfix.{Step, operand, typed, last_name}
 use Rattle.vortex_syntax.specs.Reading.{State, state, call_of, open_call, literal_of, text_named}
-use Rattle.vortex_syntax.specs.Reading.{word_of, from_named, after_name}
+use Rattle.vortex_syntax.specs.Reading.{word_of, waits_word, word_from, behind, after_name}
 use Rattle.vortex_syntax.proofs.Tables.{top_atom, atom_ceiling}
 use Rattle.vortex_syntax.proofs.LastName.{name_last}
 use Rattle.vortex_syntax.specs.Syntax.{Arguments}
@@ -20,7 +20,7 @@ use Rattle.vortex_syntax.specs.Postfix.{argument_count}
 use Rattle.vortex_syntax.proofs.Held.{Held, calling, extracting, written, held, all_held}
 use Rattle.vortex_syntax.proofs.Held.{all_written}
 use Rattle.vortex_syntax.proofs.Before.{Behind, pushed, HasOperand, Holds, HoldsIn, along}
-use Rattle.vortex_syntax.proofs.Before.{operand_is, as_tokens, popped, call_is, chosen}
+use Rattle.vortex_syntax.proofs.Before.{operand_is, as_tokens, popped, call_is}
 use Rattle.vortex_syntax.proofs.OperandsSound.{none_are}
 use Rattle.vortex_syntax.proofs.SignsSound.{behind_sound}
 
@@ -120,26 +120,34 @@ extract_begun p f w is fs out before b =
       nested = b.nested;
     }) is (top_atom fs)
 
-from_sound : (fs : List Frame) (out : List Step) (s : State) (before : List Token)
-    → from_named fs out ≡ Some s → Holds mode.Named fs out before
+word_sound : (fs : List Frame) (out : List Step) (s : State) (before : List Token)
+    → waits_word fs ≡ true → word_from fs out ≡ Some s → Holds mode.Named fs out before
     → HoldsIn s (before ++ (sign sign.From ∷ []))
-from_sound (frame.Arguments f zero ∷ fs) out s before e h =
+word_sound (frame.Arguments f zero ∷ fs) out s before is e h =
     let w = h.0 in
     let r = popped (frame.Arguments f 0) fs out before (operand (name w) ∷ []) (name w ∷ []) h.1 in
     let i = call_is f 0 r.h r.is in
     let b = word_in i.1 f w i.0 r.h fs out before i.2 i.3 r.behind in
     let after = state mode.Want (frame.Extract f ∷ fs) (all_held b.hs ++ (operand (text w) ∷ [])) in
     let taken = ap (word_of f fs) (named_last w fs out before _ b) in
-    let c = chosen (takes_word f) after s
-    (sym (ap (λ o. cond (takes_word f) o None) taken) ∙ e) in
-    along after s (before ++ (sign sign.From ∷ [])) c.1 (extract_begun i.1 f w c.0 fs out before b)
-from_sound fs out s before e h = absurd cc
+    along after s (before ++ (sign sign.From ∷ [])) (sym taken ∙ e)
+    (extract_begun i.1 f w is fs out before b)
+word_sound fs out s before is e h = absurd cc
+
+from_if : (fs : List Frame) (out : List Step) (s : State) (before : List Token) (b : Bool)
+    → waits_word fs ≡ b
+    → cond b (word_from fs out) (behind atom_level fs out (sign sign.From)) ≡ Some s
+    → Holds mode.Named fs out before → HoldsIn s (before ++ (sign sign.From ∷ []))
+from_if fs out s before true is e h = word_sound fs out s before is e h
+from_if fs out s before false is e h =
+    behind_sound atom_level fs out (sign sign.From) s before e (named_operand fs out before h)
 
 pub named_sound : (fs : List Frame) (out : List Step) (t : Token) (s : State)
     (before : List Token) → after_name fs out t ≡ Some s → Holds mode.Named fs out before
     → HoldsIn s (before ++ (t ∷ []))
 named_sound fs out (sign sign.Open) s before e h = open_sound fs out s before e h
-named_sound fs out (sign sign.From) s before e h = from_sound fs out s before e h
+named_sound fs out (sign sign.From) s before e h =
+    from_if fs out s before (waits_word fs) refl e h
 named_sound fs out (text bs) s before e h = text_sound fs out bs s before e h
 named_sound fs out t s before e h =
     behind_sound atom_level fs out t s before e (named_operand fs out before h)

@@ -12,7 +12,7 @@ use Rattle.vortex_syntax.specs.declared.token.Sign.TheVariants as sign
 use Rattle.vortex_syntax.specs.Frames.{Frame, top_hole, whole}
 use Rattle.vortex_syntax.specs.Frames as frame
 use Rattle.vortex_syntax.specs.declared.frame.Mode.TheVariants as mode
-use Rattle.vortex_syntax.specs.Tokens.{Token, sign}
+use Rattle.vortex_syntax.specs.Tokens.{Token, name, sign}
 use Rattle.vortex_syntax.specs.Syntax as tree
 use Rattle.vortex_syntax.specs.Syntax.{Syntax}
 use Rattle.vortex_syntax.specs.Levels.{own, left, level, Fits, or_level, and_level, is_level}
@@ -35,6 +35,7 @@ use Rattle.vortex_syntax.proofs.Before.{more, operand_more, operand_is}
 use Rattle.vortex_syntax.proofs.Tables.{atom_ceiling}
 use Rattle.vortex_syntax.proofs.CaseSound.{case_word_sound}
 use Rattle.vortex_syntax.proofs.BracketsSound.{comma_sound, close_sound}
+use Rattle.vortex_syntax.proofs.PartsSound.{from_sound, for_sound}
 use Rattle.vortex_syntax.proofs.BetweenSound.{waits, predicates, not_before, not_joined}
 use Rattle.vortex_syntax.proofs.BetweenSound.{between_sound, and_bound}
 
@@ -307,6 +308,8 @@ behind_sign l fs out sign.End s before e a = let b = settled or_level l fs out i
 behind_sign l fs out sign.Escape s before e a = let b = settled concat_level l fs out in
     escape_sound b.level b.frames b.steps s before e
     (settled_operand concat_level l fs out before [] a)
+behind_sign l fs out sign.From s before e a = let b = settled or_level l fs out in
+    from_sound b.level b.frames b.steps s before e (settled_operand or_level l fs out before [] a)
 behind_sign l fs out sign.As s before e a = let b = settled 0 l fs out in
     as_sound b.level b.frames b.steps s before e (settled_operand 0 l fs out before [] a)
 behind_sign l fs out sign.Equal s before e a = joining_sound operator.Equal l fs out s before e a
@@ -346,6 +349,9 @@ pub behind_sound : (l : ℕ) (fs : List Frame) (out : List Step) (t : Token) (s 
     (before : List Token) → behind l fs out t ≡ Some s → HasOperand l fs out before []
     → HoldsIn s (before ++ (t ∷ []))
 behind_sound l fs out (sign u) s before e a = behind_sign l fs out u s before e a
+behind_sound l fs out (name w) s before e a = let b = settled or_level l fs out in
+    for_sound w b.level b.frames b.steps s before e
+    (settled_operand or_level l fs out before [] a)
 behind_sound l fs out t s before e a = absurd cc
 
 pub negating_sound : (l : ℕ) (fs : List Frame) (out : List Step) (t : Token) (s : State)

@@ -15,7 +15,7 @@ use Rattle.vortex_syntax.specs.Tokens.{Token, name, function, number, text, sign
 use Rattle.vortex_syntax.specs.Syntax as tree
 use Rattle.vortex_syntax.specs.Syntax.{Tested}
 use Rattle.vortex_syntax.specs.Levels.{typed_level, own, left, is_operand, operand_level, and_level}
-use Rattle.vortex_syntax.specs.Levels.{bit_not_level, IsTested, takes_word}
+use Rattle.vortex_syntax.specs.Levels.{bit_not_level, IsTested, takes_word, takes_from, is_for}
 use Rattle.vortex_syntax.specs.Levels.{not_level, distinct_level, is_level, predicate_level}
 use Rattle.vortex_syntax.specs.Levels.{concat_level, atom_level, literal_level}
 use Rattle.vortex_syntax.specs.Spelling.{operator_sign, type_token, with_not, is_tokens, test_token}
@@ -29,7 +29,7 @@ use Rattle.std.proofs.Common.{cond}
 use Rattle.vortex_syntax.specs.Reading.{between_kind}
 use Rattle.vortex_syntax.specs.Reading.{word_after, next, finish, run, call_of, literal_of}
 use Rattle.vortex_syntax.specs.Reading.{mode_behind, word_of}
-use Rattle.vortex_syntax.proofs.Tables.{reach, at_most, over, atom_ceiling}
+use Rattle.vortex_syntax.proofs.Tables.{reach_at, at_most, over, atom_ceiling, no_word}
 use Rattle.vortex_syntax.proofs.LastName.{name_last}
 use Rattle.vortex_syntax.proofs.Closes.{settled_none, shifts, ran, want, have}
 
@@ -50,6 +50,8 @@ and_joins l (frame.Bounded n ∷ fs) out h k = absurd (let j : ⊥ = omega (arit
 and_joins l (frame.Like n ∷ fs) out h k = absurd (let j : ⊥ = omega (arith, k) in j)
 and_joins l (frame.Arguments w n ∷ fs) out h k = rw (at_most and_level l h) refl
 and_joins l (frame.Extract w ∷ fs) out h k = rw (at_most and_level l h) refl
+and_joins l (frame.From w ∷ fs) out h k = rw (at_most and_level l h) refl
+and_joins l (frame.For w ∷ fs) out h k = rw (at_most and_level l h) refl
 and_joins l (frame.Items m n ∷ fs) out h k = rw (at_most and_level l h) refl
 and_joins l (frame.Case p m n ∷ fs) out h k = rw (at_most and_level l h) refl
 
@@ -243,13 +245,16 @@ pub step_escape : (k : LikeKind) (e : List ℕ) (l : ℕ) (fs : List Frame) (out
 unfolding run next word_after settled
 step_escape k e l fs out ts = refl
 
--- after a bare name all but a bracket, a text and `from` does what it does after another operand
-named_read : (fs : List Frame) (out : List Step) (ts : List Token) → reach ts ≤ atom_level
+-- after a bare name all but a bracket, a text and, where a word may come, `from` does what it does
+-- after another operand
+named_read : (fs : List Frame) (out : List Step) (ts : List Token) → reach_at fs ts ≤ atom_level
     → run (state mode.Named fs out) ts ≡ have atom_level fs out ts
 unfolding run next finish
 named_read fs out [] h = refl
 named_read fs out (sign sign.Open ∷ ts) h = absurd (let j : ⊥ = omega (arith, h) in j)
-named_read fs out (sign sign.From ∷ ts) h = absurd (let j : ⊥ = omega (arith, h) in j)
+named_read fs out (sign sign.From ∷ ts) h =
+    ap (λ b. ran ts (cond b (specs.word_from fs out)
+    (specs.behind atom_level fs out (sign sign.From)))) (no_word fs h)
 named_read fs out (text bs ∷ ts) h = absurd (let j : ⊥ = omega (arith, h) in j)
 named_read fs out (t ∷ ts) h = refl
 
@@ -268,7 +273,7 @@ step_other t fs out ts e h k =
     rw (h, at_most (operand_level t) (top_ceiling fs) k, e) refl
 
 pub step_operand : (t : Token) (fs : List Frame) (out : List Step) (ts : List Token)
-    → is_operand t ≡ true → operand_level t ≤ top_ceiling fs → reach ts ≤ operand_level t
+    → is_operand t ≡ true → operand_level t ≤ top_ceiling fs → reach_at fs ts ≤ operand_level t
     → want fs out (t ∷ ts) ≡ have (operand_level t) fs (out ++ (operand t ∷ [])) ts
 step_operand (name w) fs out ts h k r =
     step_name w fs out ts k ∙ named_read fs (out ++ (operand (name w) ∷ [])) ts r
@@ -362,7 +367,10 @@ word_read : (f w : List ℕ) → takes_word f ≡ true → (fs : List Frame) (ou
     ≡ want (frame.Extract f ∷ fs) (out ++ (operand (text w) ∷ [])) ts
 unfolding run next
 word_read f w is fs out ts =
-    ap (λ b. ran ts (cond b (word_of f fs (last_name (out ++ (operand (name w) ∷ [])))) None)) is
+    let gs : List Frame = frame.Arguments f 0 ∷ fs in
+    let named : List Step = out ++ (operand (name w) ∷ []) in
+    ap (λ b. ran ts (cond b (word_of f fs (last_name named))
+    (specs.behind atom_level gs named (sign sign.From)))) is
     ∙ ap (λ o. ran ts (word_of f fs o)) (name_last out w)
 
 pub step_word : (f w : List ℕ) → takes_word f ≡ true → (fs : List Frame) (out : List Step)
@@ -378,6 +386,33 @@ pub step_extracted : (f : List ℕ) (l : ℕ) (fs : List Frame) (out : List Step
     ≡ have atom_level fs (out ++ (applied f 2 ∷ [])) ts
 unfolding run next word_after settled
 step_extracted f l fs out ts = refl
+
+pub step_from : (f : List ℕ) → takes_from f ≡ true → (l : ℕ) (fs : List Frame) (out : List Step)
+    (ts : List Token)
+    → have l (frame.Arguments f 0 ∷ fs) out (sign sign.From ∷ ts)
+    ≡ want (frame.From f ∷ fs) out ts
+unfolding run next word_after settled
+step_from f is l fs out ts =
+    ap (λ b. ran ts (cond b (Some (state mode.Want (frame.From f ∷ fs) out)) None)) is
+
+pub step_for : (f w : List ℕ) → is_for w ≡ true → (l : ℕ) (fs : List Frame) (out : List Step)
+    (ts : List Token)
+    → have l (frame.From f ∷ fs) out (name w ∷ ts) ≡ want (frame.For f ∷ fs) out ts
+unfolding run next settled
+step_for f w is l fs out ts =
+    ap (λ b. ran ts (cond b (Some (state mode.Want (frame.For f ∷ fs) out)) None)) is
+
+pub step_parted : (f : List ℕ) (l : ℕ) (fs : List Frame) (out : List Step) (ts : List Token)
+    → have l (frame.From f ∷ fs) out (sign sign.Close ∷ ts)
+    ≡ have atom_level fs (out ++ (applied f 2 ∷ [])) ts
+unfolding run next word_after settled
+step_parted f l fs out ts = refl
+
+pub step_parted_for : (f : List ℕ) (l : ℕ) (fs : List Frame) (out : List Step) (ts : List Token)
+    → have l (frame.For f ∷ fs) out (sign sign.Close ∷ ts)
+    ≡ have atom_level fs (out ++ (applied f 3 ∷ [])) ts
+unfolding run next word_after settled
+step_parted_for f l fs out ts = refl
 
 pub step_item : (n : Bool) (k l : ℕ) (fs : List Frame) (out : List Step) (ts : List Token)
     → have l (frame.Items n k ∷ fs) out (sign sign.Comma ∷ ts)

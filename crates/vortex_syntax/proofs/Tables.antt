@@ -1,6 +1,6 @@
 -- How the tables of levels are related.
-use Rattle.std.proofs.Common.{◌≡◌, ◌≢◌, ℕ, ◌<◌, ◌≤◌, true, false, nat_lt, nat_le, List, [], ◌∷◌}
-use Rattle.std.proofs.Common.{arith, lit<, lit≤}
+use Rattle.std.proofs.Common.{◌≡◌, ◌≢◌, ℕ, ◌<◌, ◌≤◌, Bool, true, false, cond, nat_lt, nat_le, List, []}
+use Rattle.std.proofs.Common.{◌∷◌, refl, ap, arith, lit<, lit≤}
 use Rattle.std.proofs.lemmas.Bool.Decides.{nat_tests}
 use Rattle.vortex_syntax.specs.declared.step.WrittenOperator.{WrittenOperator}
 use Rattle.vortex_syntax.specs.declared.step.WrittenOperator.TheVariants as operator
@@ -11,6 +11,7 @@ use Rattle.vortex_syntax.specs.Frames as frame
 use Rattle.vortex_syntax.specs.Tokens.{Token, name, text, sign}
 use Rattle.vortex_syntax.specs.Syntax as tree
 use Rattle.vortex_syntax.specs.Syntax.{Syntax}
+use Rattle.vortex_syntax.specs.Reading.{waits_word}
 use Rattle.vortex_syntax.specs.Levels.{level, operand_level, sign_level, typed_level, own, left}
 use Rattle.vortex_syntax.specs.Levels.{right, or_level, and_level, not_level, is_level}
 use Rattle.vortex_syntax.specs.Levels.{comparison_level, predicate_level, concat_level, sum_level}
@@ -60,6 +61,8 @@ guard_hole (frame.Bounded m) = lit≤ tt
 guard_hole (frame.Like k) = lit≤ tt
 guard_hole (frame.Arguments w n) = lit≤ tt
 guard_hole (frame.Extract w) = lit≤ tt
+guard_hole (frame.From w) = lit≤ tt
+guard_hole (frame.For w) = lit≤ tt
 guard_hole (frame.Items m n) = lit≤ tt
 guard_hole (frame.Case p m n) = lit≤ tt
 
@@ -106,8 +109,8 @@ level_literal (tree.joined o a b) = omega (arith, own_product o)
 level_literal (tree.converted a w n) = level_literal a
 level_literal t = lit≤ tt
 
--- the level of the sign that comes after an operand: only frames above it are closed. A bracket, a
--- text or `from` comes after none but a bare name, which is no operand then
+-- the level of the sign that comes after an operand: only frames above it are closed. A bracket or a
+-- text comes after none but a bare name, which is no operand then
 abbrev pub reach_of : Sign → ℕ
 reach_of sign.And = and_level
 reach_of sign.Is = is_level
@@ -138,7 +141,6 @@ reach_of sign.Divide = product_level
 reach_of sign.Modulo = product_level
 reach_of sign.Typed = atom_level
 reach_of sign.Open = 15
-reach_of sign.From = 15
 reach_of _ = or_level
 
 abbrev pub token_reach : Token → ℕ
@@ -149,6 +151,33 @@ token_reach t = 0
 abbrev pub reach : List Token → ℕ
 reach [] = 0
 reach (t ∷ ts) = token_reach t
+
+-- the same after these frames: where a word may come, a bare name before `from` is no operand
+abbrev pub reach_at : List Frame → List Token → ℕ
+reach_at fs (sign sign.From ∷ ts) = cond (waits_word fs) 15 0
+reach_at fs ts = reach ts
+
+weaker_from : (b : Bool) → 0 ≤ cond b 15 0
+weaker_from true = lit≤ tt
+weaker_from false = lit≤ tt
+
+pub weaker : (fs : List Frame) (ts : List Token) → reach ts ≤ reach_at fs ts
+weaker fs [] = lit≤ tt
+weaker fs (sign sign.From ∷ ts) = weaker_from (waits_word fs)
+weaker fs (t ∷ ts) = omega arith
+
+pub unworded : (fs : List Frame) (ts : List Token) → waits_word fs ≡ false
+    → reach_at fs ts ≡ reach ts
+unworded fs [] h = refl
+unworded fs (sign sign.From ∷ ts) h = ap (λ b. cond b 15 0) h
+unworded fs (t ∷ ts) h = refl
+
+is_unworded : (b : Bool) → cond b 15 0 ≤ atom_level → b ≡ false
+is_unworded true h = absurd (let k : ⊥ = omega (arith, h) in k)
+is_unworded false h = refl
+
+pub no_word : (fs : List Frame) → cond (waits_word fs) 15 0 ≤ atom_level → waits_word fs ≡ false
+no_word fs h = is_unworded (waits_word fs) h
 
 sign_not_eleven : (s : Sign) → reach_of s ≢ sign_level
 sign_not_eleven sign.And h = absurd (let k : ⊥ = omega (arith, h) in k)

@@ -1,6 +1,6 @@
 -- The tokens of a text can be written.
-use Rattle.std.proofs.Common.{◌≡◌, ℕ, true, false, cond, ◌==◌, List, [], ◌∷◌, Option, Some, None}
-use Rattle.std.proofs.Common.{refl, ap, sym, subst, ◌∙◌}
+use Rattle.std.proofs.Common.{◌≡◌, ℕ, Bool, true, false, cond, ◌==◌, ◌||◌, List, [], ◌∷◌, Option}
+use Rattle.std.proofs.Common.{Some, None, refl, ap, sym, subst, ◌∙◌}
 use Rattle.std.specs.Prelude.{is_none}
 use Rattle.std.specs.List.{list_all}
 use Rattle.std.proofs.lemmas.Bool.{and_from, eqb-true, cond_both}
@@ -17,8 +17,11 @@ use Rattle.vortex_syntax.specs.Pieces.{sign_before, or_else, longest_sign, minus
 use Rattle.vortex_syntax.specs.Pieces.{first_piece, behind_comment, gap_before, divide_or_comment}
 use Rattle.vortex_syntax.specs.Lexing.{Lexes, none, gap_first, token_first}
 use Rattle.vortex_syntax.specs.Writing.{doubled, is_word, is_bare, IsNumber, IsDoubled, IsWritable}
-use Rattle.vortex_syntax.specs.Writing.{AllWritable}
+use Rattle.vortex_syntax.specs.Writing.{AllWritable, is_sized}
+use Rattle.vortex_syntax.specs.Pieces.{is_sized_word, call_before, behind_sized, front_before}
+use Rattle.vortex_syntax.specs.Pieces.{sized_or_word}
 use Rattle.vortex_syntax.proofs.Runs.{word_begun, front_is}
+use Rattle.vortex_syntax.proofs.SizedNames.{sized_is}
 use Rattle.vortex_syntax.proofs.Numbers.{front_is_number}
 
 word_is : (b : ℕ) (bs : List ℕ) → begins_word b ≡ true → is_word (front Word (b ∷ bs)) ≡ true
@@ -86,6 +89,16 @@ piece_of (Some x) = x.0
 token_is : (t u : Token) → token t ≡ token u → t ≡ u
 token_is t u e = cc
 
+bare_named : (w : List ℕ) → is_bare w ≡ true → (is_bare w || is_sized w) ≡ true
+bare_named w h = ap (λ b. b || is_sized w) h
+
+sized_named : (w : List ℕ) → is_sized w ≡ true → (is_bare w || is_sized w) ≡ true
+sized_named w h = by (is_bare w)
+  where
+    by : (b : Bool) → (b || is_sized w) ≡ true
+    by true = refl
+    by false = h
+
 module _ (t : Token) (rest : List ℕ) where
   abbrev Says : Cut → Type 0
   Says c = c ≡ Some (token t, rest) → IsWritable t
@@ -117,11 +130,17 @@ module _ (t : Token) (rest : List ℕ) where
       (λ h. comment_says (behind_comment 0 cs))
       (λ h. token_says (sign sign.Divide) (c ∷ cs) tt)
 
+  call_says : (w xs : List ℕ) → is_bare w ≡ true → Says (Some (call_before w xs))
+  call_says w xs h =
+      cond_both (is_sized_word w) (token (name w), 40 ∷ xs) (token (function w), xs)
+      (λ p. Says (Some p)) (λ k. token_says (name w) (40 ∷ xs) (bare_named w h))
+      (λ k. token_says (function w) xs (h, k))
+
   name_says : (w xs : List ℕ) → is_bare w ≡ true → Says (Some (name_before w xs))
-  name_says w [] h = token_says (name w) [] h
+  name_says w [] h = token_says (name w) [] (bare_named w h)
   name_says w (b ∷ bs) h =
-      cond_both (b == 40) (token (function w), bs) (token (name w), b ∷ bs) (λ p. Says (Some p))
-      (λ k. token_says (function w) bs h) (λ k. token_says (name w) (b ∷ bs) h)
+      cond_both (b == 40) (call_before w bs) (token (name w), b ∷ bs) (λ p. Says (Some p))
+      (λ k. call_says w bs h) (λ k. token_says (name w) (b ∷ bs) (bare_named w h))
 
   keyword_says : (w xs : List ℕ) (o : Option Sign) → is_word w ≡ true → keyword_of w ≡ o
       → Says (Some (keyword_or_name w o xs))
@@ -135,6 +154,13 @@ module _ (t : Token) (rest : List ℕ) where
       cond_both (b == 63) (token (nullable w), bs)
       (keyword_or_name w (keyword_of w) (b ∷ bs)) (λ p. Says (Some p))
       (λ k. token_says (nullable w) bs h) (λ k. keyword_says w (b ∷ bs) (keyword_of w) h refl)
+
+  sized_says : (xs : List ℕ) (o : Option (List ℕ)) → is_word (front Word xs) ≡ true
+      → behind_sized xs ≡ o → Says (Some (sized_or_word xs o))
+  sized_says xs None h e = word_says (front Word xs) (behind Word xs) h
+  sized_says xs (Some ys) h e =
+      token_says (name (front_before xs ys)) ys
+      (sized_named (front_before xs ys) (sized_is xs ys e))
 
   number_says : (ds xs : List ℕ) → IsNumber ds → Says (number_before ds xs)
   number_says ds [] h = token_says (number ds) [] h
@@ -172,15 +198,15 @@ module _ (t : Token) (rest : List ℕ) where
       cond (begins_number (b ∷ bs))
       (number_before (front_number (b ∷ bs)) (behind_number (b ∷ bs))) texts in
       let words = cond (begins_word b)
-      (Some (word_before (front Word (b ∷ bs)) (behind Word (b ∷ bs)))) numbers in
+      (Some (sized_or_word (b ∷ bs) (behind_sized (b ∷ bs)))) numbers in
       let divide = cond (b == 47) (divide_or_comment bs) words in
       let minus = cond (b == 45) (minus_or_comment bs) divide in
       cond_both (is_blank b) (Some (gap, bs)) minus Says (λ h. gap_says bs)
       (λ h. cond_both (b == 45) (minus_or_comment bs) divide Says (λ h. minus_says bs)
       (λ h. cond_both (b == 47) (divide_or_comment bs) words Says (λ h. divide_says bs)
       (λ h. cond_both (begins_word b)
-      (Some (word_before (front Word (b ∷ bs)) (behind Word (b ∷ bs)))) numbers Says
-      (λ h. word_says (front Word (b ∷ bs)) (behind Word (b ∷ bs)) (word_is b bs h))
+      (Some (sized_or_word (b ∷ bs) (behind_sized (b ∷ bs)))) numbers Says
+      (λ h. sized_says (b ∷ bs) (behind_sized (b ∷ bs)) (word_is b bs h) refl)
       (λ h. cond_both (begins_number (b ∷ bs))
       (number_before (front_number (b ∷ bs)) (behind_number (b ∷ bs))) texts Says
       (λ h. number_says (front_number (b ∷ bs)) (behind_number (b ∷ bs))

@@ -25,7 +25,7 @@ use Rattle.vortex_syntax.specs.Writing.{written_behind, written, IsNumber, IsWri
 use Rattle.vortex_syntax.specs.Writing.{Holds, Adds}
 use Rattle.vortex_syntax.proofs.Numbers.{first_byte}
 use Rattle.vortex_syntax.proofs.WrittenPieces.{Stops, NoMinus, no_minus_of, NoBracket, above}
-use Rattle.vortex_syntax.proofs.WrittenPieces.{known_piece, name_piece, function_piece}
+use Rattle.vortex_syntax.proofs.WrittenPieces.{known_piece, written_name, function_piece}
 use Rattle.vortex_syntax.proofs.WrittenPieces.{nullable_piece, number_piece, text_piece}
 use Rattle.vortex_syntax.proofs.WrittenPieces.{quoted_piece}
 
@@ -95,34 +95,34 @@ divide_piece (c ∷ cs) s = let other : (c == 42) ≡ false = s.8 in rw other re
 plain_piece : (s : Sign) (rest : List ℕ) → Stops rest
     → first_piece (sign_text s ++ rest) ≡ Some (token (sign s), rest)
 unfolding first_piece keyword_of
-plain_piece sign.And rest s = known_piece (codes "and") rest (Some sign.And) refl refl s
-plain_piece sign.Or rest s = known_piece (codes "or") rest (Some sign.Or) refl refl s
-plain_piece sign.Not rest s = known_piece (codes "not") rest (Some sign.Not) refl refl s
-plain_piece sign.Is rest s = known_piece (codes "is") rest (Some sign.Is) refl refl s
-plain_piece sign.Null rest s = known_piece (codes "null") rest (Some sign.Null) refl refl s
-plain_piece sign.Between rest s = known_piece (codes "between") rest (Some sign.Between) refl refl s
-plain_piece sign.Like rest s = known_piece (codes "like") rest (Some sign.Like) refl refl s
-plain_piece sign.Ilike rest s = known_piece (codes "ilike") rest (Some sign.Ilike) refl refl s
-plain_piece sign.Escape rest s = known_piece (codes "escape") rest (Some sign.Escape) refl refl s
-plain_piece sign.True rest s = known_piece (codes "true") rest (Some sign.True) refl refl s
-plain_piece sign.False rest s = known_piece (codes "false") rest (Some sign.False) refl refl s
-plain_piece sign.Cast rest s = known_piece (codes "cast") rest (Some sign.Cast) refl refl s
-plain_piece sign.As rest s = known_piece (codes "as") rest (Some sign.As) refl refl s
+plain_piece sign.And rest s = known_piece (codes "and") rest (Some sign.And) refl refl refl s
+plain_piece sign.Or rest s = known_piece (codes "or") rest (Some sign.Or) refl refl refl s
+plain_piece sign.Not rest s = known_piece (codes "not") rest (Some sign.Not) refl refl refl s
+plain_piece sign.Is rest s = known_piece (codes "is") rest (Some sign.Is) refl refl refl s
+plain_piece sign.Null rest s = known_piece (codes "null") rest (Some sign.Null) refl refl refl s
+plain_piece sign.Between rest s = known_piece (codes "between") rest (Some sign.Between) refl refl refl s
+plain_piece sign.Like rest s = known_piece (codes "like") rest (Some sign.Like) refl refl refl s
+plain_piece sign.Ilike rest s = known_piece (codes "ilike") rest (Some sign.Ilike) refl refl refl s
+plain_piece sign.Escape rest s = known_piece (codes "escape") rest (Some sign.Escape) refl refl refl s
+plain_piece sign.True rest s = known_piece (codes "true") rest (Some sign.True) refl refl refl s
+plain_piece sign.False rest s = known_piece (codes "false") rest (Some sign.False) refl refl refl s
+plain_piece sign.Cast rest s = known_piece (codes "cast") rest (Some sign.Cast) refl refl refl s
+plain_piece sign.As rest s = known_piece (codes "as") rest (Some sign.As) refl refl refl s
 plain_piece sign.Distinct rest s =
-    known_piece (codes "distinct") rest (Some sign.Distinct) refl refl s
-plain_piece sign.In rest s = known_piece (codes "in") rest (Some sign.In) refl refl s
-plain_piece sign.Case rest s = known_piece (codes "case") rest (Some sign.Case) refl refl s
-plain_piece sign.When rest s = known_piece (codes "when") rest (Some sign.When) refl refl s
-plain_piece sign.Then rest s = known_piece (codes "then") rest (Some sign.Then) refl refl s
-plain_piece sign.Else rest s = known_piece (codes "else") rest (Some sign.Else) refl refl s
-plain_piece sign.End rest s = known_piece (codes "end") rest (Some sign.End) refl refl s
-plain_piece sign.IsNull rest s = known_piece (codes "isnull") rest (Some sign.IsNull) refl refl s
-plain_piece sign.NotNull rest s = known_piece (codes "notnull") rest (Some sign.NotNull) refl refl s
+    known_piece (codes "distinct") rest (Some sign.Distinct) refl refl refl s
+plain_piece sign.In rest s = known_piece (codes "in") rest (Some sign.In) refl refl refl s
+plain_piece sign.Case rest s = known_piece (codes "case") rest (Some sign.Case) refl refl refl s
+plain_piece sign.When rest s = known_piece (codes "when") rest (Some sign.When) refl refl refl s
+plain_piece sign.Then rest s = known_piece (codes "then") rest (Some sign.Then) refl refl refl s
+plain_piece sign.Else rest s = known_piece (codes "else") rest (Some sign.Else) refl refl refl s
+plain_piece sign.End rest s = known_piece (codes "end") rest (Some sign.End) refl refl refl s
+plain_piece sign.IsNull rest s = known_piece (codes "isnull") rest (Some sign.IsNull) refl refl refl s
+plain_piece sign.NotNull rest s = known_piece (codes "notnull") rest (Some sign.NotNull) refl refl refl s
 plain_piece sign.TryCast rest s =
-    known_piece (codes "try_cast") rest (Some sign.TryCast) refl refl s
+    known_piece (codes "try_cast") rest (Some sign.TryCast) refl refl refl s
 plain_piece sign.Symmetric rest s =
-    known_piece (codes "symmetric") rest (Some sign.Symmetric) refl refl s
-plain_piece sign.From rest s = known_piece (codes "from") rest (Some sign.From) refl refl s
+    known_piece (codes "symmetric") rest (Some sign.Symmetric) refl refl refl s
+plain_piece sign.From rest s = known_piece (codes "from") rest (Some sign.From) refl refl refl s
 plain_piece sign.Equal rest s = equal_piece rest s
 plain_piece sign.NotEqual rest s = refl
 plain_piece sign.Less rest s = less_piece rest s
@@ -165,9 +165,9 @@ sign_piece e s rest f = plain_piece s rest f.0
 
 token_piece : (e : Ending) (t : Token) (rest : List ℕ) → IsWritable t
     → Follows (ending_behind e t) rest → first_piece (token_text t ++ rest) ≡ Some (token t, rest)
-token_piece e (name w) rest h f = name_piece w rest h f.0 f.1
+token_piece e (name w) rest h f = written_name w rest h f.0 f.1
 token_piece e (nullable w) rest h f = nullable_piece w rest h
-token_piece e (function w) rest h f = function_piece w rest h
+token_piece e (function w) rest h f = function_piece w rest h.0 h.1
 token_piece e (quoted w) rest h f = quoted_piece w rest h f.0
 token_piece e (number ds) rest h f = number_piece ds rest h f.0
 token_piece e (text bs) rest h f = text_piece bs rest h f.0

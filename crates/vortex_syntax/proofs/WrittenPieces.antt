@@ -10,11 +10,14 @@ use Rattle.vortex_syntax.specs.declared.token.Sign.{Sign}
 use Rattle.vortex_syntax.specs.declared.pieces.Run.TheVariants.{Word, Digits}
 use Rattle.vortex_syntax.specs.Tokens.{name, nullable, function, quoted, number, text}
 use Rattle.vortex_syntax.specs.Keywords.{keyword_of}
-use Rattle.vortex_syntax.specs.Pieces.{token, is_blank, begins_word, is_in, front, behind}
+use Rattle.vortex_syntax.specs.Pieces.{token, is_blank, begins_word, is_in, behind}
 use Rattle.vortex_syntax.specs.Pieces.{name_before, keyword_or_name, word_before, number_before}
 use Rattle.vortex_syntax.specs.Pieces.{begins_number, behind_number, front_number, with_front}
-use Rattle.vortex_syntax.specs.Pieces.{closed, quoted_by, first_piece}
+use Rattle.vortex_syntax.specs.Pieces.{closed, quoted_by, first_piece, is_sized_word, sizes_at}
+use Rattle.vortex_syntax.specs.Pieces.{behind_sizes, behind_sized, sized_or_word, front_before}
 use Rattle.vortex_syntax.specs.Writing.{doubled, in_quotes, is_word, is_bare, IsNumber, IsDoubled}
+use Rattle.vortex_syntax.specs.Writing.{is_sized}
+use Rattle.vortex_syntax.proofs.SizedNames.{sized_before, front_cut, BeginsWord, sized_begins}
 use Rattle.vortex_syntax.proofs.Runs.{EndsRun, word_begun, front_all, behind_all}
 use Rattle.vortex_syntax.proofs.Numbers.{NoPoint, NoMark, number_behind, number_front, number_begun}
 use Rattle.vortex_syntax.proofs.Numbers.{first_byte}
@@ -93,22 +96,37 @@ not_blank b h = grind (arith, nat_tests)
 word_from : (b : ℕ) → begins_word b ≡ true → 64 < b
 word_from b h = grind (arith, nat_tests)
 
+-- no sizes begin without a bracket
+none_if : (v : Bool) (o : Option (List ℕ)) → o ≡ None → cond v o None ≡ None
+none_if true o e = e
+none_if false o e = refl
+
+no_bracket_sizes : (rest : List ℕ) → NoBracket rest → behind_sizes rest ≡ None
+no_bracket_sizes [] b = refl
+no_bracket_sizes (c ∷ cs) b = let other : (c == 40) ≡ false = b in rw other refl
+
+no_sizes : (w rest : List ℕ) → NoBracket rest → sizes_at w rest ≡ None
+no_sizes w rest b = none_if (is_sized_word w) (behind_sizes rest) (no_bracket_sizes rest b)
+
 -- words
 word_begins : (b : ℕ) (xs : List ℕ) → is_blank b ≡ false → (b == 45) ≡ false → (b == 47) ≡ false
     → begins_word b ≡ true
-    → first_piece (b ∷ xs) ≡ Some (word_before (front Word (b ∷ xs)) (behind Word (b ∷ xs)))
+    → first_piece (b ∷ xs) ≡ Some (sized_or_word (b ∷ xs) (behind_sized (b ∷ xs)))
 unfolding first_piece
 word_begins b xs n m o w = rw (n, m, o, w) refl
 
-word_piece : (w rest : List ℕ) → is_word w ≡ true → EndsRun Word rest
+word_piece : (w rest : List ℕ) → is_word w ≡ true → EndsRun Word rest → sizes_at w rest ≡ None
     → first_piece (w ++ rest) ≡ Some (word_before w rest)
-word_piece [] rest h e = absurd (false≢true h)
-word_piece (b ∷ bs) rest h e =
+word_piece [] rest h e n = absurd (false≢true h)
+word_piece (b ∷ bs) rest h e n =
     let p = and_parts (begins_word b) (list_all (is_in Word) bs) h in
     let from = word_from b p.0 in
     let all = and_from (is_in Word b) (list_all (is_in Word) bs) (word_begun b p.0) p.1 in
     word_begins b (bs ++ rest) (not_blank b (omega (arith, from)))
     (above b 45 (omega (arith, from))) (above b 47 (omega (arith, from))) p.0
+    ∙ ap (λ o. Some (sized_or_word (b ∷ (bs ++ rest)) o))
+    (ap (λ ys. sizes_at ys (behind Word (b ∷ (bs ++ rest)))) (front_all Word (b ∷ bs) rest all e)
+    ∙ ap (sizes_at (b ∷ bs)) (behind_all Word (b ∷ bs) rest all e) ∙ n)
     ∙ ap (λ ys. Some (word_before ys (behind Word (b ∷ (bs ++ rest)))))
     (front_all Word (b ∷ bs) rest all e)
     ∙ ap (λ ys. Some (word_before (b ∷ bs) ys)) (behind_all Word (b ∷ bs) rest all e)
@@ -119,10 +137,10 @@ word_ends w [] s = refl
 word_ends w (c ∷ cs) s = let other : (c == 63) ≡ false = s.1 in rw other refl
 
 pub known_piece : (w rest : List ℕ) (o : Option Sign) → is_word w ≡ true → keyword_of w ≡ o
-    → Stops rest
+    → sizes_at w rest ≡ None → Stops rest
     → first_piece (w ++ rest) ≡ Some (keyword_or_name w o rest)
-known_piece w rest o h k s =
-    word_piece w rest h (ends_word rest s) ∙ ap (λ x. Some x) (word_ends w rest s)
+known_piece w rest o h k n s =
+    word_piece w rest h (ends_word rest s) n ∙ ap (λ x. Some x) (word_ends w rest s)
     ∙ ap (λ p. Some (keyword_or_name w p rest)) k
 
 none_is : (o : Option Sign) → is_none o ≡ true → o ≡ None
@@ -133,25 +151,51 @@ name_ends : (w rest : List ℕ) → NoBracket rest → name_before w rest ≡ (t
 name_ends w [] b = refl
 name_ends w (c ∷ cs) b = let other : (c == 40) ≡ false = b in rw other refl
 
-pub name_piece : (w rest : List ℕ) → is_bare w ≡ true → Stops rest → NoBracket rest
+name_piece : (w rest : List ℕ) → is_bare w ≡ true → Stops rest → NoBracket rest
     → first_piece (w ++ rest) ≡ Some (token (name w), rest)
 name_piece w rest h s b =
     let p = and_parts (is_word w) (is_none (keyword_of w)) h in
-    known_piece w rest None p.0 (none_is (keyword_of w) p.1) s
+    known_piece w rest None p.0 (none_is (keyword_of w) p.1) (no_sizes w rest b) s
     ∙ ap (λ x. Some x) (name_ends w rest b)
 
-pub function_piece : (w rest : List ℕ) → is_bare w ≡ true
+sized_piece_of : (xs rest : List ℕ) → behind_sized xs ≡ Some rest → BeginsWord xs
+    → first_piece xs ≡ Some (token (name (front_before xs rest)), rest)
+sized_piece_of [] rest e h = absurd h
+sized_piece_of (b ∷ bs) rest e h =
+    let from = word_from b h in
+    word_begins b bs (not_blank b (omega (arith, from))) (above b 45 (omega (arith, from)))
+    (above b 47 (omega (arith, from))) h
+    ∙ ap (λ o. Some (sized_or_word (b ∷ bs) o)) e
+
+pub sized_piece : (w rest : List ℕ) → is_sized w ≡ true
+    → first_piece (w ++ rest) ≡ Some (token (name w), rest)
+sized_piece w rest h =
+    let e = sized_before w rest h in
+    sized_piece_of (w ++ rest) rest e (sized_begins (w ++ rest) rest e)
+    ∙ ap (λ v. Some (token (name v), rest)) (front_cut w rest)
+
+named_if : (w rest : List ℕ) (v : Bool) → is_bare w ≡ v → (v || is_sized w) ≡ true → Stops rest
+    → NoBracket rest → first_piece (w ++ rest) ≡ Some (token (name w), rest)
+named_if w rest true h k s b = name_piece w rest h s b
+named_if w rest false h k s b = sized_piece w rest k
+
+pub written_name : (w rest : List ℕ) → (is_bare w || is_sized w) ≡ true → Stops rest
+    → NoBracket rest → first_piece (w ++ rest) ≡ Some (token (name w), rest)
+written_name w rest h s b = named_if w rest (is_bare w) refl h s b
+
+pub function_piece : (w rest : List ℕ) → is_bare w ≡ true → is_sized_word w ≡ false
     → first_piece ((w ++ codes "(") ++ rest) ≡ Some (token (function w), rest)
-function_piece w rest h =
+function_piece w rest h n =
     let p = and_parts (is_word w) (is_none (keyword_of w)) h in
     ap first_piece (append_assoc w (codes "(") rest)
-    ∙ word_piece w (40 ∷ rest) p.0 refl
+    ∙ word_piece w (40 ∷ rest) p.0 refl (ap (λ b. cond b (behind_sizes (40 ∷ rest)) None) n)
     ∙ ap (λ o. Some (keyword_or_name w o (40 ∷ rest))) (none_is (keyword_of w) p.1)
+    ∙ ap (λ b. Some (cond b (token (name w), 40 ∷ rest) (token (function w), rest))) n
 
 pub nullable_piece : (w rest : List ℕ) → is_word w ≡ true
     → first_piece ((w ++ codes "?") ++ rest) ≡ Some (token (nullable w), rest)
 nullable_piece w rest h = ap first_piece (append_assoc w (codes "?") rest)
-    ∙ word_piece w (63 ∷ rest) h refl
+    ∙ word_piece w (63 ∷ rest) h refl (no_sizes w (63 ∷ rest) refl)
 
 -- numbers
 number_begins : (d : ℕ) (xs : List ℕ) → is_blank d ≡ false → (d == 45) ≡ false

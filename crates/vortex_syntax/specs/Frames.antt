@@ -13,9 +13,10 @@ use Rattle.vortex_syntax.specs.Levels.{bit_not_level, literal_level}
 use Rattle.vortex_syntax.specs.Postfix.{Step, called}
 
 -- Cast is by `try_cast` if the flag is true; Between is before its `and`, Bounded after it; Arguments
--- is a call of that name, after as many arguments; Extract is one after a word and `from`; Items are
--- those of IN, after as many; Case is before that part of a CASE, which has an operand if the flag is
--- true, after as many values
+-- is a call of that name, after as many arguments; Extract is one after a word and `from`; From is
+-- one after an argument and `from`, For after one more and `for`; Items are those of IN, after as
+-- many; Case is before that part of a CASE, which has an operand if the flag is true, after as many
+-- values
 pub data Frame : Type 0 where
   Open : Frame
   Cast : Bool → Frame
@@ -30,6 +31,8 @@ pub data Frame : Type 0 where
   Like : LikeKind → Frame
   Arguments : List ℕ → ℕ → Frame
   Extract : List ℕ → Frame
+  From : List ℕ → Frame
+  For : List ℕ → Frame
   Items : Bool → ℕ → Frame
   Case : CasePart → Bool → ℕ → Frame
 
@@ -47,6 +50,8 @@ frame_in (variant.Bounded k) = Bounded k
 frame_in (variant.Like k) = Like k
 frame_in (variant.Arguments w n) = Arguments w.now n
 frame_in (variant.Extract w) = Extract w.now
+frame_in (variant.From w) = From w.now
+frame_in (variant.For w) = For w.now
 frame_in (variant.Items n k) = Items n k
 frame_in (variant.Case p n k) = Case p n k
 
@@ -65,6 +70,8 @@ hole (Bounded k) = concat_level
 hole (Like k) = concat_level
 hole (Arguments w n) = 0
 hole (Extract w) = 0
+hole (From w) = 0
+hole (For w) = 0
 hole (Items n k) = 0
 hole (Case p n k) = 0
 
@@ -97,6 +104,8 @@ guard (Bounded k) = concat_level
 guard (Like k) = concat_level
 guard (Arguments w n) = 0
 guard (Extract w) = 0
+guard (From w) = 0
+guard (For w) = 0
 guard (Items n k) = 0
 guard (Case p n k) = 0
 
@@ -115,6 +124,8 @@ whole (Bounded k) = predicate_level
 whole (Like k) = predicate_level
 whole (Arguments w n) = atom_level
 whole (Extract w) = atom_level
+whole (From w) = atom_level
+whole (For w) = atom_level
 whole (Items n k) = predicate_level
 whole (Case p n k) = atom_level
 
@@ -132,5 +143,7 @@ closing (Bounded k) = called (call.Between k)
 closing (Like k) = called (call.Like k)
 closing (Arguments w n) = called call.Not
 closing (Extract w) = called call.Not
+closing (From w) = called call.Not
+closing (For w) = called call.Not
 closing (Items n k) = called call.Not
 closing (Case p n k) = called call.Not

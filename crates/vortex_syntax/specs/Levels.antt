@@ -1,5 +1,5 @@
 -- The precedence levels of SQL, as in PostgreSQL: what binds tighter has a higher level.
-use Rattle.std.specs.Prelude.{◌≡◌, ℕ, ◌≤◌, Bool, true, false, List, codes}
+use Rattle.std.specs.Prelude.{◌≡◌, ℕ, ◌≤◌, Bool, true, false, ◌||◌, List, codes}
 use Rattle.vortex_syntax.specs.declared.step.WrittenOperator.{WrittenOperator}
 use Rattle.vortex_syntax.specs.declared.step.WrittenOperator.TheVariants as operator
 use Rattle.vortex_syntax.specs.declared.token.Sign.{Sign}
@@ -9,7 +9,7 @@ use Rattle.vortex_syntax.specs.Keywords.{same_word}
 use Rattle.vortex_syntax.specs.Syntax.{Syntax, operand, negative, minus, typed, grouped, negated}
 use Rattle.vortex_syntax.specs.Syntax.{joined, tested, distinct, between, matched, listed, cast}
 use Rattle.vortex_syntax.specs.Syntax.{plus, bit_not, null_tested, Tested, Null, True, False}
-use Rattle.vortex_syntax.specs.Syntax.{Unknown, converted, titled, extracted}
+use Rattle.vortex_syntax.specs.Syntax.{Unknown, converted, titled, extracted, parted, parted_for}
 use Rattle.vortex_syntax.specs.Syntax.{nullary, chosen, chosen_else, applied, Arguments}
 use Rattle.vortex_syntax.specs.Syntax.{no_arguments, argument, Branches, without_operand}
 use Rattle.vortex_syntax.specs.Syntax.{of_operand, branch}
@@ -163,6 +163,8 @@ level (chosen_else bs c v e) = atom_level
 level (nullary p w) = atom_level
 level (applied p w args a) = atom_level
 level (extracted p f w a) = atom_level
+level (parted p f s a) = atom_level
+level (parted_for p f s a w b) = atom_level
 
 -- the word of a test is the right one
 abbrev pub IsTested : Tested → Type 0
@@ -174,6 +176,13 @@ IsTested (Unknown w) = same_word w (codes "unknown") ≡ true
 -- the one function that takes a word before `from`
 abbrev pub takes_word : List ℕ → Bool
 takes_word f = same_word f (codes "extract")
+
+-- the functions that take `from` after their first argument, and `for` after their second
+abbrev pub takes_from : List ℕ → Bool
+takes_from f = same_word f (codes "substring") || same_word f (codes "substr")
+
+abbrev pub is_for : List ℕ → Bool
+is_for w = same_word w (codes "for")
 
 -- each operand binds at least as tightly as required there
 abbrev mutual
@@ -203,6 +212,9 @@ abbrev mutual
   Fits (nullary p w) = Unit {0}
   Fits (applied p w args a) = AllFit args × Fits a
   Fits (extracted p f w a) = (takes_word f ≡ true) × Fits a
+  Fits (parted p f s a) = (takes_from f ≡ true) × Fits s × Fits a
+  Fits (parted_for p f s a w b) =
+      (takes_from f ≡ true) × (is_for w ≡ true) × Fits s × Fits a × Fits b
 
   pub AllFit : Arguments → Type 0
   AllFit no_arguments = Unit {0}

@@ -1,6 +1,7 @@
 pub mod Tokens
 pub mod Keywords
 pub mod Pieces
+pub mod SizeDigits
 pub mod Lexing
 pub mod Errors
 pub mod Expected

@@ -1,16 +1,17 @@
 -- The first piece of a text, a gap or a token, and what follows it.
 use Rattle.std.specs.Prelude.{suc, ◌==◌, ◌||◌, ◌&&◌, ◌-◌, ℕ, Bool, true, false, List, [], ◌∷◌, ◌++◌}
-use Rattle.std.specs.Prelude.{length, take, Option, Some, None, if◌then◌else◌}
+use Rattle.std.specs.Prelude.{length, take, Option, Some, None, codes, if◌then◌else◌}
+use Rattle.std.specs.Option.{option_and_then}
 use Rattle.std.specs.Char.{is_ascii_alphabetic, is_ascii_alphanumeric, is_ascii_digit}
 use Rattle.vortex_syntax.specs.declared.token.Sign.{Sign}
 use Rattle.vortex_syntax.specs.declared.token.Sign.TheVariants as sign
 use Rattle.vortex_syntax.specs.declared.pieces.Run.{Run}
-use Rattle.vortex_syntax.specs.declared.pieces.Run.TheVariants.{Word, Digits, Line}
+use Rattle.vortex_syntax.specs.declared.pieces.Run.TheVariants.{Word, Digits, Blank, Line}
 use Rattle.vortex_syntax.specs.declared.pieces.Piece as read
 use Rattle.vortex_syntax.specs.declared.pieces.Piece.TheVariants as variant
 use Rattle.vortex_syntax.specs.Tokens.{Token, name, nullable, function, quoted, number, text, sign}
 use Rattle.vortex_syntax.specs.Tokens.{token_in}
-use Rattle.vortex_syntax.specs.Keywords.{keyword_of}
+use Rattle.vortex_syntax.specs.Keywords.{keyword_of, same_word}
 
 -- white space or a comment, or a token
 pub data Piece : Type 0 where
@@ -31,10 +32,11 @@ is_blank b = (b == 32) || (b == 9) || (b == 10) || (b == 13)
 abbrev pub begins_word : ℕ → Bool
 begins_word b = is_ascii_alphabetic b || (b == 95)
 
--- bytes of words, digits, and bytes of lines
+-- bytes of words, digits, blanks, and bytes of lines
 abbrev pub is_in : Run → ℕ → Bool
 is_in Word b = is_ascii_alphanumeric b || (b == 95)
 is_in Digits b = is_ascii_digit b
+is_in Blank b = is_blank b
 is_in Line b = if b == 10 then false else (if b == 13 then false else true)
 
 -- the bytes of that run at the start of a text, and the bytes after them
@@ -80,10 +82,47 @@ behind_number bs = behind_exponent (behind_fraction (behind Digits bs))
 abbrev pub front_number : List ℕ → List ℕ
 front_number bs = take (length bs - length (behind_number bs)) bs
 
--- an opening bracket right after a name belongs to it
+-- the types whose names have sizes, as in `decimal(12, 2)`
+abbrev pub is_sized_word : List ℕ → Bool
+is_sized_word w = same_word w (codes "decimal") || same_word w (codes "numeric")
+
+-- what follows digits, with blanks round them
+abbrev pub behind_blanks : List ℕ → Option (List ℕ)
+behind_blanks bs = if begins_digits bs then Some (behind Blank (behind Digits bs)) else None
+
+abbrev pub behind_size : List ℕ → Option (List ℕ)
+behind_size bs = behind_blanks (behind Blank bs)
+
+abbrev pub behind_close : List ℕ → Option (List ℕ)
+behind_close [] = None
+behind_close (b ∷ bs) = if b == 41 then Some bs else None
+
+abbrev pub behind_last : List ℕ → Option (List ℕ)
+behind_last [] = None
+behind_last (b ∷ bs) =
+    if b == 41 then Some bs
+    else (if b == 44 then option_and_then behind_close (behind_size bs) else None)
+
+-- what follows a bracket with one size, or two with a comma between them
+abbrev pub behind_sizes : List ℕ → Option (List ℕ)
+behind_sizes [] = None
+behind_sizes (b ∷ bs) =
+    if b == 40 then option_and_then behind_last (behind_size bs) else None
+
+-- what follows the sizes of that word
+abbrev pub sizes_at : List ℕ → List ℕ → Option (List ℕ)
+sizes_at w bs = if is_sized_word w then behind_sizes bs else None
+
+abbrev pub behind_sized : List ℕ → Option (List ℕ)
+behind_sized bs = sizes_at (front Word bs) (behind Word bs)
+
+-- an opening bracket right after a name belongs to it, unless it could be one of sizes
+abbrev pub call_before : List ℕ → List ℕ → Piece × List ℕ
+call_before w bs = if is_sized_word w then (token (name w), 40 ∷ bs) else (token (function w), bs)
+
 abbrev pub name_before : List ℕ → List ℕ → Piece × List ℕ
 name_before w [] = (token (name w), [])
-name_before w (b ∷ bs) = if b == 40 then (token (function w), bs) else (token (name w), b ∷ bs)
+name_before w (b ∷ bs) = if b == 40 then call_before w bs else (token (name w), b ∷ bs)
 
 -- a word is a keyword or a name
 abbrev pub keyword_or_name : List ℕ → Option Sign → List ℕ → Piece × List ℕ
@@ -94,6 +133,14 @@ abbrev pub word_before : List ℕ → List ℕ → Piece × List ℕ
 word_before w [] = keyword_or_name w (keyword_of w) []
 word_before w (b ∷ bs) =
     if b == 63 then (token (nullable w), bs) else keyword_or_name w (keyword_of w) (b ∷ bs)
+
+-- a word with its sizes is one name
+abbrev pub front_before : List ℕ → List ℕ → List ℕ
+front_before bs rest = take (length bs - length rest) bs
+
+abbrev pub sized_or_word : List ℕ → Option (List ℕ) → Piece × List ℕ
+sized_or_word bs None = word_before (front Word bs) (behind Word bs)
+sized_or_word bs (Some rest) = (token (name (front_before bs rest)), rest)
 
 -- no word begins right after a number
 abbrev pub number_before : List ℕ → List ℕ → Cut
@@ -191,7 +238,7 @@ first_piece (b ∷ bs) =
     if is_blank b then Some (gap, bs)
     else (if b == 45 then minus_or_comment bs
     else (if b == 47 then divide_or_comment bs
-    else (if begins_word b then Some (word_before (front Word (b ∷ bs)) (behind Word (b ∷ bs)))
+    else (if begins_word b then Some (sized_or_word (b ∷ bs) (behind_sized (b ∷ bs)))
     else (if begins_number (b ∷ bs)
     then number_before (front_number (b ∷ bs)) (behind_number (b ∷ bs))
     else (if b == 39 then quoted_by text (closed 39 bs)

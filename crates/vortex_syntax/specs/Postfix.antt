@@ -90,6 +90,9 @@ abbrev mutual
   postfix (tree.applied p w args a) =
       all_postfix args ++ (postfix a ++ (applied w (suc (argument_count args)) ∷ []))
   postfix (tree.extracted p f w a) = operand (text w) ∷ (postfix a ++ (applied f 2 ∷ []))
+  postfix (tree.parted p f s a) = postfix s ++ (postfix a ++ (applied f 2 ∷ []))
+  postfix (tree.parted_for p f s a w b) =
+      postfix s ++ (postfix a ++ (postfix b ++ (applied f 3 ∷ [])))
 
   pub all_postfix : Arguments → List Step
   all_postfix tree.no_arguments = []

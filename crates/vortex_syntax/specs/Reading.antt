@@ -23,6 +23,7 @@ use Rattle.vortex_syntax.specs.Levels.{own, left, or_level, and_level, not_level
 use Rattle.vortex_syntax.specs.Levels.{typed_level, distinct_level, is_level}
 use Rattle.vortex_syntax.specs.Levels.{predicate_level, concat_level, atom_level, literal_level}
 use Rattle.vortex_syntax.specs.Levels.{bit_not_level, is_operand, operand_level, takes_word}
+use Rattle.vortex_syntax.specs.Levels.{takes_from, is_for}
 use Rattle.vortex_syntax.specs.Spelling.{operator_of}
 use Rattle.vortex_syntax.specs.declared.reading.Reading.{Reading}
 use Rattle.vortex_syntax.specs.Frames as frame
@@ -125,6 +126,10 @@ close_behind (frame.Arguments w n ∷ fs) out =
     Some (state (mode.Have atom_level) fs (out ++ (applied w (suc n) ∷ [])))
 close_behind (frame.Extract w ∷ fs) out =
     Some (state (mode.Have atom_level) fs (out ++ (applied w 2 ∷ [])))
+close_behind (frame.From w ∷ fs) out =
+    Some (state (mode.Have atom_level) fs (out ++ (applied w 2 ∷ [])))
+close_behind (frame.For w ∷ fs) out =
+    Some (state (mode.Have atom_level) fs (out ++ (applied w 3 ∷ [])))
 close_behind (frame.Items n k ∷ fs) out =
     Some (state (mode.Have predicate_level) fs (out ++ (listed n (suc k) ∷ [])))
 close_behind (f ∷ fs) out = None
@@ -136,6 +141,19 @@ comma_behind (frame.Arguments w n ∷ fs) out =
     Some (state mode.Want (frame.Arguments w (suc n) ∷ fs) out)
 comma_behind (frame.Items n k ∷ fs) out = Some (state mode.Want (frame.Items n (suc k) ∷ fs) out)
 comma_behind (f ∷ fs) out = None
+
+-- a `from` ends the first argument of a function that takes it, and a word `for` the second
+abbrev pub from_behind : List Frame → List Step → Option State
+from_behind [] out = None
+from_behind (frame.Arguments f zero ∷ fs) out =
+    if takes_from f then Some (state mode.Want (frame.From f ∷ fs) out) else None
+from_behind (f ∷ fs) out = None
+
+abbrev pub for_behind : List ℕ → List Frame → List Step → Option State
+for_behind w [] out = None
+for_behind w (frame.From f ∷ fs) out =
+    if is_for w then Some (state mode.Want (frame.For f ∷ fs) out) else None
+for_behind w (f ∷ fs) out = None
 
 -- the words of a CASE after that part
 abbrev pub case_waits : CasePart → Bool → ℕ → List Frame → List Step → Option State
@@ -214,6 +232,8 @@ word_after level fs out sign.Close =
     let a = settled or_level level fs out in close_behind a.frames a.steps
 word_after level fs out sign.Comma =
     let a = settled or_level level fs out in comma_behind a.frames a.steps
+word_after level fs out sign.From =
+    let a = settled or_level level fs out in from_behind a.frames a.steps
 word_after level fs out sign.As =
     let a = settled or_level level fs out in as_behind a.frames a.steps
 word_after level fs out sign.When =
@@ -237,6 +257,8 @@ operator_or_word level fs out s (Some o) = joining o level fs out
 
 abbrev pub behind : ℕ → List Frame → List Step → Token → Option State
 behind level fs out (sign s) = operator_or_word level fs out s (operator_of s)
+behind level fs out (name w) =
+    let a = settled or_level level fs out in for_behind w a.frames a.steps
 behind level fs out t = None
 
 -- a bracket after a bare name makes a call of it
@@ -262,11 +284,19 @@ word_of f fs None = None
 word_of f fs (Some x) =
     Some (state mode.Want (frame.Extract f ∷ fs) (x.0 ++ (operand (text x.1) ∷ [])))
 
+abbrev pub waits_word : List Frame → Bool
+waits_word [] = false
+waits_word (frame.Arguments f zero ∷ fs) = takes_word f
+waits_word (f ∷ fs) = false
+
+abbrev pub word_from : List Frame → List Step → Option State
+word_from [] out = None
+word_from (frame.Arguments f n ∷ fs) out = word_of f fs (last_name out)
+word_from (f ∷ fs) out = None
+
 abbrev pub from_named : List Frame → List Step → Option State
-from_named [] out = None
-from_named (frame.Arguments f zero ∷ fs) out =
-    if takes_word f then word_of f fs (last_name out) else None
-from_named (f ∷ fs) out = None
+from_named fs out =
+    if waits_word fs then word_from fs out else behind atom_level fs out (sign sign.From)
 
 abbrev pub after_name : List Frame → List Step → Token → Option State
 after_name fs out (sign sign.Open) = open_call fs out

@@ -11,7 +11,7 @@ use Rattle.vortex_syntax.specs.Tokens.{Token, name, nullable, function, number, 
 use Rattle.vortex_syntax.specs.Syntax.{Syntax, operand, negative, minus, typed, grouped, negated}
 use Rattle.vortex_syntax.specs.Syntax.{joined, tested, distinct, between, matched, listed, cast}
 use Rattle.vortex_syntax.specs.Syntax.{plus, bit_not, null_tested, Tested, Null, True, False}
-use Rattle.vortex_syntax.specs.Syntax.{Unknown, converted, titled, extracted}
+use Rattle.vortex_syntax.specs.Syntax.{Unknown, converted, titled, extracted, parted, parted_for}
 use Rattle.vortex_syntax.specs.Syntax.{nullary, chosen, chosen_else, applied, Arguments}
 use Rattle.vortex_syntax.specs.Syntax.{no_arguments, argument, Branches, without_operand}
 use Rattle.vortex_syntax.specs.Syntax.{of_operand, branch}
@@ -146,6 +146,13 @@ abbrev mutual
       function_tokens p w ++ (all_spelled args ++ (spelling a ++ (sign sign.Close ∷ [])))
   spelling (extracted p f w a) =
       function_tokens p f ++ (name w ∷ sign sign.From ∷ (spelling a ++ (sign sign.Close ∷ [])))
+  spelling (parted p f s a) =
+      function_tokens p f
+      ++ (spelling s ++ (sign sign.From ∷ (spelling a ++ (sign sign.Close ∷ []))))
+  spelling (parted_for p f s a w b) =
+      function_tokens p f
+      ++ (spelling s ++ (sign sign.From ∷ (spelling a
+      ++ (name w ∷ (spelling b ++ (sign sign.Close ∷ []))))))
 
   -- a comma follows each
   pub all_spelled : Arguments → List Token

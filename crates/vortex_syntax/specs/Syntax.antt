@@ -36,6 +36,9 @@ pub data Tested : Type 0 where
 -- applied: the function of that name, of some arguments and a last one; its bracket is as above
 -- extracted: the function of that name, `extract`, of a word before `from`, as a text, and a tree
 -- after it; its bracket is as above
+-- parted: the function of that name, which takes `from`, of the trees before and after it; its
+-- bracket is as above
+-- parted_for: the same with a tree after a word that is `for`, ignoring case
 mutual
   pub data Syntax : Type 0 where
     operand : Token → Syntax
@@ -61,6 +64,8 @@ mutual
     nullary : Bool → List ℕ → Syntax
     applied : Bool → List ℕ → Arguments → Syntax → Syntax
     extracted : Bool → List ℕ → List ℕ → Syntax → Syntax
+    parted : Bool → List ℕ → Syntax → Syntax → Syntax
+    parted_for : Bool → List ℕ → Syntax → Syntax → List ℕ → Syntax → Syntax
 
   -- the arguments or items before the last one
   pub data Arguments : Type 0 where

@@ -4,7 +4,7 @@ use Rattle.vortex_syntax.specs.declared.token.Sign.{Sign}
 use Rattle.vortex_syntax.specs.declared.token.Token as read
 use Rattle.vortex_syntax.specs.declared.token.Token.TheVariants as variant
 
--- a name, a name with a question mark after it, a name with an opening bracket after it, the bytes
+-- a name, with sizes if it is one of a type that has them, a name with a question mark after it, a name with an opening bracket after it, the bytes
 -- in double quotes, a number as written, the bytes in single quotes, and a keyword or a sign. Bytes
 -- in quotes are as written.
 pub data Token : Type 0 where

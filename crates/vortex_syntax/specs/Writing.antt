@@ -1,6 +1,6 @@
 -- The text of tokens: how each is written, and where a blank comes before it.
-use Rattle.std.specs.Prelude.{◌≡◌, ℕ, ◌==◌, ◌&&◌, Bool, true, false, List, [], ◌∷◌, ◌++◌, codes}
-use Rattle.std.specs.Prelude.{is_none, string_bytes, if◌then◌else◌}
+use Rattle.std.specs.Prelude.{◌≡◌, ℕ, ◌==◌, ◌&&◌, ◌||◌, Bool, true, false, List, [], ◌∷◌, ◌++◌}
+use Rattle.std.specs.Prelude.{codes, is_none, string_bytes, Option, Some, None, if◌then◌else◌}
 use Rattle.std.specs.List.{list_all}
 use Rattle.vortex_syntax.specs.declared.token.Sign.{Sign}
 use Rattle.vortex_syntax.specs.declared.token.Sign.TheVariants as sign
@@ -11,6 +11,7 @@ use Rattle.vortex_syntax.specs.declared.writing.Writer.{Writer}
 use Rattle.vortex_syntax.specs.Tokens.{Token, name, nullable, function, quoted, number, text, sign}
 use Rattle.vortex_syntax.specs.Keywords.{keyword_of}
 use Rattle.vortex_syntax.specs.Pieces.{begins_word, is_in, begins_number, behind_number}
+use Rattle.vortex_syntax.specs.Pieces.{is_sized_word, behind_sized}
 
 abbrev pub sign_text : Sign → List ℕ
 sign_text sign.And = codes "and"
@@ -156,6 +157,15 @@ is_word (b ∷ bs) = begins_word b && list_all (is_in Word) bs
 abbrev pub is_bare : List ℕ → Bool
 is_bare w = is_word w && is_none (keyword_of w)
 
+-- the name of a type with its sizes
+abbrev pub is_nothing : Option (List ℕ) → Bool
+is_nothing None = false
+is_nothing (Some []) = true
+is_nothing (Some (b ∷ bs)) = false
+
+abbrev pub is_sized : List ℕ → Bool
+is_sized w = is_nothing (behind_sized w)
+
 -- the text of one number
 abbrev pub IsNumber : List ℕ → Type 0
 IsNumber w = (begins_number w ≡ true) × (behind_number w ≡ [])
@@ -165,9 +175,9 @@ IsDoubled q bs = (raw : List ℕ) × (bs ≡ doubled q raw)
 
 -- tokens of some text
 abbrev pub IsWritable : Token → Type 0
-IsWritable (name w) = is_bare w ≡ true
+IsWritable (name w) = (is_bare w || is_sized w) ≡ true
 IsWritable (nullable w) = is_word w ≡ true
-IsWritable (function w) = is_bare w ≡ true
+IsWritable (function w) = (is_bare w ≡ true) × (is_sized_word w ≡ false)
 IsWritable (quoted w) = IsDoubled 34 w
 IsWritable (number w) = IsNumber w
 IsWritable (text bs) = IsDoubled 39 bs

@@ -1,12 +1,12 @@
 //! What a token after a bare name does to what is read.
+ghost use Rattle.std.specs.Prelude.{◌≡◌};
 ghost use Rattle.vortex_syntax.specs.Tokens.{token_in};
 ghost use Rattle.vortex_syntax.specs.Postfix.{last_name};
 ghost use Rattle.vortex_syntax.specs.Reading as specs;
 ghost use Rattle.vortex_syntax.specs.Reading.{frames_in, steps_in, Gives};
 
 use crate::frame::{Frame, Mode};
-use crate::levels::ATOM;
-use crate::pieces::is_same_word;
+use crate::levels::{ATOM, takes_word};
 use crate::reading::Reading;
 use crate::step::Step;
 use crate::token::{Sign, Token};
@@ -58,23 +58,40 @@ impl<'a> Reading<'a> {
         }
     }
 
-    /// `from` after a bare name, which the bracket of a call of `extract` comes before.
+    /// Whether a bare name and `from` may come next, as the first argument of `extract`.
+    fn waits_word(&self) -> bool
+        ensures { result ≡ specs.waits_word (frames_in self.now) }
+    {
+        match self.top() {
+            Some(Frame::Arguments(function, 0)) => takes_word(function),
+            _ => false,
+        }
+    }
+
+    /// `from` after a bare name in a call.
+    fn word_from(&mut self) -> Result<Option<Mode>, AllocError>
+        ensures { Gives result self.new
+            (specs.word_from (frames_in self.old) (steps_in self.old)) }
+    {
+        match self.top() {
+            Some(Frame::Arguments(function, _)) => {
+                self.at = self.top_sign();
+                self.drop_top();
+                self.word_of(function)
+            }
+            _ => Ok(None),
+        }
+    }
+
+    /// `from` after a bare name, which is a word where the bracket of `extract` comes before it.
     fn from_named(&mut self) -> Result<Option<Mode>, AllocError>
         ensures { Gives result self.new
             (specs.from_named (frames_in self.old) (steps_in self.old)) }
     {
-        match self.top() {
-            Some(Frame::Arguments(function, 0)) => {
-                if is_same_word(function, b"extract") {
-                    self.at = self.top_sign();
-                    self.drop_top();
-                    self.word_of(function)
-                } else {
-                    Ok(None)
-                }
-            }
-            _ => Ok(None),
+        if self.waits_word() {
+            return self.word_from();
         }
+        self.behind(ATOM, Token::Sign(Sign::From))
     }
 
     /// A token after a bare name.

@@ -137,10 +137,16 @@ impl<'a> Reading<'a> {
                 self.emit(Step::Apply(name, one_more(count)?))?;
                 Ok(Some(Mode::Have(ATOM)))
             }
-            Some(Frame::Extract(name)) => {
+            Some(Frame::Extract(name) | Frame::From(name)) => {
                 self.at = self.top_sign();
                 self.drop_top();
                 self.emit(Step::Apply(name, 2))?;
+                Ok(Some(Mode::Have(ATOM)))
+            }
+            Some(Frame::For(name)) => {
+                self.at = self.top_sign();
+                self.drop_top();
+                self.emit(Step::Apply(name, 3))?;
                 Ok(Some(Mode::Have(ATOM)))
             }
             Some(Frame::Items(negated, count)) => {
@@ -282,6 +288,10 @@ impl<'a> Reading<'a> {
                 let _level = self.settle(OR, level)?;
                 self.comma_of()
             }
+            Sign::From => {
+                let _level = self.settle(OR, level)?;
+                self.from_of()
+            }
             Sign::As => {
                 let _level = self.settle(OR, level)?;
                 Ok(self.as_of())
@@ -319,6 +329,10 @@ impl<'a> Reading<'a> {
     {
         match token {
             Token::Sign(sign) => self.sign_after(level, sign),
+            Token::Name(word) => {
+                let _level = self.settle(OR, level)?;
+                self.for_of(word)
+            }
             _ => Ok(None),
         }
     }

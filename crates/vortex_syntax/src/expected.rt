@@ -27,6 +27,10 @@ pub enum Expected {
     OperatorOrClose,
     /// After an operand in the brackets of a call or of `in`.
     OperatorOrComma,
+    /// The same after the first one of a function that takes `from`.
+    OperatorOrFrom,
+    /// After an operand that follows `from` in a call, where `for` may come.
+    OperatorOrFor,
     /// After an operand in the brackets of `cast`.
     OperatorOrAs,
     /// After `case`.
@@ -84,6 +88,8 @@ impl Expected {
             Expected::OperatorOrName => "an operator, as and a name, a comma or the end",
             Expected::OperatorOrClose => "an operator or )",
             Expected::OperatorOrComma => "an operator, a comma or )",
+            Expected::OperatorOrFrom => "an operator, from, a comma or )",
+            Expected::OperatorOrFor => "an operator, for or )",
             Expected::OperatorOrAs => "an operator, or as and a type",
             Expected::OperandOrWhen => "an expression or when",
             Expected::OperatorOrWhen => "an operator or when",

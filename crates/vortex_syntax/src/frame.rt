@@ -47,6 +47,10 @@ pub enum Frame<'a> {
     Arguments(&'a [u8], usize),
     /// A call of the function of that name, `extract`, after a word and `from`.
     Extract(&'a [u8]),
+    /// A call of the function of that name, which takes `from`, after an argument and `from`.
+    From(&'a [u8]),
+    /// The same after one more argument and `for`.
+    For(&'a [u8]),
     /// The bracket of IN, or of NOT IN, after as many items.
     Items(bool, usize),
     /// A CASE with an operand if the flag is true, after as many values.
@@ -96,6 +100,8 @@ pub fn hole(frame: Frame<'_>) -> u8
         | Frame::Cast(_)
         | Frame::Arguments(..)
         | Frame::Extract(_)
+        | Frame::From(_)
+        | Frame::For(_)
         | Frame::Items(..)
         | Frame::Case(..) => OR,
         Frame::Not => NOT,
@@ -132,8 +138,13 @@ pub fn whole(frame: Frame<'_>) -> u8
     ensures { result ≡ specs.whole (frame_in frame.entry) }
 {
     match frame {
-        Frame::Open | Frame::Cast(_) | Frame::Arguments(..) | Frame::Extract(_) | Frame::Case(..) =>
-            ATOM,
+        Frame::Open
+        | Frame::Cast(_)
+        | Frame::Arguments(..)
+        | Frame::Extract(_)
+        | Frame::From(_)
+        | Frame::For(_)
+        | Frame::Case(..) => ATOM,
         Frame::Not => NOT,
         Frame::Join(operator) => own(operator),
         Frame::Minus | Frame::Plus => SIGN,
@@ -152,6 +163,8 @@ pub fn closing(frame: Frame<'_>) -> Call
         | Frame::Not
         | Frame::Arguments(..)
         | Frame::Extract(_)
+        | Frame::From(_)
+        | Frame::For(_)
         | Frame::Items(..)
         | Frame::Case(..) => Call::Not,
         Frame::Join(operator) => Call::Join(operator),

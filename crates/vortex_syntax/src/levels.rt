@@ -3,6 +3,7 @@ ghost use Rattle.std.specs.Prelude.{◌≡◌};
 ghost use Rattle.vortex_syntax.specs.Tokens.{token_in};
 ghost use Rattle.vortex_syntax.specs.Levels as levels;
 
+use crate::pieces::is_same_word;
 use crate::step::WrittenOperator;
 use crate::token::{Sign, Token};
 
@@ -113,4 +114,24 @@ pub fn operand_level(token: Token<'_>) -> u8
         Token::Name(_) | Token::Quoted(_) => ATOM,
         _ => LITERAL,
     }
+}
+
+/// The one function that takes a word before `from`.
+pub(crate) fn takes_word(function: &[u8]) -> bool
+    ensures { result ≡ levels.takes_word function.now }
+{
+    is_same_word(function, b"extract")
+}
+
+/// The functions that take `from` after their first argument, and `for` after their second.
+pub(crate) fn takes_from(function: &[u8]) -> bool
+    ensures { result ≡ levels.takes_from function.now }
+{
+    is_same_word(function, b"substring") || is_same_word(function, b"substr")
+}
+
+pub(crate) fn is_for(word: &[u8]) -> bool
+    ensures { result ≡ levels.is_for word.now }
+{
+    is_same_word(word, b"for")
 }

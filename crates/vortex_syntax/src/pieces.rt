@@ -8,9 +8,10 @@ ghost use Rattle.vortex_syntax.specs.Pieces.{quoted_by, sign_of_two, sign_of_one
 ghost use Rattle.vortex_syntax.specs.Pieces.{first_piece, behind_fraction};
 ghost use Rattle.vortex_syntax.specs.Pieces.{behind_sign, begins_digits, begins_exponent};
 ghost use Rattle.vortex_syntax.specs.Pieces.{behind_exponent, begins_number, behind_number};
-ghost use Rattle.vortex_syntax.specs.Pieces.{front_number};
+ghost use Rattle.vortex_syntax.specs.Pieces.{front_number, is_sized_word};
 
 use crate::gaps::{divide_or_comment, minus_or_comment};
+use crate::sizes::sized_or_word;
 use crate::token::{Sign, Token};
 
 /// Classes of bytes that continue a run.
@@ -19,6 +20,7 @@ pub enum Run {
     /// Letters, digits and `_`.
     Word,
     Digits,
+    Blank,
     /// All bytes except ends of lines.
     Line,
 }
@@ -49,6 +51,7 @@ pub(crate) fn is_in(run: Run, byte: u8) -> bool
     match run {
         Run::Word => byte.is_ascii_alphanumeric() || byte == b'_',
         Run::Digits => byte.is_ascii_digit(),
+        Run::Blank => is_blank(byte),
         Run::Line => { if byte == b'\n' { false } else { byte != b'\r' } }
     }
 }
@@ -142,13 +145,26 @@ pub(crate) fn keyword_of(word: &[u8]) -> Option<Sign>
     }
 }
 
-/// The piece of a name, with an opening bracket if one follows directly.
+/// Whether the word is a type's whose name has sizes.
+pub(crate) fn is_sized_word(word: &[u8]) -> bool
+    ensures { result ≡ is_sized_word word.now }
+{
+    is_same_word(word, b"decimal") || is_same_word(word, b"numeric")
+}
+
+/// The piece of a name, with an opening bracket if one follows directly that is not one of sizes.
 fn name_before<'a>(word: &'a [u8], rest: &'a [u8]) -> (Piece<'a>, &'a [u8])
     ensures piece { (piece_in result.0, result.1.now) ≡ name_before word.now rest.now }
     ensures shorter { length result.1.now ≤ length rest.now }
 {
     match rest {
-        [b'(', rest @ ..] => (Piece::Token(Token::Function(word)), rest),
+        [b'(', behind @ ..] => {
+            if is_sized_word(word) {
+                (Piece::Token(Token::Name(word)), rest)
+            } else {
+                (Piece::Token(Token::Function(word)), behind)
+            }
+        }
         _ => (Piece::Token(Token::Name(word)), rest),
     }
 }
@@ -165,7 +181,7 @@ fn keyword_or_name<'a>(word: &'a [u8], rest: &'a [u8]) -> (Piece<'a>, &'a [u8])
 }
 
 /// The piece of a word, by what follows the word, and what follows the piece.
-fn word_before<'a>(word: &'a [u8], rest: &'a [u8]) -> (Piece<'a>, &'a [u8])
+pub(crate) fn word_before<'a>(word: &'a [u8], rest: &'a [u8]) -> (Piece<'a>, &'a [u8])
     ensures piece { (piece_in result.0, result.1.now) ≡ word_before word.now rest.now }
     ensures shorter { length result.1.now ≤ length rest.now }
 {
@@ -196,7 +212,7 @@ fn behind_sign(text: &[u8]) -> &[u8]
     }
 }
 
-fn begins_digits(text: &[u8]) -> bool
+pub(crate) fn begins_digits(text: &[u8]) -> bool
     ensures { result ≡ begins_digits text.now }
 {
     match text {
@@ -350,8 +366,7 @@ pub(crate) fn first_piece(text: &[u8]) -> Option<(Piece<'_>, &[u8])>
     } else if *first == b'/' {
         divide_or_comment(rest)
     } else if begins_word(*first) {
-        let (word, behind) = split_run(Run::Word, text);
-        Some(word_before(word, behind))
+        Some(sized_or_word(text))
     } else if begins_number(text) {
         let (number, behind) = split_number(text);
         number_before(number, behind)

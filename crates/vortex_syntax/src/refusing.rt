@@ -1,7 +1,7 @@
 //! What was expected where reading stops.
 use crate::expected::Expected;
 use crate::frame::{CasePart, Frame, Mode, hole};
-use crate::levels::NOT;
+use crate::levels::{NOT, takes_from};
 use crate::reading::Reading;
 use crate::token::{Sign, Token};
 
@@ -57,7 +57,13 @@ impl<'a> Reading<'a> {
     fn expected_after(&self, whole: Expected) -> Expected {
         for frame in self.frames.iter().rev() {
             match frame {
-                Frame::Open | Frame::Extract(_) => return Expected::OperatorOrClose,
+                Frame::Open | Frame::Extract(_) | Frame::For(_) => {
+                    return Expected::OperatorOrClose;
+                }
+                Frame::From(_) => return Expected::OperatorOrFor,
+                Frame::Arguments(function, 0) if takes_from(function) => {
+                    return Expected::OperatorOrFrom;
+                }
                 Frame::Cast(_) => return Expected::OperatorOrAs,
                 Frame::Arguments(..) | Frame::Items(..) => return Expected::OperatorOrComma,
                 Frame::Case(part, ..) => return expected_in(*part),

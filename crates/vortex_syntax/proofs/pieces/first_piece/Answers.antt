@@ -10,7 +10,7 @@ returns-then-begins_word-clause-shorter c =
     let h : length (behind Word c.args.text.now) < length c.args.text.now =
     behind_lt Word c.args.text.now _ _ c.in_ok-first.ensures.cases.0
     (word_begun c.in_ok-first.first.now (sym c.if-begins_word.ensures)) in
-    omega (arith, c.word_before.ensures.shorter, ap length c.split_run.ensures.behind, h)
+    omega (arith, c.sized_or_word.ensures.shorter, h)
 
 pub returns-then-begins_number-clause-shorter : goal.returns-then-begins_number-clause-shorter
 returns-then-begins_number-clause-shorter c =

@@ -1,0 +1,90 @@
+-- What `from` and `for` in a call do to what was read.
+use Rattle.std.proofs.Common.{◌≡◌, ℕ, zero, Bool, List, [], ◌∷◌, ◌++◌, Some, refl, ap, ◌∙◌}
+use Rattle.std.proofs.Common.{append_assoc, lit≤}
+use Rattle.std.proofs.lemmas.List.{append-nil}
+use Rattle.vortex_syntax.specs.declared.token.Sign.TheVariants as sign
+use Rattle.vortex_syntax.specs.Frames.{Frame}
+use Rattle.vortex_syntax.specs.Frames as frame
+use Rattle.vortex_syntax.specs.declared.frame.Mode.TheVariants as mode
+use Rattle.vortex_syntax.specs.Tokens.{Token, name, sign}
+use Rattle.vortex_syntax.specs.Syntax as tree
+use Rattle.vortex_syntax.specs.Syntax.{Syntax}
+use Rattle.vortex_syntax.specs.Levels.{Fits, atom_level, takes_from, is_for}
+use Rattle.vortex_syntax.specs.Spelling.{spelling, function_tokens}
+use Rattle.vortex_syntax.specs.Postfix.{Step, applied, postfix}
+use Rattle.vortex_syntax.specs.Reading.{State, state, from_behind, for_behind}
+use Rattle.vortex_syntax.proofs.Tables.{top_atom}
+use Rattle.vortex_syntax.proofs.Held.{Held, calling, parting, limiting, IsSound}
+use Rattle.vortex_syntax.proofs.Before.{popped, call_is, part_is, HasOperand, HoldsIn, along, chosen}
+use Rattle.vortex_syntax.proofs.Grown.{Holding, holding_as, sound_as, grown, completed}
+use Rattle.vortex_syntax.proofs.OperandsSound.{none_are}
+
+in_parts : (a b c d : List Token) → (a ++ (b ++ (sign sign.From ∷ c))) ++ d
+    ≡ a ++ (b ++ (sign sign.From ∷ (c ++ d)))
+in_parts a b c d = simp append_assoc
+
+in_limits : (w : List ℕ) (a b c d : List Token)
+    → (a ++ (b ++ (sign sign.From ∷ (c ++ (name w ∷ []))))) ++ d
+    ≡ a ++ (b ++ (sign sign.From ∷ (c ++ (name w ∷ d))))
+in_limits w a b c d = simp append_assoc
+
+part_steps : (a b c : List Step) → (a ++ b) ++ c ≡ a ++ (b ++ c)
+part_steps a b c = append_assoc a b c
+
+limit_steps : (a b c d : List Step) → ((a ++ b) ++ c) ++ d ≡ a ++ (b ++ (c ++ d))
+limit_steps a b c d = simp append_assoc
+
+pub from_sound : (l : ℕ) (fs : List Frame) (out : List Step) (s : State) (before : List Token)
+    → from_behind fs out ≡ Some s → HasOperand l fs out before []
+    → HoldsIn s (before ++ (sign sign.From ∷ []))
+from_sound l (frame.Arguments f zero ∷ fs) out s before e a =
+    let r = popped (frame.Arguments f 0) fs out before (postfix a.tree) (spelling a.tree ++ [])
+    a.behind in
+    let i = call_is f 0 r.h r.is in
+    let first : Held = calling i.1 f tree.no_arguments in
+    let is : r.h ≡ first = i.2 ∙ ap (calling i.1 f) (none_are i.0 i.3) in
+    let after = state mode.Want (frame.From f ∷ fs) out in
+    let c = chosen (takes_from f) after s e in
+    let from : List Token = sign sign.From ∷ [] in
+    along after s (before ++ from) c.1
+    (grown first (parting i.1 f a.tree) a.tree (sign sign.From) fs out before refl
+    (ap (λ ts. ts ++ (spelling a.tree ++ from)) (append-nil (function_tokens i.1 f)))
+    (c.0, a.fits) (top_atom fs) (holding_as r.h first a.tree fs out before is r.behind))
+from_sound l fs out s before e a = absurd cc
+
+pub for_sound : (w : List ℕ) (l : ℕ) (fs : List Frame) (out : List Step) (s : State)
+    (before : List Token) → for_behind w fs out ≡ Some s → HasOperand l fs out before []
+    → HoldsIn s (before ++ (name w ∷ []))
+for_sound w l (frame.From f ∷ fs) out s before e a =
+    let r = popped (frame.From f) fs out before (postfix a.tree) (spelling a.tree ++ []) a.behind in
+    let i = part_is f r.h r.is in
+    let first : Held = parting i.0 f i.1 in
+    let after = state mode.Want (frame.For f ∷ fs) out in
+    let c = chosen (is_for w) after s e in
+    let t = sound_as r.h first i.2 r.sound in
+    along after s (before ++ (name w ∷ [])) c.1
+    (grown first (limiting i.0 f i.1 a.tree w) a.tree (name w) fs out before refl
+    (in_parts (function_tokens i.0 f) (spelling i.1) [] (spelling a.tree ++ (name w ∷ [])))
+    (t.0, c.0, t.1, a.fits) (top_atom fs)
+    (holding_as r.h first a.tree fs out before i.2 r.behind))
+for_sound w l fs out s before e a = absurd cc
+
+pub parted_is : (p : Bool) (f : List ℕ) (s a : Syntax) (fs : List Frame) (out : List Step)
+    (before : List Token) → IsSound (parting p f s) → Fits a → Holding (parting p f s) a fs out before
+    → HasOperand atom_level fs (out ++ (applied f 2 ∷ [])) (before ++ (sign sign.Close ∷ [])) []
+parted_is p f s a fs out before t fit b =
+    completed (parting p f s) a (tree.parted p f s a) (applied f 2) sign.Close fs out before
+    (part_steps (postfix s) (postfix a) (applied f 2 ∷ []))
+    (in_parts (function_tokens p f) (spelling s) [] (spelling a ++ (sign sign.Close ∷ [])))
+    (t.0, t.1, fit) (top_atom fs) (lit≤ tt) b
+
+pub limited_is : (p : Bool) (f : List ℕ) (s a : Syntax) (w : List ℕ) (b : Syntax)
+    (fs : List Frame) (out : List Step) (before : List Token) → IsSound (limiting p f s a w)
+    → Fits b → Holding (limiting p f s a w) b fs out before
+    → HasOperand atom_level fs (out ++ (applied f 3 ∷ [])) (before ++ (sign sign.Close ∷ [])) []
+limited_is p f s a w b fs out before t fit h =
+    completed (limiting p f s a w) b (tree.parted_for p f s a w b) (applied f 3) sign.Close fs out
+    before (limit_steps (postfix s) (postfix a) (postfix b) (applied f 3 ∷ []))
+    (in_limits w (function_tokens p f) (spelling s) (spelling a)
+    (spelling b ++ (sign sign.Close ∷ [])))
+    (t.0, t.1, t.2, t.3, fit) (top_atom fs) (lit≤ tt) h
