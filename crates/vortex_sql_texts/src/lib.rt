@@ -5,7 +5,7 @@ mod characters;
 pub mod concats;
 pub mod fields;
 pub mod letters;
-mod made;
+pub mod made;
 pub mod parts;
 pub mod places;
 pub mod repeats;

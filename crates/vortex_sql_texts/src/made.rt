@@ -11,7 +11,7 @@ use vortex_sql_rows::cells::int_or_fault;
 use vortex_sql_rows::faults::RowFault;
 
 /// The text, or the fault where it is too long.
-pub(crate) fn text_or_fault(text: String) -> VortexResult<Option<String>>
+pub fn text_or_fault(text: String) -> VortexResult<Option<String>>
     ensures { MakesRow (text_or_fault (string_bytes text)) result }
 {
     let _utf8 = text.as_str();

@@ -5,7 +5,7 @@ ghost use Rattle.vortex_sql_texts.specs.TextCasts.{digits_number, in_type, int_c
 ghost use Rattle.vortex_sql_texts.specs.TextCasts.{int_cast_lawful, int_cast_row, is_false_word};
 ghost use Rattle.vortex_sql_texts.specs.TextCasts.{is_start, is_true_word, negated, positive};
 ghost use Rattle.vortex_sql_texts.specs.TextCasts.{same_word, signed_number, truth_cast_lawful};
-ghost use Rattle.vortex_sql_texts.specs.TextCasts.{truth_cast_row, word_truth};
+ghost use Rattle.vortex_sql_texts.specs.TextCasts.{truth_cast_row, within_spaces, word_truth};
 
 use crate::trims::{LeftOut, Trim, trimmed};
 use vortex_columns::{Cell, PType, VortexResult};
@@ -112,6 +112,14 @@ fn int_cast_id(ptype: PType) -> ScalarFnId
     }
 }
 
+/// A text without what casts pass over at its ends: blanks, tabs, line feeds, vertical tabs, form
+/// feeds, carriage returns.
+pub fn within_spaces<'a>(text: &'a str) -> &'a str
+    ensures { result.now ≡ within_spaces text.now }
+{
+    trimmed(Trim::Both, text, LeftOut::Spaces)
+}
+
 impl RowFn for TextToInt {
     ghost about = { λ f. int_cast_row f.ptype };
 
@@ -129,8 +137,7 @@ impl RowFn for TextToInt {
         let Some(text) = only_text(cells) else {
             return Ok(Cell::Null);
         };
-        let digits = trimmed(Trim::Both, text, LeftOut::Spaces);
-        let number = signed_number(digits.as_bytes());
+        let number = signed_number(within_spaces(text).as_bytes());
         int_or_fault(in_type(self.ptype, number), RowFault::NoInteger(self.ptype))
     }
 
@@ -201,7 +208,7 @@ impl RowFn for TextToTruth {
         let Some(text) = only_text(cells) else {
             return Ok(Cell::Null);
         };
-        word_truth(trimmed(Trim::Both, text, LeftOut::Spaces).as_bytes())
+        word_truth(within_spaces(text).as_bytes())
     }
 
     ghost lawful = { λ f. truth_cast_lawful };
