@@ -1,1 +1,2 @@
 mod CycleDates
+mod PassedYears

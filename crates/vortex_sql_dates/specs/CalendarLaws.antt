@@ -9,8 +9,8 @@ use Rattle.jiff_core.specs.Date.{epoch_day}
 use Rattle.jiff_core.specs.March.{march_days, march_months}
 use Rattle.jiff_core.specs.declared.civil.date.Date.{Date}
 use Rattle.jiff_core.proofs.CalendarLemmas.{days_from_civil-day_count, days_in_month_bounds}
-use Rattle.jiff_core.proofs.DateLemmas.{civil, epoch_day_injective, epoch_day_range}
-use Rattle.jiff_core.proofs.SignedLemmas.{signed_arith, int_div_euclid-parts, int_rem_euclid-parts}
+use Rattle.jiff_core.proofs.DateLemmas.{epoch_day_injective}
+use Rattle.jiff_core.proofs.SignedLemmas.{signed_arith, int_rem_euclid-parts}
 use Rattle.jiff_core.proofs.MarchLemmas.{day_count-early, day_count-late, leap_day, leap_day-shift}
 use Rattle.vortex_sql_dates.specs.CountedDays.{cycle_date, cycle_of, year_of}
 use Rattle.vortex_sql_dates.specs.CountedLaws.{cycle_counted, date_of}

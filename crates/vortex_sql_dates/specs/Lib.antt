@@ -3,7 +3,9 @@ pub mod Casts
 pub mod CountedDays
 pub mod CountedLaws
 pub mod Instants
+pub mod LaterMonths
 pub mod MadeDates
+pub mod Months
 pub mod PartLaws
 pub mod Parts
 pub mod StoredRows

@@ -6,6 +6,7 @@ mod calendar;
 pub mod casts;
 pub mod laws;
 pub mod made;
+pub mod months;
 pub mod parts;
 mod stored;
 #[cfg(test)]

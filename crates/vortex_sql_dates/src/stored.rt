@@ -1,5 +1,5 @@
 //! The stored integers of a row, and the cells that functions return.
-ghost use Rattle.std.specs.Prelude.{◌≡◌, ◌<◌, pos};
+ghost use Rattle.std.specs.Prelude.{◌≡◌, ◌<◌, ◌+ℤ◌, ◌*ℤ◌, pos};
 ghost use Rattle.std.specs.Int.{int_rem_euclid};
 ghost use Rattle.jiff_core.specs.Calendar.{IsWithin};
 ghost use Rattle.vortex_sql_rows.specs.AnsweredRows.{AnswersRow};
@@ -49,6 +49,13 @@ pub(crate) fn time_of(micros: i64) -> u64
     ensures small { result < 86_400_000_000 }
 {
     micros.rem_euclid(86_400_000_000) as u64
+}
+
+/// The instant that is so many microseconds after a day's midnight.
+pub(crate) fn instant(day: i64, time: u64) -> i128
+    ensures { result ≡ day *ℤ pos 86_400_000_000 +ℤ pos time }
+{
+    i128::from(day) * 86_400_000_000 + i128::from(time)
 }
 
 /// The fault of values that no call passes.

@@ -1,6 +1,7 @@
 //! Rows beside what PostgreSQL 15 returned for them on 29 November 2026.
 
 use crate::made::MakeDate;
+use crate::months::{DateAddMonths, TimestampAddMonths};
 use crate::parts::{DatePart, Part, TimestampPart};
 use crate::truncations::{DateTrunc, TimestampTrunc, Unit};
 use vortex_columns::{Cell, PType, VortexResult};
@@ -206,5 +207,50 @@ fn no_date_is_a_fault(rt: HostRuntime) {
             Cell::Int(parts[2]),
         ];
         assert!(rt; MakeDate.answer(PType::I32, &cells).is_err());
+    }
+}
+
+/// PostgreSQL returns timestamps for dates, and Python has the same days.
+#[test]
+fn months_are_added(rt: HostRuntime) {
+    let rows: [(i128, i128, i128); 12] = [
+        (19753, 1, 19782),
+        (19388, 1, 19416),
+        (19782, 12, 20147),
+        (19782, 48, 21243),
+        (19813, -1, 19782),
+        (10971, -1, 10940),
+        (-25537, 1, -25509),
+        (20088, 2, 20147),
+        (0, -1, -31),
+        (20027, -8, 19782),
+        (2932865, 1, 2932895),
+        (2932897, -1, 2932866),
+    ];
+    for (day, months, expected) in rows {
+        let cells = [Cell::Int(day), Cell::Int(months)];
+        assert!(rt; is_number(DateAddMonths.answer(PType::I32, &cells), expected));
+    }
+    let times: [(i128, i128, i128); 2] = [
+        (946684799500000, 2, 951868799500000),
+        (-28943999999999, -11, -58060799999999),
+    ];
+    for (micros, months, expected) in times {
+        let cells = [Cell::Int(micros), Cell::Int(months)];
+        assert!(rt; is_number(TimestampAddMonths.answer(PType::I64, &cells), expected));
+    }
+}
+
+#[test]
+fn a_year_that_the_calendar_lacks_is_a_fault(rt: HostRuntime) {
+    let rows: [(i128, i128); 3] = [(2932896, 1), (0, 18446744073709551615), (0, -143868)];
+    for (number, months) in rows {
+        let cells = [Cell::Int(number), Cell::Int(months)];
+        assert!(rt; DateAddMonths.answer(PType::I32, &cells).is_err());
+        assert!(rt;
+            TimestampAddMonths
+                .answer(PType::I64, &[Cell::Int(253402300799999999), Cell::Int(1)])
+                .is_err()
+        );
     }
 }

@@ -1,5 +1,5 @@
 //! Where the year, the month, the hour, .. of a date or a timestamp begins.
-ghost use Rattle.std.specs.Prelude.{◌≡◌, ◌<◌, ◌≤◌, ◌+ℤ◌, ◌*ℤ◌, pos};
+ghost use Rattle.std.specs.Prelude.{◌≡◌, ◌<◌, ◌≤◌};
 ghost use Rattle.std.specs.Int.{IsInRange};
 ghost use Rattle.jiff_core.specs.Calendar.{IsWithin};
 ghost use Rattle.vortex_sql_rows.specs.AnsweredRows.{AnswersRow};
@@ -12,7 +12,7 @@ ghost use Rattle.vortex_sql_dates.specs.Truncations.{timestamp_trunc_row, first_
 ghost use Rattle.vortex_sql_dates.specs.Truncations.{timestamp_trunc_lawful, quarter_month};
 
 use crate::calendar::{cycle_date, days_since, weekday_of};
-use crate::stored::{date_in, day_of, instant_in, other_values, time_of};
+use crate::stored::{date_in, day_of, instant, instant_in, other_values, time_of};
 use vortex_columns::{Cell, PType, VortexResult};
 use vortex_interface::ScalarFnId;
 use vortex_sql_rows::cells::{int_or_fault, only_int};
@@ -124,12 +124,6 @@ fn first_time(unit: Unit, time: u64) -> u64
         Unit::Minute => time - time % 60_000_000,
         Unit::Second => time - time % 1_000_000,
     }
-}
-
-fn instant(day: i64, time: u64) -> i128
-    ensures { result ≡ day *ℤ pos 86_400_000_000 +ℤ pos time }
-{
-    i128::from(day) * 86_400_000_000 + i128::from(time)
 }
 
 fn first_instant(unit: Unit, micros: i64) -> i128
