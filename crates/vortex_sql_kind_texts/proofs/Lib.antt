@@ -1,0 +1,3 @@
+mod ScaledNumbers
+mod WrittenBytes
+mod WrittenTexts

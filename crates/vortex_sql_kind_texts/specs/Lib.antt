@@ -1,0 +1,7 @@
+pub mod DecimalRounding
+pub mod DecimalScales
+pub mod KindTexts
+pub mod StoredKinds
+pub mod StoredRows
+pub mod TextKinds
+pub mod Tried

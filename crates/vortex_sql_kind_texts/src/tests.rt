@@ -1,0 +1,224 @@
+//! Rows beside what Python's `datetime`, `struct` and `decimal` made of them on 29 November 2026.
+
+use crate::decimals::{DecimalRound, Rounding};
+use crate::from_texts::{TextToDecimal, TextToKind};
+use crate::kinds::{StoredKind, WrittenKind};
+use crate::scales::DecimalScaled;
+use crate::to_texts::{DecimalToText, KindToText};
+use vortex_columns::{Cell, PType, VortexResult};
+use vortex_sql_rows::row::{RowFn, TextFn};
+use vortex_sql_try_casts::try_fn::Try;
+
+fn is_number(answer: VortexResult<Cell<'_>>, expected: i128) -> bool {
+    match answer {
+        Ok(Cell::Int(number)) => number == expected,
+        _ => false,
+    }
+}
+
+fn is_null(answer: VortexResult<Cell<'_>>) -> bool {
+    matches!(answer, Ok(Cell::Null))
+}
+
+fn is_text(answer: VortexResult<Option<String>>, expected: &str) -> bool {
+    match answer {
+        Ok(Some(text)) => text.as_str() == expected,
+        _ => false,
+    }
+}
+
+#[test]
+fn texts_are_values_of_kinds(rt: HostRuntime) {
+    let rows: [(StoredKind, &str, i128); 12] = [
+        (StoredKind::Date, "2024-02-29", 19782),
+        (StoredKind::Date, "\t 1969-12-31\n", -1),
+        (StoredKind::Date, "0001-01-01", -719162),
+        (
+            StoredKind::Timestamp,
+            "2024-02-29 12:34:56.5",
+            1709210096500000,
+        ),
+        (StoredKind::Timestamp, " 2024-02-29 ", 1709164800000000),
+        (StoredKind::Timestamp, "1969-12-31T23:59:59.999999", -1),
+        (StoredKind::F64, " 1.5", 4609434218613702656),
+        (StoredKind::F64, "1e300", 9094988921128908188),
+        (StoredKind::F64, "-0.0", 0),
+        (StoredKind::F64, "0.1", 4591870180066957722),
+        (StoredKind::F32, "0.1", 1036831949),
+        (StoredKind::F32, "-0.25 ", -1048576000),
+    ];
+    for (kind, text, expected) in rows {
+        let answer = TextToKind { kind }.answer(PType::I64, &[Cell::Text(text)]);
+        assert!(rt; is_number(answer, expected));
+    }
+}
+
+#[test]
+fn other_texts_are_faults_or_null(rt: HostRuntime) {
+    let rows: [(StoredKind, &str); 6] = [
+        (StoredKind::Date, "2023-02-29"),
+        (StoredKind::Date, "2024-02-29 12:34:56"),
+        (StoredKind::Date, "2024-2-9"),
+        (StoredKind::Timestamp, "2024-02-29 25:00:00"),
+        (StoredKind::F64, "1.5x"),
+        (StoredKind::F32, ""),
+    ];
+    for (kind, text) in rows {
+        let function = TextToKind { kind };
+        assert!(rt; function.answer(PType::I64, &[Cell::Text(text)]).is_err());
+        let tried = Try {
+            function: &function,
+        };
+        assert!(rt; is_null(tried.answer(PType::I64, &[Cell::Text(text)])));
+    }
+}
+
+#[test]
+fn texts_are_decimals(rt: HostRuntime) {
+    let rows: [(&str, i128, i128, i128); 5] = [
+        ("12.5", 12, 2, 1250),
+        (" -0.05 ", 4, 2, -5),
+        ("+7", 1, 0, 7),
+        (".5", 2, 1, 5),
+        ("999999999999999999", 18, 0, 999999999999999999),
+    ];
+    for (text, precision, scale, expected) in rows {
+        let cells = [Cell::Text(text), Cell::Int(precision), Cell::Int(scale)];
+        assert!(rt; is_number(TextToDecimal.answer(PType::I64, &cells), expected));
+    }
+    let faults: [(&str, i128, i128); 5] = [
+        ("12.345", 12, 2),
+        ("1000", 3, 0),
+        ("1", 19, 0),
+        ("1", 2, 3),
+        ("1", 2, -1),
+    ];
+    for (text, precision, scale) in faults {
+        let cells = [Cell::Text(text), Cell::Int(precision), Cell::Int(scale)];
+        assert!(rt; TextToDecimal.answer(PType::I64, &cells).is_err());
+        let tried = Try {
+            function: &TextToDecimal,
+        };
+        assert!(rt; is_null(tried.answer(PType::I64, &cells)));
+    }
+}
+
+#[test]
+fn values_of_kinds_have_texts(rt: HostRuntime) {
+    let rows: [(WrittenKind, i128, &str); 7] = [
+        (WrittenKind::Date, 19782, "2024-02-29"),
+        (WrittenKind::Date, -683303, "0099-03-07"),
+        (WrittenKind::Date, 2932896, "9999-12-31"),
+        (
+            WrittenKind::Timestamp,
+            1709190296000000,
+            "2024-02-29T07:04:56",
+        ),
+        (
+            WrittenKind::Timestamp,
+            1709210096500000,
+            "2024-02-29T12:34:56.500000",
+        ),
+        (WrittenKind::Timestamp, -1, "1969-12-31T23:59:59.999999"),
+        (
+            WrittenKind::Timestamp,
+            253402300799999999,
+            "9999-12-31T23:59:59.999999",
+        ),
+    ];
+    for (kind, number, text) in rows {
+        let answer = KindToText { kind }.make(rt.alloc(), PType::I64, &[Cell::Int(number)]);
+        assert!(rt; is_text(answer, text));
+    }
+    let faults: [(WrittenKind, i128); 3] = [
+        (WrittenKind::Date, 2932897),
+        (WrittenKind::Date, 3000000000),
+        (WrittenKind::Timestamp, 253402300800000000),
+    ];
+    for (kind, number) in faults {
+        let answer = KindToText { kind }.make(rt.alloc(), PType::I64, &[Cell::Int(number)]);
+        assert!(rt; answer.is_err());
+    }
+}
+
+#[test]
+fn decimals_have_texts(rt: HostRuntime) {
+    let rows: [(i128, i128, &str); 5] = [
+        (1250, 2, "12.50"),
+        (-5, 2, "-0.05"),
+        (7, 0, "7"),
+        (0, 3, "0.000"),
+        (-9223372036854775808, 18, "-9.223372036854775808"),
+    ];
+    for (number, scale, text) in rows {
+        let cells = [Cell::Int(number), Cell::Int(scale)];
+        assert!(rt; is_text(DecimalToText.make(rt.alloc(), PType::I64, &cells), text));
+    }
+    let cells = [Cell::Int(1), Cell::Int(19)];
+    assert!(rt; DecimalToText.make(rt.alloc(), PType::I64, &cells).is_err());
+}
+
+#[test]
+fn decimals_are_rounded(rt: HostRuntime) {
+    let roundings = [
+        Rounding::Half,
+        Rounding::Floor,
+        Rounding::Ceiling,
+        Rounding::Trunc,
+    ];
+    let rows: [(i128, i128, [i128; 4]); 11] = [
+        (25, 1, [3, 2, 3, 2]),
+        (-25, 1, [-3, -3, -2, -2]),
+        (24, 1, [2, 2, 3, 2]),
+        (-24, 1, [-2, -3, -2, -2]),
+        (15, 1, [2, 1, 2, 1]),
+        (-5, 1, [-1, -1, 0, 0]),
+        (4, 1, [0, 0, 1, 0]),
+        (-100, 2, [-1, -1, -1, -1]),
+        (0, 3, [0, 0, 0, 0]),
+        (9223372036854775807, 18, [9, 9, 10, 9]),
+        (
+            -9223372036854775808,
+            0,
+            [
+                -9223372036854775808,
+                -9223372036854775808,
+                -9223372036854775808,
+                -9223372036854775808,
+            ],
+        ),
+    ];
+    for (number, places, expected) in rows {
+        for i in 0..4 {
+            let function = DecimalRound {
+                rounding: roundings[i],
+            };
+            let answer = function.answer(PType::I64, &[Cell::Int(number), Cell::Int(places)]);
+            assert!(rt; is_number(answer, expected[i]));
+        }
+    }
+}
+
+#[test]
+fn numbers_are_scaled(rt: HostRuntime) {
+    let rows: [(i128, i128, i128, i128); 3] = [
+        (125, 2, 5, 12500),
+        (-1, 17, 18, -100000000000000000),
+        (0, 18, 1, 0),
+    ];
+    for (number, places, precision, expected) in rows {
+        let cells = [Cell::Int(number), Cell::Int(places), Cell::Int(precision)];
+        assert!(rt; is_number(DecimalScaled.answer(PType::I64, &cells), expected));
+    }
+    let faults: [(i128, i128, i128); 5] = [
+        (1000, 2, 5),
+        (18446744073709551615, 18, 18),
+        (1, 19, 18),
+        (1, 0, 0),
+        (1, 0, 19),
+    ];
+    for (number, places, precision) in faults {
+        let cells = [Cell::Int(number), Cell::Int(places), Cell::Int(precision)];
+        assert!(rt; DecimalScaled.answer(PType::I64, &cells).is_err());
+    }
+}
