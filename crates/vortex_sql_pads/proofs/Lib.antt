@@ -1,0 +1,3 @@
+mod Capitalised
+mod Fillers
+mod TextRoom

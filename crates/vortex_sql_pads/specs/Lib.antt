@@ -1,0 +1,3 @@
+pub mod Capitals
+pub mod Joins
+pub mod Pads
