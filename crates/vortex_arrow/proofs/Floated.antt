@@ -3,7 +3,7 @@ use Rattle.std.proofs.Common.{◌≡◌, ℕ, ◌+◌, ◌<◌, ◌≤◌, ℤ, 
 use Rattle.std.proofs.Common.{◌++◌, length, map, take, drop, set, get_or, refl, sym, ap, ◌∙◌, arith}
 use Rattle.std.proofs.lemmas.List.{take_more, take_more_set, map_push, map-id, length-map, get_or-map}
 use Rattle.std.proofs.lemmas.List.{length-take, get_or-take, get_or_append_left, length-append}
-use Rattle.std.proofs.lemmas.List.{get_or-drop, take_all, take-append-le}
+use Rattle.std.proofs.lemmas.List.{get_or-drop}
 use Rattle.std.proofs.lemmas.List.FromFn.{get_or-map-range_with_len, fill_by_all}
 use Rattle.std.specs.Prelude.{slice_index_or}
 use Rattle.vortex_types.specs.LogicalTypes.{integer_type}
@@ -43,14 +43,6 @@ changed_more f xs first i y lt same so_far is =
 
 id_at : (xs : List ℤ) (i : ℕ) → get_or (map (λ x. x) xs) i (pos 0) ≡ get_or xs i (pos 0)
 id_at xs i = ap (λ (zs : List ℤ). get_or zs i (pos 0)) (map-id xs)
-
--- what was written over all of a list is the list
-pub written_whole : (new items : List ℤ) (n : ℕ) → n ≡ length new
-    → take n (new ++ drop (length new) items) ≡ new
-written_whole new items n same =
-    ap (λ k. take k (new ++ drop (length new) items)) same
-    ∙ take-append-le (length new) new (drop (length new) items) (omega arith)
-    ∙ take_all (length new) new (omega arith)
 
 -- a column of changed numbers
 pub changed_from : (p : PType) (f : ℤ → ℤ) (ys part xs : List ℤ) (v : ValidityView) (from n : ℕ)

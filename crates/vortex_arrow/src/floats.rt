@@ -14,56 +14,29 @@ ghost use Rattle.vortex_arrow.specs.Written.{bytes_for, SameBehind, AreCopied, R
 use crate::copying::copy_integers;
 use crate::error::{ArrowError, CopyError};
 use std::alloc::Global;
-use std::num::{
-    f32_from_bits_with_nan, f32_to_bits_with_nan, f64_from_bits_with_nan, f64_to_bits_with_nan,
-};
 use vortex_columns::{Column, Validity};
-use vortex_logical::keys::{f32_of_key, f64_of_key, key_of_f32, key_of_f64};
+use vortex_float_bits::{narrow_key, narrow_pattern, wide_key, wide_pattern};
 
-/// The key of the float of 64 bits that has this pattern.
-fn wide_key(pattern: i64) -> i64
-    ensures { result ≡ wide_key pattern }
+/// The keys of patterns.
+fn wide_keys(alloc: Global, patterns: &[i64]) -> Result<Vec<i64>, ArrowError>
+    ensures { MatchResult result (λ keys. keys.items ≡ map wide_key patterns.now) OnlyMemory }
 {
-    key_of_f64(f64_from_bits_with_nan(pattern.cast_unsigned()))
-}
-
-/// The key of the float of 32 bits that has this pattern.
-fn narrow_key(pattern: i32) -> i32
-    ensures { result ≡ narrow_key pattern }
-{
-    key_of_f32(f32_from_bits_with_nan(pattern.cast_unsigned()))
-}
-
-/// The pattern of the float of 64 bits that has this key.
-fn wide_pattern(key: i64) -> i64
-    ensures { result ≡ wide_pattern key }
-{
-    f64_to_bits_with_nan(f64_of_key(key)).cast_signed()
-}
-
-/// The pattern of the float of 32 bits that has this key.
-fn narrow_pattern(key: i32) -> i32
-    ensures { result ≡ narrow_pattern key }
-{
-    f32_to_bits_with_nan(f32_of_key(key)).cast_signed()
-}
-
-/// Makes keys of patterns.
-fn make_wide_keys(values: &mut [i64])
-    ensures { values.new ≡ map wide_key values.old }
-{
-    for i in 0..values.len() {
-        values[i] = wide_key(values[i]);
+    let mut keys = Vec::with_capacity(alloc, patterns.len())?;
+    for i in 0..patterns.len() {
+        keys.push_reserved(wide_key(patterns[i]));
     }
+    Ok(keys)
 }
 
-/// Makes keys of patterns of 32 bits.
-fn make_narrow_keys(values: &mut [i32])
-    ensures { values.new ≡ map narrow_key values.old }
+/// The keys of patterns of 32 bits.
+fn narrow_keys(alloc: Global, patterns: &[i32]) -> Result<Vec<i32>, ArrowError>
+    ensures { MatchResult result (λ keys. keys.items ≡ map narrow_key patterns.now) OnlyMemory }
 {
-    for i in 0..values.len() {
-        values[i] = narrow_key(values[i]);
+    let mut keys = Vec::with_capacity(alloc, patterns.len())?;
+    for i in 0..patterns.len() {
+        keys.push_reserved(narrow_key(patterns[i]));
     }
+    Ok(keys)
 }
 
 /// Makes patterns of keys.
@@ -98,8 +71,7 @@ pub(crate) fn read_wide_floats(
         (λ c. c ≡ column_from (numbers I64 (map wide_key patterns.now)) (validity_of validity)
         from count) OnlyMemory }
 {
-    let mut keys = patterns[from..from + count].to_vec(alloc)?;
-    make_wide_keys(&mut keys);
+    let keys = wide_keys(alloc, &patterns[from..from + count])?;
     match Column::try_primitive(alloc, keys, validity) {
         Ok(column) => Ok(column),
         Err(_) => Err(ArrowError::OutOfMemory),
@@ -120,8 +92,7 @@ pub(crate) fn read_narrow_floats(
         (λ c. c ≡ column_from (numbers I32 (map narrow_key patterns.now)) (validity_of validity)
         from count) OnlyMemory }
 {
-    let mut keys = patterns[from..from + count].to_vec(alloc)?;
-    make_narrow_keys(&mut keys);
+    let keys = narrow_keys(alloc, &patterns[from..from + count])?;
     match Column::try_primitive(alloc, keys, validity) {
         Ok(column) => Ok(column),
         Err(_) => Err(ArrowError::OutOfMemory),

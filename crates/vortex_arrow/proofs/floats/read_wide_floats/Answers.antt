@@ -1,9 +1,8 @@
-use Rattle.std.proofs.Common.{◌≡◌, ◌+◌, ◌-◌, ◌∙◌, ap, arith, take, drop, length, ◌++◌}
-use Rattle.std.proofs.lemmas.List.{length-map}
+use Rattle.std.proofs.Common.{◌≡◌, ◌+◌, ◌-◌, ◌∙◌, ap, arith, take, drop}
 use Rattle.vortex_types.specs.declared.dtype.PType.TheVariants.{I64}
 use Rattle.vortex_columns.specs.ValidityView.{validity_of}
 use Rattle.vortex_arrow.specs.Floats.{wide_key}
-use Rattle.vortex_arrow.proofs.Floated.{changed_from, written_whole}
+use Rattle.vortex_arrow.proofs.Floated.{changed_from}
 use Rattle.vortex_arrow.proofs.floats.read_wide_floats.Goals as goal
 
 pub returns-in-Ok : goal.returns-in-Ok
@@ -11,15 +10,8 @@ returns-in-Ok c =
     let xs = c.args.patterns.now in
     let from = c.args.from in
     let count = c.args.count in
-    let keys = c.in_ok-keys.keys in
-    let new = c.make_wide_keys.new.values in
-    let part = c.deref_mut.result.now in
     let whole : from + count - from ≡ count = omega arith in
-    let many : keys.len ≡ length new =
-    omega (arith, c.deref_mut.ensures.len, ap length c.make_wide_keys.ensures, length-map part wide_key) in
     c.in-Ok.ensures.1
-    ∙ changed_from I64 wide_key (take keys.len (new ++ drop (length new) keys.items)) part xs
-    (validity_of c.args.validity) from count c.requires.items
-    (written_whole new keys.items keys.len many ∙ c.make_wide_keys.ensures)
-    (c.deref_mut.ensures.value ∙ c.in_ok-keys.ensures.items_if_clones_equal (λ x y e. e)
-    ∙ ap (λ k. take k (drop from xs)) whole)
+    ∙ changed_from I64 wide_key c.in_ok-keys.keys.items (take (from + count - from) (drop from xs)) xs
+    (validity_of c.args.validity) from count c.requires.items c.in_ok-keys.ensures
+    (ap (λ k. take k (drop from xs)) whole)
