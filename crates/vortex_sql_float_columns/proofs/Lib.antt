@@ -1,1 +1,2 @@
 mod FloatRows
+pub mod PlainResults

@@ -1,1 +1,2 @@
 pub mod KeyedRows
+pub mod PlainRows

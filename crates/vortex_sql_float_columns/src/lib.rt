@@ -3,5 +3,6 @@
 
 mod execute;
 mod keys;
+mod operations;
 
 pub use execute::execute_float_operator;
