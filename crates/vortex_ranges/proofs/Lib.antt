@@ -13,3 +13,5 @@ pub mod Computed
 pub mod PrefixOrder
 pub mod LikeAdmits
 pub mod LikeCertain
+pub mod PrefixesReached
+pub mod BetweensReached

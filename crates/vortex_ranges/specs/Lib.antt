@@ -9,3 +9,4 @@ pub mod Described
 pub mod Arithmetic
 pub mod Prefixes
 pub mod Sound
+pub mod Reached
