@@ -22,6 +22,13 @@ use Rattle.vortex_sql_dates.specs.declared.parts.Part.{Part}
 use Rattle.vortex_sql_dates.specs.declared.parts.Part.TheVariants as part
 use Rattle.vortex_sql_dates.specs.declared.truncations.Unit.{Unit}
 use Rattle.vortex_sql_dates.specs.declared.truncations.Unit.TheVariants as unit
+use Rattle.vortex_sql_pads.specs.declared.pads.Pad.TheVariants as pad
+use Rattle.vortex_sql_kind_texts.specs.declared.kinds.StoredKind.{StoredKind}
+use Rattle.vortex_sql_kind_texts.specs.declared.kinds.StoredKind.TheVariants as stored
+use Rattle.vortex_sql_kind_texts.specs.declared.kinds.WrittenKind.{WrittenKind}
+use Rattle.vortex_sql_kind_texts.specs.declared.kinds.WrittenKind.TheVariants as written
+use Rattle.vortex_sql_kind_texts.specs.declared.decimals.Rounding.{Rounding}
+use Rattle.vortex_sql_kind_texts.specs.declared.decimals.Rounding.TheVariants as rounding
 use Rattle.vortex_standard.specs.declared.names.TheConstants.{FUNCTIONS}
 use Rattle.vortex_standard.specs.declared.scales.DecimalScale.{DecimalScale}
 use Rattle.vortex_standard.specs.declared.scales.DecimalScale.TheVariants as scale
@@ -175,6 +182,28 @@ first_timestamp_trunc unit.Hour = refl
 first_timestamp_trunc unit.Minute = refl
 first_timestamp_trunc unit.Second = refl
 
+first_reading : (k : StoredKind) → IsFirst (standard.TextToKind (record { kind = k }))
+first_reading stored.Date = refl
+first_reading stored.Timestamp = refl
+first_reading stored.F64 = refl
+first_reading stored.F32 = refl
+
+first_try_reading : (k : StoredKind) → IsFirst (standard.TryTextToKind (record { kind = k }))
+first_try_reading stored.Date = refl
+first_try_reading stored.Timestamp = refl
+first_try_reading stored.F64 = refl
+first_try_reading stored.F32 = refl
+
+first_writing : (k : WrittenKind) → IsFirst (standard.KindToText (record { kind = k }))
+first_writing written.Date = refl
+first_writing written.Timestamp = refl
+
+first_rounding : (r : Rounding) → IsFirst (standard.DecimalRound (record { rounding = r }))
+first_rounding rounding.Half = refl
+first_rounding rounding.Floor = refl
+first_rounding rounding.Ceiling = refl
+first_rounding rounding.Trunc = refl
+
 first : (f : Standard) → IsFirst f
 first standard.Coalesce = refl
 first standard.NullIf = refl
@@ -198,6 +227,8 @@ first standard.Replace = refl
 first standard.Repeat = refl
 first standard.Reverse = refl
 first standard.ConcatAll = refl
+first standard.Initcap = refl
+first standard.ConcatWs = refl
 first standard.TryTextToTruth = refl
 first standard.RegexpLike = refl
 first standard.FloatNegate = refl
@@ -206,6 +237,13 @@ first standard.WidenFloat = refl
 first standard.DateToTimestamp = refl
 first standard.TimestampToDate = refl
 first standard.MakeDate = refl
+first standard.DateAddMonths = refl
+first standard.TimestampAddMonths = refl
+first standard.TextToDecimal = refl
+first standard.TryTextToDecimal = refl
+first standard.DecimalToText = refl
+first standard.DecimalScaled = refl
+first standard.TryDecimalScaled = refl
 first (standard.Extreme Greatest) = refl
 first (standard.Extreme Least) = refl
 first (standard.TruthTest IsTrue) = refl
@@ -231,6 +269,8 @@ first (standard.TryCast f) = first_try_cast f.ptype
 first (standard.TryTextToInt f) = first_try_text f.ptype
 first (standard.Letters Lower) = refl
 first (standard.Letters Upper) = refl
+first (standard.Pad pad.Left) = refl
+first (standard.Pad pad.Right) = refl
 first (standard.FloatOperator float.Add) = refl
 first (standard.FloatOperator float.Subtract) = refl
 first (standard.FloatOperator float.Multiply) = refl
@@ -248,6 +288,10 @@ first (standard.DatePart f) = first_date_part f.part
 first (standard.TimestampPart f) = first_timestamp_part f.part
 first (standard.DateTrunc f) = first_date_trunc f.unit
 first (standard.TimestampTrunc f) = first_timestamp_trunc f.unit
+first (standard.TextToKind f) = first_reading f.kind
+first (standard.TryTextToKind f) = first_try_reading f.kind
+first (standard.KindToText f) = first_writing f.kind
+first (standard.DecimalRound f) = first_rounding f.rounding
 
 -- a function's name names that function
 pub named_back : (f : Standard) → standard_named (name_of f) ≡ Some f

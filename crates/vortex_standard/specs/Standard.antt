@@ -24,6 +24,9 @@ use Rattle.vortex_sql_numbers.specs.Remainder.{remainder_row, remainder_lawful}
 use Rattle.vortex_sql_rows.specs.Row.{Row, LawfulRow, row_type, row_means}
 use Rattle.vortex_sql_numbers.specs.Sign.{sign_row, sign_lawful}
 use Rattle.vortex_sql_patterns.specs.RegexpLike.{regexp_like_row, regexp_like_lawful}
+use Rattle.vortex_sql_pads.specs.Capitals.{initcap_row, initcap_lawful}
+use Rattle.vortex_sql_pads.specs.Joins.{concat_ws_row, concat_ws_lawful}
+use Rattle.vortex_sql_pads.specs.Pads.{pad_row, pad_lawful}
 use Rattle.vortex_sql_texts.specs.Concats.{concat_all_row, concat_all_lawful}
 use Rattle.vortex_sql_texts.specs.Fields.{split_part_row, split_part_lawful}
 use Rattle.vortex_sql_texts.specs.Repeats.{repeat_row, repeat_lawful, reverse_row, reverse_lawful}
@@ -42,6 +45,12 @@ use Rattle.vortex_sql_dates.specs.Parts.{date_part_row, timestamp_part_row}
 use Rattle.vortex_sql_dates.specs.PartLaws.{date_part_lawful, timestamp_part_lawful}
 use Rattle.vortex_sql_dates.specs.Truncations.{date_trunc_row, date_trunc_lawful}
 use Rattle.vortex_sql_dates.specs.Truncations.{timestamp_trunc_row, timestamp_trunc_lawful}
+use Rattle.vortex_sql_dates.specs.Months as months
+use Rattle.vortex_sql_kind_texts.specs.DecimalRounding.{round_row, round_lawful}
+use Rattle.vortex_sql_kind_texts.specs.DecimalScales.{scaled_row, scaled_lawful}
+use Rattle.vortex_sql_kind_texts.specs.KindTexts as to_texts
+use Rattle.vortex_sql_kind_texts.specs.TextKinds as from_texts
+use Rattle.vortex_sql_kind_texts.specs.Tried as tried
 use Rattle.vortex_sql_floats.specs.ArithmeticRows as floats
 use Rattle.vortex_sql_floats.specs.Conversions as conversions
 use Rattle.vortex_sql_floats.specs.Decimals.{decimal_row, decimal_lawful}
@@ -72,6 +81,8 @@ row_of standard.Replace = replace_row
 row_of standard.Repeat = repeat_row
 row_of standard.Reverse = reverse_row
 row_of standard.ConcatAll = concat_all_row
+row_of standard.Initcap = initcap_row
+row_of standard.ConcatWs = concat_ws_row
 row_of standard.TryTextToTruth = try_truth_row
 row_of standard.RegexpLike = regexp_like_row
 row_of standard.FloatNegate = negate_row
@@ -80,6 +91,13 @@ row_of standard.WidenFloat = conversions.widen_row
 row_of standard.DateToTimestamp = date_casts.beginning_row
 row_of standard.TimestampToDate = date_casts.day_row
 row_of standard.MakeDate = make_date_row
+row_of standard.DateAddMonths = months.date_row
+row_of standard.TimestampAddMonths = months.timestamp_row
+row_of standard.TextToDecimal = from_texts.decimal_row
+row_of standard.TryTextToDecimal = tried.try_decimal_row
+row_of standard.DecimalToText = to_texts.decimal_row
+row_of standard.DecimalScaled = scaled_row
+row_of standard.TryDecimalScaled = tried.try_scaled_row
 row_of (standard.Extreme x) = extreme_row x
 row_of (standard.TruthTest t) = test_row t
 row_of (standard.BitOperator o) = operator_row o
@@ -94,6 +112,7 @@ row_of (standard.TextToInt f) = int_cast_row f.ptype
 row_of (standard.TryCast f) = try_cast_row f.ptype
 row_of (standard.TryTextToInt f) = try_text_row f.ptype
 row_of (standard.Letters l) = letters_row l
+row_of (standard.Pad p) = pad_row p
 row_of (standard.FloatOperator o) = floats.operator_row o
 row_of (standard.DecimalToFloat s) = decimal_row (scale_number s)
 row_of (standard.FloatToInt f) = to_int_row f.ptype
@@ -102,6 +121,10 @@ row_of (standard.DatePart f) = date_part_row f.part
 row_of (standard.TimestampPart f) = timestamp_part_row f.part
 row_of (standard.DateTrunc f) = date_trunc_row f.unit
 row_of (standard.TimestampTrunc f) = timestamp_trunc_row f.unit
+row_of (standard.TextToKind f) = from_texts.text_row f.kind
+row_of (standard.TryTextToKind f) = tried.try_text_row f.kind
+row_of (standard.KindToText f) = to_texts.kind_row f.kind
+row_of (standard.DecimalRound f) = round_row f.rounding
 
 pub lawful_of : (f : Standard) → LawfulRow (row_of f)
 lawful_of standard.Coalesce = coalesce_lawful
@@ -126,6 +149,8 @@ lawful_of standard.Replace = replace_lawful
 lawful_of standard.Repeat = repeat_lawful
 lawful_of standard.Reverse = reverse_lawful
 lawful_of standard.ConcatAll = concat_all_lawful
+lawful_of standard.Initcap = initcap_lawful
+lawful_of standard.ConcatWs = concat_ws_lawful
 lawful_of standard.TryTextToTruth = try_truth_lawful
 lawful_of standard.RegexpLike = regexp_like_lawful
 lawful_of standard.FloatNegate = negate_lawful
@@ -134,6 +159,13 @@ lawful_of standard.WidenFloat = conversions.widen_lawful
 lawful_of standard.DateToTimestamp = date_casts.beginning_lawful
 lawful_of standard.TimestampToDate = date_casts.day_lawful
 lawful_of standard.MakeDate = make_date_lawful
+lawful_of standard.DateAddMonths = months.date_lawful
+lawful_of standard.TimestampAddMonths = months.timestamp_lawful
+lawful_of standard.TextToDecimal = from_texts.decimal_lawful
+lawful_of standard.TryTextToDecimal = tried.try_decimal_lawful
+lawful_of standard.DecimalToText = to_texts.decimal_lawful
+lawful_of standard.DecimalScaled = scaled_lawful
+lawful_of standard.TryDecimalScaled = tried.try_scaled_lawful
 lawful_of (standard.Extreme x) = extreme_lawful x
 lawful_of (standard.TruthTest t) = test_lawful t
 lawful_of (standard.BitOperator o) = operator_lawful o
@@ -148,6 +180,7 @@ lawful_of (standard.TextToInt f) = int_cast_lawful f.ptype
 lawful_of (standard.TryCast f) = try_cast_lawful f.ptype
 lawful_of (standard.TryTextToInt f) = try_text_lawful f.ptype
 lawful_of (standard.Letters l) = letters_lawful l
+lawful_of (standard.Pad p) = pad_lawful p
 lawful_of (standard.FloatOperator o) = floats.operator_lawful o
 lawful_of (standard.DecimalToFloat s) = decimal_lawful (scale_number s)
 lawful_of (standard.FloatToInt f) = to_int_lawful f.ptype
@@ -156,6 +189,10 @@ lawful_of (standard.DatePart f) = date_part_lawful f.part
 lawful_of (standard.TimestampPart f) = timestamp_part_lawful f.part
 lawful_of (standard.DateTrunc f) = date_trunc_lawful f.unit
 lawful_of (standard.TimestampTrunc f) = timestamp_trunc_lawful f.unit
+lawful_of (standard.TextToKind f) = from_texts.text_lawful f.kind
+lawful_of (standard.TryTextToKind f) = tried.try_text_lawful f.kind
+lawful_of (standard.KindToText f) = to_texts.kind_lawful f.kind
+lawful_of (standard.DecimalRound f) = round_lawful f.rounding
 
 -- What follows comes of the list.
 

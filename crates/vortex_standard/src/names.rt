@@ -15,9 +15,14 @@ use vortex_sql_dates::truncations::{DateTrunc, TimestampTrunc, Unit};
 use vortex_sql_float_functions::functions::FloatFunction;
 use vortex_sql_floats::floats::FloatOperator;
 use vortex_sql_floats::integers::FloatToInt;
+use vortex_sql_kind_texts::decimals::{DecimalRound, Rounding};
+use vortex_sql_kind_texts::from_texts::TextToKind;
+use vortex_sql_kind_texts::kinds::{StoredKind, WrittenKind};
+use vortex_sql_kind_texts::to_texts::KindToText;
 use vortex_sql_numbers::bits::{BitOperator, Shift};
 use vortex_sql_numbers::integer_casts::{Cast, Widen};
 use vortex_sql_numbers::truth_casts::TruthToInt;
+use vortex_sql_pads::pads::Pad;
 use vortex_sql_texts::letters::Letters;
 use vortex_sql_texts::parts::Side;
 use vortex_sql_texts::text_casts::TextToInt;
@@ -25,7 +30,7 @@ use vortex_sql_texts::texts::Measure;
 use vortex_sql_texts::trims::Trim;
 
 /// The functions that texts are written with, each once.
-pub const FUNCTIONS: [Standard; 91] = [
+pub const FUNCTIONS: [Standard; 95] = [
     Standard::Coalesce,
     Standard::NullIf,
     Standard::Case,
@@ -48,6 +53,8 @@ pub const FUNCTIONS: [Standard; 91] = [
     Standard::Repeat,
     Standard::Reverse,
     Standard::ConcatAll,
+    Standard::Initcap,
+    Standard::ConcatWs,
     Standard::TryTextToTruth,
     Standard::RegexpLike,
     Standard::Extreme(Extreme::Greatest),
@@ -117,11 +124,13 @@ pub const FUNCTIONS: [Standard; 91] = [
     Standard::TryTextToInt(TextToInt { ptype: PType::U64 }),
     Standard::Letters(Letters::Lower),
     Standard::Letters(Letters::Upper),
+    Standard::Pad(Pad::Left),
+    Standard::Pad(Pad::Right),
 ];
 
 /// The functions on stored keys, each once: what arithmetic over columns of floats and parts of
 /// dates and timestamps call.
-pub const KEY_FUNCTIONS: [Standard; 88] = [
+pub const KEY_FUNCTIONS: [Standard; 109] = [
     Standard::FloatNegate,
     Standard::IntToFloat,
     Standard::WidenFloat,
@@ -238,6 +247,55 @@ pub const KEY_FUNCTIONS: [Standard; 88] = [
     Standard::TimestampTrunc(TimestampTrunc { unit: Unit::Hour }),
     Standard::TimestampTrunc(TimestampTrunc { unit: Unit::Minute }),
     Standard::TimestampTrunc(TimestampTrunc { unit: Unit::Second }),
+    Standard::DateAddMonths,
+    Standard::TimestampAddMonths,
+    Standard::TextToDecimal,
+    Standard::TryTextToDecimal,
+    Standard::DecimalToText,
+    Standard::DecimalScaled,
+    Standard::TryDecimalScaled,
+    Standard::TextToKind(TextToKind {
+        kind: StoredKind::Date,
+    }),
+    Standard::TextToKind(TextToKind {
+        kind: StoredKind::Timestamp,
+    }),
+    Standard::TextToKind(TextToKind {
+        kind: StoredKind::F64,
+    }),
+    Standard::TextToKind(TextToKind {
+        kind: StoredKind::F32,
+    }),
+    Standard::TryTextToKind(TextToKind {
+        kind: StoredKind::Date,
+    }),
+    Standard::TryTextToKind(TextToKind {
+        kind: StoredKind::Timestamp,
+    }),
+    Standard::TryTextToKind(TextToKind {
+        kind: StoredKind::F64,
+    }),
+    Standard::TryTextToKind(TextToKind {
+        kind: StoredKind::F32,
+    }),
+    Standard::KindToText(KindToText {
+        kind: WrittenKind::Date,
+    }),
+    Standard::KindToText(KindToText {
+        kind: WrittenKind::Timestamp,
+    }),
+    Standard::DecimalRound(DecimalRound {
+        rounding: Rounding::Half,
+    }),
+    Standard::DecimalRound(DecimalRound {
+        rounding: Rounding::Floor,
+    }),
+    Standard::DecimalRound(DecimalRound {
+        rounding: Rounding::Ceiling,
+    }),
+    Standard::DecimalRound(DecimalRound {
+        rounding: Rounding::Trunc,
+    }),
 ];
 
 fn is_same_word(word: &[u8], other: &[u8]) -> bool

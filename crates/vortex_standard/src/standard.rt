@@ -25,9 +25,14 @@ use vortex_sql_floats::decimals::DecimalToFloat;
 use vortex_sql_floats::floats::FloatOperator;
 use vortex_sql_floats::integers::FloatToInt;
 use vortex_sql_in_list::execute_in_list;
+use vortex_sql_kind_texts::decimals::DecimalRound;
+use vortex_sql_kind_texts::from_texts::{TextToDecimal, TextToKind};
+use vortex_sql_kind_texts::scales::DecimalScaled;
+use vortex_sql_kind_texts::to_texts::KindToText;
 use vortex_sql_numbers::bits::{BitOperator, Shift};
 use vortex_sql_numbers::integer_casts::{Cast, Widen};
 use vortex_sql_numbers::truth_casts::TruthToInt;
+use vortex_sql_pads::pads::Pad;
 use vortex_sql_rows::row::{RowFn, TextFn};
 use vortex_sql_rows::types::Takes;
 use vortex_sql_texts::letters::Letters;
@@ -133,6 +138,14 @@ macro_rules! with_row {
                 let $f = &vortex_sql_texts::concats::ConcatAll;
                 $texts
             }
+            Standard::Initcap => {
+                let $f = &vortex_sql_pads::capitals::Initcap;
+                $texts
+            }
+            Standard::ConcatWs => {
+                let $f = &vortex_sql_pads::joins::ConcatWs;
+                $texts
+            }
             Standard::TryTextToTruth => {
                 let $f = &Try { function: &TextToTruth };
                 $rows
@@ -177,6 +190,38 @@ macro_rules! with_row {
                 let $f = &vortex_sql_dates::made::MakeDate;
                 $rows
             }
+            Standard::DateAddMonths => {
+                let $f = &vortex_sql_dates::months::DateAddMonths;
+                $rows
+            }
+            Standard::TimestampAddMonths => {
+                let $f = &vortex_sql_dates::months::TimestampAddMonths;
+                $rows
+            }
+            Standard::TextToDecimal => {
+                let $f = &TextToDecimal;
+                $rows
+            }
+            Standard::TryTextToDecimal => {
+                let $f = &Try { function: &TextToDecimal };
+                $rows
+            }
+            Standard::DecimalToText => {
+                let $f = &vortex_sql_kind_texts::to_texts::DecimalToText;
+                $texts
+            }
+            Standard::DecimalScaled => {
+                let $f = &DecimalScaled;
+                $rows
+            }
+            Standard::TryDecimalScaled => {
+                let $f = &Try { function: &DecimalScaled };
+                $rows
+            }
+            Standard::TryTextToKind(cast) => {
+                let $f = &Try { function: cast };
+                $rows
+            }
             Standard::Extreme($f) => $rows,
             Standard::TruthTest($f) => $rows,
             Standard::BitOperator($f) => $rows,
@@ -189,6 +234,7 @@ macro_rules! with_row {
             Standard::Trim($f) => $rows,
             Standard::TextToInt($f) => $rows,
             Standard::Letters($f) => $texts,
+            Standard::Pad($f) => $texts,
             Standard::FloatOperator($f) => $rows,
             Standard::FloatToInt($f) => $rows,
             Standard::FloatFunction($f) => $rows,
@@ -196,6 +242,9 @@ macro_rules! with_row {
             Standard::TimestampPart($f) => $rows,
             Standard::DateTrunc($f) => $rows,
             Standard::TimestampTrunc($f) => $rows,
+            Standard::TextToKind($f) => $rows,
+            Standard::KindToText($f) => $texts,
+            Standard::DecimalRound($f) => $rows,
         }
     };
 }
@@ -225,6 +274,8 @@ pub enum Standard {
     Repeat,
     Reverse,
     ConcatAll,
+    Initcap,
+    ConcatWs,
     TryTextToTruth,
     RegexpLike,
     FloatNegate,
@@ -233,6 +284,13 @@ pub enum Standard {
     DateToTimestamp,
     TimestampToDate,
     MakeDate,
+    DateAddMonths,
+    TimestampAddMonths,
+    TextToDecimal,
+    TryTextToDecimal,
+    DecimalToText,
+    DecimalScaled,
+    TryDecimalScaled,
     Extreme(Extreme),
     TruthTest(TruthTest),
     BitOperator(BitOperator),
@@ -247,6 +305,7 @@ pub enum Standard {
     TryCast(Cast),
     TryTextToInt(TextToInt),
     Letters(Letters),
+    Pad(Pad),
     FloatOperator(FloatOperator),
     DecimalToFloat(DecimalScale),
     FloatToInt(FloatToInt),
@@ -255,6 +314,10 @@ pub enum Standard {
     TimestampPart(TimestampPart),
     DateTrunc(DateTrunc),
     TimestampTrunc(TimestampTrunc),
+    TextToKind(TextToKind),
+    TryTextToKind(TextToKind),
+    KindToText(KindToText),
+    DecimalRound(DecimalRound),
 }
 
 impl Standard {

@@ -23,3 +23,19 @@ returns-in-DecimalToFloat g c =
     subst (λ (f : Standard). ReturnsRows (row_of f) inputs n made) (sym c.in-DecimalToFloat.is)
     (subst (λ (s : ℕ). ReturnsRows (decimal_row s) inputs n made) c.number.ensures
     c.execute_rows-in-DecimalToFloat.ensures)
+
+pub returns-in-TryTextToDecimal : goal.returns-in-TryTextToDecimal
+returns-in-TryTextToDecimal g c =
+    let inputs = g.A.ExecutionArgs.inputs c.args.args.now in
+    let n = g.A.ExecutionArgs.rows c.args.args.now in
+    let made = c.execute_rows-in-TryTextToDecimal.result in
+    subst (λ (f : Standard). ReturnsRows (row_of f) inputs n made) (sym c.in-TryTextToDecimal.is)
+    c.execute_rows-in-TryTextToDecimal.ensures
+
+pub returns-in-TryDecimalScaled : goal.returns-in-TryDecimalScaled
+returns-in-TryDecimalScaled g c =
+    let inputs = g.A.ExecutionArgs.inputs c.args.args.now in
+    let n = g.A.ExecutionArgs.rows c.args.args.now in
+    let made = c.execute_rows-in-TryDecimalScaled.result in
+    subst (λ (f : Standard). ReturnsRows (row_of f) inputs n made) (sym c.in-TryDecimalScaled.is)
+    c.execute_rows-in-TryDecimalScaled.ensures
