@@ -9,6 +9,7 @@ use Rattle.std.proofs.lemmas.Str.{IsUtf8-nil, IsUtf8-encode, chars-nil, chars_pa
 use Rattle.std.proofs.lemmas.List.{append-nil}
 use Rattle.vortex_types.specs.LogicalTypes.{Fields, LogicalType, bool_type, text_type}
 use Rattle.vortex_operators.specs.declared.operators.Operator.{Operator}
+use Rattle.vortex_operators.specs.declared.operators.Operator.TheVariants as operator
 use Rattle.vortex_operators.specs.declared.between.BetweenOptions.{BetweenOptions}
 use Rattle.vortex_operators.specs.declared.between.StrictComparison.{StrictComparison}
 use Rattle.vortex_operators.specs.declared.between.StrictComparison.TheVariants.{Strict, NonStrict}
@@ -34,6 +35,7 @@ use Rattle.vortex_cells.specs.Escapes.{escape_of}
 use Rattle.vortex_expressions.specs.Items.{Item, Tree, meaning, common_type, settled, called}
 use Rattle.vortex_expressions.specs.Calls.{as_item, cast_to, cast_item, truth_type, joined_type}
 use Rattle.vortex_expressions.specs.Calls.{not_item, joined_item, tested_item, within_bounds}
+use Rattle.vortex_expressions.specs.Calls.{is_concat}
 use Rattle.vortex_expressions.specs.Calls.{between_item, escape_said, liked_item, matched_item}
 use Rattle.vortex_expressions.specs.Binding.{item_of, tree_of}
 use Rattle.vortex_expressions.specs.Writing.{at_level, joined_syntax, written_operator}
@@ -94,6 +96,21 @@ escape_back k (Some c) a p h = by (c == backslash) refl
         ∙ ap (λ cs. and_then (or_refuses NoEscape (escape_of cs)) (λ v. liked_item k v a p)) one
 
 -- calls
+-- no shipped operator joins texts
+no_concat : (o : Operator) → is_concat (written_operator o) ≡ false
+no_concat operator.Or = refl
+no_concat operator.And = refl
+no_concat operator.Eq = refl
+no_concat operator.NotEq = refl
+no_concat operator.Lt = refl
+no_concat operator.Lte = refl
+no_concat operator.Gt = refl
+no_concat operator.Gte = refl
+no_concat operator.Add = refl
+no_concat operator.Sub = refl
+no_concat operator.Mul = refl
+no_concat operator.Div = refl
+
 module _ (scope : Fields) where
   placed : (l : ℕ) (a : Syntax) (t : Tree) (s : Standing scope a t)
       → item_of scope (at_level l a) ≡ answers s.item
@@ -192,7 +209,7 @@ module _ (scope : Fields) where
       (λ v. and_then (item_of scope (at_level (right w) m.b)) (joined_item w v)))
       (placed (left w) m.a x s)
       ∙ ap (λ i. and_then i (joined_item w p.item)) (placed (right w) m.b y r)
-      ∙ joined_plain w p.item q.item (stands_plain p.item x s.stands)
+      ∙ joined_plain w p.item q.item (no_concat o) (stands_plain p.item x s.stands)
       (stands_plain q.item y r.stands)
       ∙ ap (λ f. as_item (called f beside (p.item ∷ q.item ∷ []))) (operator_back o)
       ∙ ap as_item

@@ -35,6 +35,7 @@ pub mod Finding
 pub mod SureCalls
 pub mod SureKinds
 pub mod SureKindFunctions
+mod SureTexts
 pub mod Sure
 pub mod Why
 pub mod Likened

@@ -16,11 +16,12 @@ use Rattle.vortex_expressions.specs.Functions.{function_item, standard_item, mea
 use Rattle.vortex_expressions.specs.Functions.{applied_item}
 use Rattle.vortex_expressions.specs.KindWords.{kind_word}
 use Rattle.vortex_expressions.specs.Calls.{is_kinded, joined_item, plain_joined, between_three}
+use Rattle.vortex_expressions.specs.Calls.{is_concat}
 use Rattle.vortex_expressions.specs.Calls.{between_all}
 
-pub joined_plain : (o : written.WrittenOperator) (a b : Item) → is_kinded a ≡ false
-    → is_kinded b ≡ false → joined_item o a b ≡ plain_joined o a b
-joined_plain o a b h k = rw (h, k) refl
+pub joined_plain : (o : written.WrittenOperator) (a b : Item) → is_concat o ≡ false
+    → is_kinded a ≡ false → is_kinded b ≡ false → joined_item o a b ≡ plain_joined o a b
+joined_plain o a b c h k = rw (c, h, k) refl
 
 pub between_plain : (a b c : Item) → is_kinded a ≡ false → is_kinded b ≡ false
     → is_kinded c ≡ false → between_three a b c ≡ between_all (a ∷ b ∷ c ∷ [])

@@ -1,7 +1,7 @@
 -- The meaning of an expression fits the scope that it is read over.
 use Rattle.std.specs.Prelude.{codes, if◌then◌else◌}
 use Rattle.std.proofs.Common.{◌≡◌, ℕ, Bool, true, false, List, [], ◌∷◌, length, Option, Some, None}
-use Rattle.std.proofs.Common.{refl, sym, subst, reverse, ◌++◌, ◌∙◌}
+use Rattle.std.proofs.Common.{◌||◌, cond, refl, sym, subst, reverse, ◌++◌, ◌∙◌}
 use Rattle.std.proofs.lemmas.List.{reverse-append}
 use Rattle.std.specs.Prelude.{is_some, IsUtf8, ⊤, MatchOption}
 use Rattle.std.specs.Char.{IsScalar}
@@ -11,7 +11,7 @@ use Rattle.std.proofs.lemmas.Str.{scalars-chars}
 use lib.Utf8.{scalar, scalars}
 use Rattle.vortex_types.specs.declared.dtype.PType.{PType}
 use Rattle.vortex_types.specs.LogicalTypes.{Fields, LogicalType}
-use Rattle.vortex_types.specs.LogicalTypes.{text_type}
+use Rattle.vortex_types.specs.LogicalTypes.{text_type, integer_type, bool_type}
 use Rattle.vortex_types.specs.LogicalTypes.{find_field}
 use Rattle.vortex_types.specs.LogicalTypes.{is_bool_type, is_nullable}
 use Rattle.vortex_errors.specs.declared.error.MismatchPlace.{MismatchPlace}
@@ -34,6 +34,7 @@ use Rattle.vortex_syntax.specs.Syntax.{Syntax, operand, negative, typed, grouped
 use Rattle.vortex_syntax.specs.Syntax.{minus, tested, distinct, between, matched, listed, cast}
 use Rattle.vortex_syntax.specs.Syntax.{chosen, chosen_else, nullary, applied, Arguments}
 use Rattle.vortex_syntax.specs.Syntax.{plus, bit_not, null_tested, converted, titled, extracted}
+use Rattle.vortex_syntax.specs.Syntax.{parted, parted_for}
 use Rattle.vortex_syntax.specs.Syntax.{no_arguments, argument, Branches, without_operand}
 use Rattle.vortex_syntax.specs.Syntax.{of_operand, branch}
 use Rattle.vortex_expressions.specs.Literals as literal
@@ -62,6 +63,9 @@ use Rattle.vortex_expressions.specs.Calls.{type_of_name, typed_item, cast_to, ca
 use Rattle.vortex_expressions.specs.Calls.{written_function, joined_type, negated_if, negated_item}
 use Rattle.vortex_expressions.specs.Calls.{not_item}
 use Rattle.vortex_expressions.specs.Calls.{joined_item, tested_item, distinct_item, within_bounds}
+use Rattle.vortex_expressions.specs.Calls.{is_concat, concat_item, plain_joined, is_kinded}
+use Rattle.vortex_expressions.specs.Calls.{kinded_joined}
+use Rattle.vortex_expressions.specs.Joining.{made_text, typed_text, tree_text, is_text, as_text}
 use Rattle.vortex_expressions.specs.Calls.{between_item, like_options, escape_said, escape_in}
 use Rattle.vortex_expressions.specs.Calls.{liked_item, matched_item, minus_item, listed_item}
 use Rattle.vortex_expressions.specs.Calls.{plus_item, bit_not_item, is_number}
@@ -304,13 +308,67 @@ module _ (scope : Fields) where
   written_callable written.ShiftLeft = tt
   written_callable written.ShiftRight = tt
 
-  joined_over : (o : syntax.WrittenOperator) (j k i : Item) → ItemOver j → ItemOver k
-      → joined_item o j k ≡ answers i → ItemOver i
-  joined_over o j k i h g e =
+  plain_over : (o : syntax.WrittenOperator) (j k i : Item) → ItemOver j → ItemOver k
+      → plain_joined o j k ≡ answers i → ItemOver i
+  plain_over o j k i h g e =
       let is = j ∷ k ∷ [] in
       as_item_over (called (written_function o) (joined_type o is) is) i
       (λ t m. called_over (written_function o) (joined_type o is) is t (written_callable o)
-      (h, (g, tt)) m) (sym (joined_plain o j k (over_plain j h) (over_plain k g)) ∙ e)
+      (h, (g, tt)) m) e
+
+  -- values as their texts
+  made_text_over : (f : Standard) (t : Tree) (i : Item) → IsOver scope t
+      → made_text f t ≡ answers i → ItemOver i
+  made_text_over f t i h e =
+      as_item_over (call_of (callable f) (t ∷ [])) i
+      (λ u m. made_over (callable f) (t ∷ []) u tt (h, tt) m) e
+
+  typed_text_over : (o : Option LogicalType) (t : Tree) (i : Item) → IsOver scope t
+      → typed_text o t ≡ answers i → ItemOver i
+  typed_text_over (Some (integer_type p n)) t i h e = made_text_over standard.IntToText t i h e
+  typed_text_over (Some (bool_type n)) t i h e = made_text_over standard.TruthToText t i h e
+  typed_text_over o t i h e = subst ItemOver (answers_is (bound t) i e) h
+
+  settled_text_over : (l : Literal) (i : Item) → IsText l
+      → and_then (settled None (literal l)) tree_text ≡ answers i → ItemOver i
+  settled_text_over l i h e =
+      let m = then_is (settled None (literal l)) tree_text i e in
+      typed_text_over (tree_type meaning m.a) m.a i
+      (settled_over None (literal l) m.a h m.first) m.second
+
+  as_text_over : (j i : Item) → ItemOver j → as_text j ≡ answers i → ItemOver i
+  as_text_over (literal l) i h e = by (is_text l) e
+    where
+      by : (b : Bool)
+          → cond b (answers (literal l)) (and_then (settled None (literal l)) tree_text) ≡ answers i
+          → ItemOver i
+      by true f = subst ItemOver (answers_is (literal l) i f) h
+      by false f = settled_text_over l i h f
+  as_text_over (bound t) i h e = typed_text_over (tree_type meaning t) t i h e
+  as_text_over (kinded k t) i h e = absurd h
+  as_text_over (fraction w) i h e = absurd h
+  as_text_over (interval z) i h e = absurd h
+
+  concat_over : (j k i : Item) → ItemOver j → ItemOver k → concat_item j k ≡ answers i
+      → ItemOver i
+  concat_over j k i h g e =
+      let m = then_is (as_text j) (λ x. and_then (as_text k) (plain_joined written.Concat x)) i e in
+      let n = then_is (as_text k) (plain_joined written.Concat m.a) i m.second in
+      plain_over written.Concat m.a n.a i (as_text_over j m.a h m.first)
+      (as_text_over k n.a g n.first) n.second
+
+  joined_over : (o : syntax.WrittenOperator) (j k i : Item) → ItemOver j → ItemOver k
+      → joined_item o j k ≡ answers i → ItemOver i
+  joined_over o j k i h g e = by (is_concat o) refl e
+    where
+      by : (b : Bool) → is_concat o ≡ b
+          → cond b (concat_item j k)
+          (cond (is_kinded j || is_kinded k) (kinded_joined o j k) (plain_joined o j k)) ≡ answers i
+          → ItemOver i
+      by true c f = concat_over j k i h g f
+      by false c f =
+          plain_over o j k i h g
+          (sym (joined_plain o j k c (over_plain j h) (over_plain k g)) ∙ e)
 
   negated_over : (n : Bool) (u t : Tree) → IsOver scope u → negated_if n u ≡ answers t
       → IsOver scope t
@@ -618,6 +676,22 @@ module _ (scope : Fields) where
         (all_reversed m.a (more_over first (item_of scope a)
         (more_over (answers []) word none_over (operand_over (token.text w))) (item_over a) m.a
         m.first)) m.second
+    item_over (parted p f s a) i e =
+        let first = with_item (answers []) (item_of scope s) in
+        let m = then_is (with_item first (item_of scope a)) (λ is. applied_item f (reverse is)) i e in
+        applied_over f (reverse m.a) i
+        (all_reversed m.a (more_over first (item_of scope a)
+        (more_over (answers []) (item_of scope s) none_over (item_over s)) (item_over a) m.a
+        m.first)) m.second
+    item_over (parted_for p f s a w b) i e =
+        let first = with_item (answers []) (item_of scope s) in
+        let two = with_item first (item_of scope a) in
+        let m = then_is (with_item two (item_of scope b)) (λ is. applied_item f (reverse is)) i e in
+        applied_over f (reverse m.a) i
+        (all_reversed m.a (more_over two (item_of scope b)
+        (more_over first (item_of scope a)
+        (more_over (answers []) (item_of scope s) none_over (item_over s)) (item_over a))
+        (item_over b) m.a m.first)) m.second
 
     items_over : (args : Arguments) (o : Outcome (List Item)) → AreOver o
         → AreOver (items_after scope o args)

@@ -52,10 +52,16 @@ use Rattle.vortex_expressions.specs.Applied.{function_call}
 use Rattle.vortex_expressions.specs.Functions.{values_in, call_kind, met_values, aligned_arguments}
 use Rattle.vortex_expressions.specs.Functions.{kinded_call, function_item, applied_item}
 use Rattle.vortex_expressions.specs.Functions.{standard_item, meant_item, made_date, applied_by}
+use Rattle.vortex_expressions.specs.Functions.{takes_whole, whole_item, kinds_item, kinded_item}
+use Rattle.vortex_expressions.specs.Functions.{joined_call, joining_item}
+use Rattle.vortex_expressions.specs.Joining.{as_text, as_texts, joins}
+use Rattle.vortex_expressions.proofs.SureTexts.{sure_as_text, sure_as_texts}
 use Rattle.vortex_expressions.specs.Kinded.{first_kind}
 use Rattle.vortex_expressions.specs.KindWords.{kind_word}
 use Rattle.vortex_expressions.specs.declared.kind_words.KindName.{KindName}
-use Rattle.vortex_expressions.proofs.SureKindFunctions.{sure_kind_call}
+use Rattle.vortex_expressions.specs.declared.kind_words.KindName.TheVariants.{Single}
+use Rattle.vortex_expressions.specs.declared.kind_words.KindFunction.TheVariants.{OfFloat}
+use Rattle.vortex_expressions.proofs.SureKindFunctions.{sure_single_call, sure_kind_call}
 use Rattle.vortex_logical.specs.declared.operand.Operand.TheVariants.{Of}
 use Rattle.vortex_expressions.specs.Casts.{cast_function, cast_by, cast_from, cast_tree, cast_hint}
 use Rattle.std.specs.Option.{option_map}
@@ -76,8 +82,9 @@ use Rattle.vortex_expressions.proofs.SureCalls.{sure_text, sure_quoted, sure_col
 use Rattle.vortex_expressions.proofs.SureKinds.{sure_kinded_joined, sure_kinded_between, sure_stored}
 use Rattle.vortex_expressions.proofs.SureKinds.{Any, sure_met, sure_aligned_arguments, result_is}
 use Rattle.vortex_expressions.proofs.SureKinds.{sure_kind_item, sure_cast_to_kind}
+use Rattle.vortex_expressions.proofs.SureKinds.{sure_stored_cast, sure_fraction_cast}
 use Rattle.vortex_expressions.proofs.SureKinds.{sure_text_literal}
-use Rattle.vortex_expressions.specs.KindCasts.{float_cast, fraction_cast, is_interval_name}
+use Rattle.vortex_expressions.specs.KindCasts.{is_interval_name}
 use Rattle.vortex_expressions.specs.KindCasts.{interval_told, interval_item}
 use Rattle.vortex_expressions.specs.Kinded.{text_literal}
 use Rattle.vortex_expressions.specs.Literals.{has_fraction}
@@ -174,6 +181,8 @@ module _ (columns : Names) (sure_columns : (w : List ℕ) → Sure IsItem (colum
   sure_literal (tree.nullary p w) f le = absurd (let k : ⊥ = omega (arith, le) in k)
   sure_literal (tree.applied p w args a) f le = absurd (let k : ⊥ = omega (arith, le) in k)
   sure_literal (tree.extracted p g w a) f le = absurd (let k : ⊥ = omega (arith, le) in k)
+  sure_literal (tree.parted p g s a) f le = absurd (let k : ⊥ = omega (arith, le) in k)
+  sure_literal (tree.parted_for p g s a w b) f le = absurd (let k : ⊥ = omega (arith, le) in k)
 
   sure_typed : (w : List ℕ) (n : Bool) (i : Item) → IsLiteral i
       → Sure IsItem (calls.typed_item w n i)
@@ -301,21 +310,11 @@ module _ (columns : Names) (sure_columns : (w : List ℕ) → Sure IsItem (colum
       (sure_settled (cast_hint p i t) i h)
       (λ u j. sure_cast_tree p t u j))))
 
-  sure_float_cast : (u : LogicalType) (t : Tree) → Sure IsItem (float_cast u t)
-  sure_float_cast (integer_type p false) t =
-      sure_item _ (sure_named_call (standard.FloatToInt (record { ptype = p })) (t ∷ []))
-  sure_float_cast u t = tt
-
-  sure_fraction_cast : (w : List ℕ) (u : LogicalType) → Sure IsItem (fraction_cast w u)
-  sure_fraction_cast w u =
-      sure_then Any IsItem (text_literal F64 w) _ (sure_text_literal F64 w)
-      (λ x h. sure_float_cast u x.tree)
-
   sure_cast_of_kind : (p : Bool) (w : List ℕ) (n : Bool) (i : Item) → IsItem i
       → Sure IsItem (calls.cast_of_kind p w n i)
-  sure_cast_of_kind false w n (kinded F64 t) h =
+  sure_cast_of_kind false w n (kinded k t) h =
       sure_then (λ u. Unit {0}) IsItem (calls.type_of_name w n) _ (sure_named w n)
-      (λ u j. sure_float_cast u t)
+      (λ u j. sure_stored_cast k u t)
   sure_cast_of_kind false w n (fraction v) h =
       sure_then (λ u. Unit {0}) IsItem (calls.type_of_name w n) _ (sure_named w n)
       (λ u j. sure_fraction_cast v u)
@@ -324,7 +323,7 @@ module _ (columns : Names) (sure_columns : (w : List ℕ) → Sure IsItem (colum
   sure_cast_named : (p : Bool) (w : List ℕ) (n : Bool) (i : Item) (k : Option Kind) → IsItem i
       → Sure IsItem (calls.cast_named p w n i k)
   sure_cast_named p w n i None h = sure_cast_of_kind p w n i h
-  sure_cast_named p w n i (Some k) h = sure_if IsItem p _ _ tt (sure_cast_to_kind k i h)
+  sure_cast_named p w n i (Some k) h = sure_cast_to_kind p k i h
 
   sure_cast_with : (b p : Bool) (w : List ℕ) (n : Bool) (i : Item) → IsItem i
       → Sure IsItem (calls.cast_by b p w n i)
@@ -361,11 +360,23 @@ module _ (columns : Names) (sure_columns : (w : List ℕ) → Sure IsItem (colum
   sure_written signs.ShiftLeft u is e h = sure_function (standard.Shift shift.Left) u is h
   sure_written signs.ShiftRight u is e h = sure_function (standard.Shift shift.Right) u is h
 
+  sure_plain_joined : (o : written.WrittenOperator) (a b : Item) → IsItem a → IsItem b
+      → Sure IsItem (calls.plain_joined o a b)
+  sure_plain_joined o a b h k =
+      sure_item _ (sure_written o (calls.joined_type o (a ∷ b ∷ [])) (a ∷ b ∷ []) refl (h, (k, tt)))
+
+  sure_concat : (a b : Item) → IsItem a → IsItem b → Sure IsItem (calls.concat_item a b)
+  sure_concat a b h k =
+      sure_then IsItem IsItem (as_text a) _ (sure_as_text a h)
+      (λ x j. sure_then IsItem IsItem (as_text b) _ (sure_as_text b k)
+      (λ y l. sure_plain_joined signs.Concat x y j l))
+
   sure_joined : (o : written.WrittenOperator) (a b : Item) → IsItem a → IsItem b
       → Sure IsItem (calls.joined_item o a b)
   sure_joined o a b h k =
-      sure_if IsItem (calls.is_kinded a || calls.is_kinded b) _ _ (sure_kinded_joined o a b)
-      (sure_item _ (sure_written o (calls.joined_type o (a ∷ b ∷ [])) (a ∷ b ∷ []) refl (h, (k, tt))))
+      sure_if IsItem (calls.is_concat o) _ _ (sure_concat a b h k)
+      (sure_if IsItem (calls.is_kinded a || calls.is_kinded b) _ _ (sure_kinded_joined o a b)
+      (sure_plain_joined o a b h k))
 
   sure_not : (o : Option LogicalType) (i : Item) → IsItem i
       → Sure IsTyped (called (ours Not) o (i ∷ []))
@@ -505,7 +516,7 @@ module _ (columns : Names) (sure_columns : (w : List ℕ) → Sure IsItem (colum
 
   sure_meant : (o : Option KindName) (w : List ℕ) (is : List Item) → AllItems is
       → Sure IsItem (meant_item o w is)
-  sure_meant (Some n) w is h = sure_kind_call n is
+  sure_meant (Some n) w is h = sure_kind_call n is h
   sure_meant None w is h = sure_standard w is h
 
   sure_applied : (w : List ℕ) (is : List Item) → AllItems is → Sure IsItem (applied_item w is)
@@ -518,11 +529,40 @@ module _ (columns : Names) (sure_columns : (w : List ℕ) → Sure IsItem (colum
       sure_then IsTyped IsItem (function_call standard.MakeDate is) _
       (sure_call_on standard.MakeDate is h) (λ t k. k)
 
+  sure_joined_call : (f : Standard) (is : List Item) → AllItems is → Sure IsItem (joined_call f is)
+  sure_joined_call f is h =
+      sure_if IsItem (joins f) _ _
+      (sure_then AllItems IsItem (as_texts is) _ (sure_as_texts is h)
+      (λ js k. sure_item (function_call f js) (sure_call_on f js k)))
+      (sure_item_call f is h)
+
+  sure_joining : (w : List ℕ) (is : List Item) → AllItems is → Sure IsItem (joining_item w is)
+  sure_joining w is h =
+      sure_then _ IsItem (or_refuses NoFunction (standard_named w)) _
+      (sure_or NoFunction (standard_named w))
+      (λ f k. sure_joined_call f is h)
+
+  sure_kinded_item : (o : Option KindName) (w : List ℕ) (is : List Item) → AllItems is
+      → Sure IsItem (kinded_item o w is)
+  sure_kinded_item (Some n) w is h = sure_kind_call n is h
+  sure_kinded_item None w is h = sure_joining w is h
+
+  sure_whole : (o : Option KindName) (w : List ℕ) (is : List Item) → AllItems is
+      → Sure IsItem (whole_item o w is)
+  sure_whole (Some (Single (OfFloat f))) w is h =
+      sure_if IsItem (takes_whole f) _ _ (sure_single_call (OfFloat f) is h) (sure_joining w is h)
+  sure_whole o w is h = sure_joining w is h
+
+  sure_kinds_item : (w : List ℕ) (is : List Item) → AllItems is → Sure IsItem (kinds_item w is)
+  sure_kinds_item w is h =
+      sure_if IsItem (calls.is_plain (first_kind is)) _ _ (sure_whole (kind_word w) w is h)
+      (sure_kinded_item (kind_word w) w is h)
+
   sure_by : (b : Bool) (w : List ℕ) (is : List Item) → AllItems is → Sure IsItem (applied_by b w is)
   sure_by false w is h = sure_applied w is h
   sure_by true w is h =
       sure_if IsItem (same_word w (codes "make_date")) _ _ (sure_made_date is h)
-      (sure_applied w is h)
+      (sure_kinds_item w is h)
 
   mutual
     pub sure : (t : Syntax) → Fits t → Sure IsItem (item_by columns t)
@@ -605,6 +645,20 @@ module _ (columns : Names) (sure_columns : (w : List ℕ) → Sure IsItem (colum
         sure_then AllItems IsItem (with_item first (item_by columns a)) _
         (sure_more first (item_by columns a)
         (sure_more (answers []) word tt (sure_operand (text w) refl)) (sure a f.1))
+        (λ is h. sure_by columns.has_kinds g (reverse is) (all_reversed is h))
+    sure (tree.parted p g s a) f =
+        let first = with_item (answers []) (item_by columns s) in
+        sure_then AllItems IsItem (with_item first (item_by columns a)) _
+        (sure_more first (item_by columns a)
+        (sure_more (answers []) (item_by columns s) tt (sure s f.1)) (sure a f.2))
+        (λ is h. sure_by columns.has_kinds g (reverse is) (all_reversed is h))
+    sure (tree.parted_for p g s a w b) f =
+        let first = with_item (answers []) (item_by columns s) in
+        let two = with_item first (item_by columns a) in
+        sure_then AllItems IsItem (with_item two (item_by columns b)) _
+        (sure_more two (item_by columns b)
+        (sure_more first (item_by columns a)
+        (sure_more (answers []) (item_by columns s) tt (sure s f.2)) (sure a f.3)) (sure b f.4))
         (λ is h. sure_by columns.has_kinds g (reverse is) (all_reversed is h))
 
     sure_all_items : (args : Arguments) (o : Outcome (List Item)) → AllFit args → Sure AllItems o

@@ -3,7 +3,7 @@ use Rattle.std.proofs.Common.{◌≡◌, ℕ, Bool, true, false, ◌||◌, cond,
 use Rattle.std.proofs.Common.{None, refl}
 use Rattle.std.specs.Prelude.{is_some}
 use Rattle.vortex_types.specs.declared.dtype.PType.{PType}
-use Rattle.vortex_types.specs.LogicalTypes.{integer_type}
+use Rattle.vortex_types.specs.LogicalTypes.{LogicalType, integer_type, text_type}
 use Rattle.vortex_errors.specs.declared.error.NumericOperator.{NumericOperator}
 use Rattle.vortex_errors.specs.declared.error.NumericOperator.TheVariants as numeric
 use Rattle.vortex_types.specs.ScalarView.{ScalarView}
@@ -36,7 +36,8 @@ use Rattle.vortex_logical_calls.specs.Comparison.{if_met, compared}
 use Rattle.vortex_logical_calls.specs.Bounds as bounds
 use Rattle.vortex_logical_calls.specs.Computation.{of_operand, of_result}
 use Rattle.vortex_logical_calls.specs.Computation.{float_operator}
-use Rattle.vortex_logical.specs.declared.kind.Kind.TheVariants.{Date, Timestamp, F64, F32}
+use Rattle.vortex_logical.specs.declared.kind.Kind.TheVariants.{Date, Timestamp, Decimal, F64}
+use Rattle.vortex_logical.specs.declared.kind.Kind.TheVariants.{F32}
 use Rattle.vortex_standard.specs.declared.standard.Standard.TheVariants as standard
 use Rattle.vortex_logical_calls.specs.Computation.{computed}
 use Rattle.vortex_logical_calls.specs.Alignment.{meet_next, aligned}
@@ -56,7 +57,21 @@ use Rattle.vortex_expressions.specs.Kinded.{kinded_operator, kinded_joined, kind
 use Rattle.vortex_expressions.specs.Kinded.{within_bounds, is_interval, shifted_item, shifted_items}
 use Rattle.vortex_expressions.specs.Kinded.{joined_beside}
 use Rattle.vortex_expressions.specs.KindCasts.{kind_literal, kind_item, becomes_float, float_item}
-use Rattle.vortex_expressions.specs.KindCasts.{kind_cast, plain_cast, cast_to_kind, cast_by}
+use Rattle.vortex_expressions.specs.KindCasts.{kind_cast, cast_to_kind, cast_by, instant_cast}
+use Rattle.vortex_expressions.specs.KindCasts.{more_trees, step_on, stepped, kind_by, text_cast}
+use Rattle.vortex_expressions.specs.KindCasts.{decimal_cast, number_cast, is_text_type, plain_cast}
+use Rattle.vortex_expressions.specs.KindCasts.{literal_cast, from_kind, stored_cast}
+use Rattle.vortex_expressions.specs.KindCasts.{fraction_cast, float_digits, decimal_of_float}
+use Rattle.vortex_expressions.specs.KindCasts.{float_cast}
+use Rattle.std.specs.Prelude.{◌++◌, codes}
+use Rattle.std.specs.Fmt.{decimal}
+use Rattle.vortex_logical.specs.Digits.{Digits}
+use Rattle.vortex_logical_casts.specs.Casts.{scaled_float_steps}
+use Rattle.vortex_sql_floats.specs.declared.floats.FloatOperator.TheVariants.{Multiply}
+use Rattle.vortex_logical_casts.specs.declared.steps.Step.{Step}
+use Rattle.vortex_logical_casts.specs.declared.steps.Steps.{Steps}
+use Rattle.vortex_logical_casts.specs.declared.steps.Steps.TheVariants.{One, Two}
+use Rattle.vortex_logical_casts.specs.Casts.{text_steps, decimal_steps, integer_steps, written_steps}
 use Rattle.vortex_expressions.specs.Kinded.{plain_operand}
 use Rattle.vortex_expressions.specs.Functions.{met_with, met_values, aligned_item, aligned_items}
 use Rattle.vortex_expressions.specs.Functions.{aligned_cases, aligned_arguments, is_choice, result_item}
@@ -354,23 +369,104 @@ sure_cast_by k f t =
     sure_then IsTyped IsItem (call_of (callable f) (t ∷ [])) (λ u. answers (kinded k u))
     (sure_named_call f (t ∷ [])) (λ u j. j)
 
-sure_kind_cast : (k j : Kind) (t : Tree) → IsTyped t → Sure IsItem (kind_cast k j t)
-sure_kind_cast Date Date t h = h
-sure_kind_cast Timestamp Timestamp t h = h
-sure_kind_cast F32 F32 t h = h
-sure_kind_cast F64 F64 t h = h
-sure_kind_cast F64 j t h = sure_float_item (lowered t (Of j)) h
-sure_kind_cast Timestamp Date t h = sure_cast_by Timestamp standard.DateToTimestamp t
-sure_kind_cast Date Timestamp t h = sure_cast_by Date standard.TimestampToDate t
-sure_kind_cast k j t h = tt
+-- values after functions
+pub sure_step : (s : Step) (t : Tree) → Sure IsTyped (step_on s t)
+sure_step s t = sure_named_call s.function (t ∷ more_trees s.more)
 
-sure_plain_cast : (k : Kind) (t : Tree) → IsTyped t → Sure IsItem (plain_cast k t)
-sure_plain_cast F64 t h = sure_float_item (lowered t (plain_operand (tree_type meaning t))) h
-sure_plain_cast k t h = tt
+sure_stepped : (s : Steps) (t : Tree) → Sure IsTyped (stepped s t)
+sure_stepped (One s) t = sure_step s t
+sure_stepped (Two s r) t =
+    sure_then IsTyped IsTyped (step_on s t) (step_on r) (sure_step s t) (λ u h. sure_step r u)
 
-pub sure_cast_to_kind : (k : Kind) (i : Item) → IsItem i → Sure IsItem (cast_to_kind k i)
-sure_cast_to_kind k (literal l) h = sure_kind_item k l
-sure_cast_to_kind k (bound t) h = sure_plain_cast k t h
-sure_cast_to_kind k (kinded j t) h = sure_kind_cast k j t h
-sure_cast_to_kind k (fraction w) h = sure_kind_item k (number w)
-sure_cast_to_kind k (interval z) h = tt
+sure_kind_by : (k : Kind) (o : Option Steps) (t : Tree) → Sure IsItem (kind_by k o t)
+sure_kind_by k None t = tt
+sure_kind_by k (Some s) t =
+    sure_then IsTyped IsItem (stepped s t) (λ u. answers (kinded k u)) (sure_stepped s t) (λ u h. h)
+
+sure_instant_cast : (p : Bool) (k : Kind) (f : Standard) (t : Tree)
+    → Sure IsItem (instant_cast p k f t)
+sure_instant_cast p k f t = sure_if IsItem p _ _ tt (sure_cast_by k f t)
+
+sure_float_digits : (d : Digits) (t s : Tree) → Sure IsItem (float_digits d t s)
+sure_float_digits d t s =
+    sure_then IsTyped IsItem
+    (call_of (callable (standard.FloatOperator Multiply)) (t ∷ s ∷ []))
+    (kind_by (Decimal d) (Some (scaled_float_steps d)))
+    (sure_named_call (standard.FloatOperator Multiply) (t ∷ s ∷ []))
+    (λ u h. sure_kind_by (Decimal d) (Some (scaled_float_steps d)) u)
+
+sure_decimal_of_float : (d : Digits) (j : Kind) (t : Tree) → IsTyped t
+    → Sure IsItem (decimal_of_float d j t)
+sure_decimal_of_float d j t h =
+    let x : Lowered = lowered t (Of j) in
+    sure_then {A = Lowered} IsValue IsItem (told (as_float x)) _
+    (sure_told IsValue (as_float x) (after_made (float_function x.operand) (Of F64) x h))
+    (λ y l. sure_then {A = Lowered} Any IsItem
+    (text_literal F64 (codes "1e" ++ decimal d.scale)) (λ s. float_digits d y.tree s.tree)
+    (sure_text_literal F64 (codes "1e" ++ decimal d.scale))
+    (λ s m. sure_float_digits d y.tree s.tree))
+
+sure_float_cast : (p : Bool) (d : Digits) (j : Kind) (t : Tree) → IsTyped t
+    → Sure IsItem (float_cast p d j t)
+sure_float_cast p d j t h = sure_if IsItem p _ _ tt (sure_decimal_of_float d j t h)
+
+sure_decimal_cast : (p : Bool) (d : Digits) (j : Kind) (t : Tree) → IsTyped t
+    → Sure IsItem (decimal_cast p d j t)
+sure_decimal_cast p d F64 t h = sure_float_cast p d F64 t h
+sure_decimal_cast p d F32 t h = sure_float_cast p d F32 t h
+sure_decimal_cast p d j t h = sure_kind_by (Decimal d) (decimal_steps p d (Of j)) t
+
+sure_kind_cast : (p : Bool) (k j : Kind) (t : Tree) → IsTyped t → Sure IsItem (kind_cast p k j t)
+sure_kind_cast p Date Date t h = h
+sure_kind_cast p Timestamp Timestamp t h = h
+sure_kind_cast p F32 F32 t h = h
+sure_kind_cast p F64 F64 t h = h
+sure_kind_cast p F64 j t h = sure_float_item (lowered t (Of j)) h
+sure_kind_cast p Timestamp Date t h =
+    sure_instant_cast p Timestamp standard.DateToTimestamp t
+sure_kind_cast p Date Timestamp t h = sure_instant_cast p Date standard.TimestampToDate t
+sure_kind_cast p (Decimal d) j t h = sure_decimal_cast p d j t h
+sure_kind_cast p k j t h = tt
+
+sure_text_cast : (p : Bool) (k : Kind) (t : Tree) → Sure IsItem (text_cast p k t)
+sure_text_cast p k t = sure_kind_by k (text_steps p k) t
+
+sure_number_cast : (p : Bool) (k : Kind) (a : Operand) (t : Tree) → IsTyped t
+    → Sure IsItem (number_cast p k a t)
+sure_number_cast p F64 a t h = sure_float_item (lowered t a) h
+sure_number_cast p (Decimal d) a t h = sure_kind_by (Decimal d) (decimal_steps p d a) t
+sure_number_cast p k a t h = tt
+
+sure_plain_cast : (p : Bool) (k : Kind) (t : Tree) → IsTyped t → Sure IsItem (plain_cast p k t)
+sure_plain_cast p k t h =
+    sure_if IsItem (is_text_type (tree_type meaning t)) _ _ (sure_text_cast p k t)
+    (sure_number_cast p k (plain_operand (tree_type meaning t)) t h)
+
+sure_literal_cast : (p : Bool) (k : Kind) (l : Literal) → Sure IsItem (literal_cast p k l)
+sure_literal_cast true k (text bs) =
+    sure_then IsTyped IsItem (constant_at (text bs) (text_type false)) (text_cast true k)
+    (sure_constant (text bs) (text_type false)) (λ t h. sure_text_cast true k t)
+sure_literal_cast p k l = sure_kind_item k l
+
+pub sure_cast_to_kind : (p : Bool) (k : Kind) (i : Item) → IsItem i
+    → Sure IsItem (cast_to_kind p k i)
+sure_cast_to_kind p k (literal l) h = sure_literal_cast p k l
+sure_cast_to_kind p k (bound t) h = sure_plain_cast p k t h
+sure_cast_to_kind p k (kinded j t) h = sure_kind_cast p k j t h
+sure_cast_to_kind p k (fraction w) h = sure_kind_item k (number w)
+sure_cast_to_kind p k (interval z) h = tt
+
+-- casts from kinds
+pub sure_from_kind : (k : Kind) (o : Option Steps) (t : Tree) → Sure IsItem (from_kind k o t)
+sure_from_kind k None t = tt
+sure_from_kind k (Some s) t = sure_item (stepped s t) (sure_stepped s t)
+
+pub sure_stored_cast : (k : Kind) (u : LogicalType) (t : Tree) → Sure IsItem (stored_cast k u t)
+sure_stored_cast k (integer_type p false) t = sure_from_kind k (integer_steps k p) t
+sure_stored_cast k (text_type false) t = sure_from_kind k (written_steps k) t
+sure_stored_cast k u t = tt
+
+pub sure_fraction_cast : (w : List ℕ) (u : LogicalType) → Sure IsItem (fraction_cast w u)
+sure_fraction_cast w u =
+    sure_then {A = Lowered} Any IsItem (text_literal F64 w) (λ x. stored_cast F64 u x.tree)
+    (sure_text_literal F64 w) (λ x h. sure_stored_cast F64 u x.tree)

@@ -15,6 +15,7 @@ use Rattle.vortex_syntax.specs.Syntax.{chosen, chosen_else, nullary, applied, Ar
 use Rattle.vortex_syntax.specs.Syntax.{no_arguments, argument, Branches, without_operand}
 use Rattle.vortex_syntax.specs.Syntax.{of_operand, branch, plus, bit_not, null_tested, converted, Tested}
 use Rattle.vortex_syntax.specs.Syntax.{titled, extracted, Null, True, False, Unknown}
+use Rattle.vortex_syntax.specs.Syntax.{parted, parted_for}
 use Rattle.vortex_syntax.specs.Levels.{is_operand, Fits, AllFit, BranchesFit}
 use Rattle.vortex_syntax.specs.Spelling.{spelling, all_spelled, branches_spelled, operator_sign}
 use Rattle.vortex_syntax.specs.Spelling.{type_token, in_tokens, null_test_sign}
@@ -171,6 +172,52 @@ extract_nests p f w a k = λ d us.
     ∙ ap (λ ts. limit && nests_from (suc d) ts) (append_assoc (spelling a) close us)
     ∙ ap (λ b. limit && b) (k (suc d) (sign sign.Close ∷ us))
     ∙ sym (and_grouped limit (nests_behind (suc d) a) (nests_from d us))
+
+part_grouped : (a b c d : List Token)
+    → (a ++ (b ++ (sign sign.From ∷ (c ++ (sign sign.Close ∷ []))))) ++ d
+    ≡ a ++ (b ++ (sign sign.From ∷ (c ++ (sign sign.Close ∷ d))))
+part_grouped a b c d = simp append_assoc
+
+part_nests : (p : Bool) (f : List ℕ) (s a : Syntax) → NestsAs s → NestsAs a
+    → NestsAs (parted p f s a)
+part_nests p f s a h k = λ d us.
+    let limit = nat_lt d nesting_limit in
+    let first = nests_behind (suc d) s in
+    let rest = nests_behind (suc d) a in
+    let close : List Token = sign sign.Close ∷ us in
+    let from : List Token = sign sign.From ∷ (spelling a ++ close) in
+    ap (nests_from d) (part_grouped (function_tokens p f) (spelling s) (spelling a) us)
+    ∙ function_nests p f d (spelling s ++ from)
+    ∙ ap (λ b. limit && b)
+    (h (suc d) from ∙ ap (λ b. first && b) (k (suc d) close)
+    ∙ sym (and_grouped first rest (nests_from d us)))
+    ∙ sym (and_grouped limit (first && rest) (nests_from d us))
+
+limit_grouped : (w : List ℕ) (a b c d e : List Token)
+    → (a ++ (b ++ (sign sign.From ∷ (c ++ (token.name w ∷ (d ++ (sign sign.Close ∷ []))))))) ++ e
+    ≡ a ++ (b ++ (sign sign.From ∷ (c ++ (token.name w ∷ (d ++ (sign sign.Close ∷ e))))))
+limit_grouped w a b c d e = simp append_assoc
+
+limit_nests : (p : Bool) (f : List ℕ) (s a : Syntax) (w : List ℕ) (b : Syntax) → NestsAs s
+    → NestsAs a → NestsAs b → NestsAs (parted_for p f s a w b)
+limit_nests p f s a w b h k j = λ d us.
+    let limit = nat_lt d nesting_limit in
+    let first = nests_behind (suc d) s in
+    let second = nests_behind (suc d) a in
+    let third = nests_behind (suc d) b in
+    let close : List Token = sign sign.Close ∷ us in
+    let word : List Token = token.name w ∷ (spelling b ++ close) in
+    let from : List Token = sign sign.From ∷ (spelling a ++ word) in
+    ap (nests_from d)
+    (limit_grouped w (function_tokens p f) (spelling s) (spelling a) (spelling b) us)
+    ∙ function_nests p f d (spelling s ++ from)
+    ∙ ap (λ v. limit && v)
+    (h (suc d) from
+    ∙ ap (λ v. first && v)
+    (k (suc d) word ∙ ap (λ v. second && v) (j (suc d) close)
+    ∙ sym (and_grouped second third (nests_from d us)))
+    ∙ sym (and_grouped first (second && third) (nests_from d us)))
+    ∙ sym (and_grouped limit (first && (second && third)) (nests_from d us))
 
 in_nests : (n : Bool) (d : ℕ) (us : List Token)
     → nests_from d (in_tokens n ++ us) ≡ (nat_lt d nesting_limit && nests_from (suc d) us)
@@ -359,6 +406,10 @@ mutual
   nests_spelled (applied p w args a) f d us =
       call_nests p w args a (all_nest args f.0) (nests_spelled a f.1) d us
   nests_spelled (extracted p g w a) f d us = extract_nests p g w a (nests_spelled a f.1) d us
+  nests_spelled (parted p g s a) f d us =
+      part_nests p g s a (nests_spelled s f.1) (nests_spelled a f.2) d us
+  nests_spelled (parted_for p g s a w b) f d us =
+      limit_nests p g s a w b (nests_spelled s f.2) (nests_spelled a f.3) (nests_spelled b f.4) d us
 
   all_nest : (args : Arguments) → AllFit args → AllNestAs args
   all_nest no_arguments f d us = refl

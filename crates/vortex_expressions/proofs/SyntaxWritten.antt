@@ -1,7 +1,7 @@
 -- The tokens of the syntax of a tree can be written.
 use Rattle.std.proofs.Common.{◌≡◌, ℕ, suc, ◌<◌, ◌==◌, ◌^◌, Bool, true, false, List, [], ◌∷◌, ◌++◌}
 use Rattle.std.proofs.Common.{length, Option, Some, None, refl, ap, sym, subst, ◌∙◌, arith, ℤ, pos}
-use Rattle.std.proofs.Common.{negsuc}
+use Rattle.std.proofs.Common.{negsuc, ◌||◌}
 use Rattle.std.specs.Prelude.{codes, nat_le, if◌then◌else◌, ◌≤ℤ◌}
 use Rattle.std.specs.List.{list_all}
 use Rattle.std.specs.Char.{is_ascii_digit}
@@ -42,7 +42,7 @@ use Rattle.vortex_syntax.specs.declared.pieces.Run.TheVariants.{Digits}
 use Rattle.vortex_syntax.specs.Pieces.{behind, behind_fraction, behind_exponent, begins_number}
 use Rattle.vortex_syntax.specs.Writing.{is_bare, is_word, IsNumber, name_token, text_token}
 use Rattle.vortex_syntax.proofs.Runs.{behind_all}
-use Rattle.vortex_syntax.specs.Writing.{doubled, IsWritable, AllWritable}
+use Rattle.vortex_syntax.specs.Writing.{doubled, IsWritable, AllWritable, is_sized}
 use Rattle.vortex_standard.specs.Names.{name_of}
 use Rattle.vortex_expressions.specs.Items.{Tree}
 use Rattle.vortex_expressions.specs.Writing.{at_level, value_syntax, type_name, is_own_type}
@@ -56,7 +56,7 @@ use Rattle.vortex_expressions.proofs.SyntaxLevels.{literal_is, AllSyntax, at_pla
 use Rattle.vortex_expressions.proofs.SyntaxLevels.{each_present}
 use Rattle.vortex_expressions.proofs.NamedSyntax.{AllOf, spelled_from, call_spelled}
 use Rattle.vortex_expressions.proofs.NamedSyntax.{spelling_named}
-use Rattle.vortex_expressions.proofs.FunctionNames.{bare_name}
+use Rattle.vortex_expressions.proofs.FunctionNames.{bare_name, unsized_name}
 
 abbrev Trees : Type 0
 Trees = trees.Trees Standard EmptyOptions
@@ -72,7 +72,7 @@ name_written : (w : List ℕ) → IsWritable (name_token w)
 name_written w = by (is_bare w) refl
   where
     by : (b : Bool) → is_bare w ≡ b → IsWritable (if b then token.name w else quoted (doubled 34 w))
-    by true h = h
+    by true h = ap (λ b. b || is_sized w) h
     by false h = (w, refl)
 
 no_point : (d : ℕ) → is_ascii_digit d ≡ true → (d == 46) ≡ false
@@ -122,7 +122,7 @@ escape_written_is e = by (is_own_escape e)
 word_written : (w : List ℕ) (n : Bool) → is_bare w ≡ true → is_word w ≡ true
     → IsWritable (type_token w n)
 word_written w true b h = h
-word_written w false b h = b
+word_written w false b h = ap (λ v. v || is_sized w) b
 
 pub bool_written : (n : Bool) → IsWritable (type_token (codes "bool") n)
 unfolding keyword_of
@@ -299,7 +299,8 @@ call_written (a ∷ bs) h = spelled_written a bs h.0 h.1
 named_written : (f : Standard) (bs : List Syntax) → AllOf Writes bs
     → Writes (named_syntax (name_of f) bs)
 named_written f bs h =
-    subst AllWritable (sym (spelling_named (name_of f) bs)) (bare_name f, call_written bs h)
+    subst AllWritable (sym (spelling_named (name_of f) bs))
+    ((bare_name f, unsized_name f), call_written bs h)
 
 module _ (scope : Fields) where
   mutual

@@ -37,7 +37,10 @@ use Rattle.vortex_expressions.specs.Calls.{negated_item, listed_item, distinct_i
 use Rattle.vortex_expressions.specs.Calls.{conditions_of}
 use Rattle.vortex_expressions.specs.KindWords.{kind_word}
 use Rattle.vortex_expressions.specs.Functions.{call_kind, function_item, standard_item, meant_item}
-use Rattle.vortex_expressions.specs.Functions.{applied_item, made_date, applied_by}
+use Rattle.vortex_expressions.specs.Functions.{applied_item, made_date, whole_item, kinds_item}
+use Rattle.vortex_expressions.specs.Functions.{applied_by, joined_call, joining_item, kinded_item}
+use Rattle.vortex_expressions.specs.Joining.{joins, joined_texts}
+use Rattle.vortex_expressions.specs.Calls.{is_concat, concat_item}
 use Rattle.vortex_expressions.specs.Binding.{LogicalTree, item_by, items_by, branches_by, with_item}
 use Rattle.vortex_expressions.specs.Binding.{of_items, ended, logical_of}
 use Rattle.vortex_expressions.specs.FunctionRows.{FunctionsCallInKind, IsCall}
@@ -67,10 +70,24 @@ tree_is : (u : Tree) (t : LogicalTree) → ended (bound u) ≡ answers t → t.t
 tree_is u t e =
     ap (λ x. x.tree) (sym (answers_is (record { tree = u; kind = Plain }) t e))
 
-joined_kinded : (o : WrittenOperator) (i j r : Item) → (is_kinded i || is_kinded j) ≡ true
-    → joined_item o i j ≡ answers r → kinded_joined o i j ≡ answers r
-joined_kinded o i j r h e =
-    ap (λ b. cond b (kinded_joined o i j) (plain_joined o i j)) (sym h) ∙ e
+joined_kinded : (o : WrittenOperator) (i j r : Item) → is_concat o ≡ false
+    → (is_kinded i || is_kinded j) ≡ true → joined_item o i j ≡ answers r
+    → kinded_joined o i j ≡ answers r
+joined_kinded o i j r c h e =
+    ap (λ b. cond b (kinded_joined o i j) (plain_joined o i j)) (sym h)
+    ∙ ap (λ b. cond b (concat_item i j)
+    (cond (is_kinded i || is_kinded j) (kinded_joined o i j) (plain_joined o i j))) (sym c) ∙ e
+
+-- what compares or computes joins no texts
+compares_apart : (o : WrittenOperator) (op : CompareOperator) → kinded_operator o ≡ compares op
+    → is_concat o ≡ false
+compares_apart written.Concat op c = cc
+compares_apart o op c = refl
+
+computes_apart : (o : WrittenOperator) (op : NumericOperator) → kinded_operator o ≡ computes op
+    → is_concat o ≡ false
+computes_apart written.Concat op c = cc
+computes_apart o op c = refl
 
 beside_of : (o : WrittenOperator) (i j r : Item) → (is_interval i || is_interval j) ≡ false
     → kinded_joined o i j ≡ answers r
@@ -123,7 +140,8 @@ module _ (scope : Fields) (kinds : List Kind) where
       (λ x. and_then (item_by names b) (joined_item o x))) ended t e in
       let r = whole.a in
       let one = parts_are (item_by names a) (item_by names b) (joined_item o) i j r h k whole.first in
-      let beside = compared_beside o op i j r c (joined_kinded o i j r g one) in
+      let beside =
+      compared_beside o op i j r c (joined_kinded o i j r (compares_apart o op c) g one) in
       let left = then_is (item_operand (first_kind (i ∷ j ∷ [])) i) _ r beside in
       let right = then_is (item_operand (first_kind (i ∷ j ∷ [])) j) _ r left.second in
       let done = item_told (told (compared op left.a right.a)) r right.second in
@@ -140,7 +158,7 @@ module _ (scope : Fields) (kinds : List Kind) where
       let r = whole.a in
       let one = parts_are (item_by names a) (item_by names b) (joined_item o) i j r h k whole.first in
       let beside = ap (λ q. joined_beside (first_kind (i ∷ j ∷ [])) q i j) (sym c)
-      ∙ beside_of o i j r n (joined_kinded o i j r g one) in
+      ∙ beside_of o i j r n (joined_kinded o i j r (computes_apart o op c) g one) in
       let left = then_is (item_operand (first_kind (i ∷ j ∷ [])) i) _ r beside in
       let right = then_is (item_operand (first_kind (i ∷ j ∷ [])) j) _ r left.second in
       let done = then_is (told (computed op left.a right.a))
@@ -287,14 +305,44 @@ module _ (scope : Fields) (kinds : List Kind) where
         by true h = h
         by false h = ap (λ (o : Option KindName). meant_item o w is) (sym k) ∙ h
 
+    -- over columns with kinds that of texts takes more
+    joins_plain : (f : Standard) (is : List Item) → joins f ≡ true → is_plain (call_kind f is) ≡ true
+    joins_plain standard.ConcatAll is h = refl
+    joins_plain standard.ConcatWs is h = refl
+    joins_plain f is h = cc
+
+    named_kinds : (w : List ℕ) (f : Standard) (is : List Item) (r : Item) → kind_word w ≡ None
+        → standard_named w ≡ Some f → kinds_item w is ≡ answers r → IsCall f is answers r
+    named_kinds w f is r k n e =
+        let one : joining_item w is ≡ answers r = by (is_plain (first_kind is)) e in
+        let two : joined_call f is ≡ answers r =
+        ap (λ o. and_then (or_refuses NoFunction o) (λ g. joined_call g is)) (sym n) ∙ one in
+        choose (joins f) refl two
+      where
+        by : (b : Bool)
+            → cond b (whole_item (kind_word w) w is) (kinded_item (kind_word w) w is) ≡ answers r
+            → joining_item w is ≡ answers r
+        by true h = ap (λ (o : Option KindName). whole_item o w is) (sym k) ∙ h
+        by false h = ap (λ (o : Option KindName). kinded_item o w is) (sym k) ∙ h
+
+        choose : (b : Bool) → joins f ≡ b
+            → cond b (joined_texts f is) (function_item f is) ≡ answers r → IsCall f is answers r
+        choose true j h =
+            record {
+              called = r;
+              calls = λ p. (let no : true ≡ false = sym (joins_plain f is j) ∙ p in absurd cc);
+              made = refl;
+            }
+        choose false j h = record { called = r; calls = λ p. law f is r p h; made = refl }
+
     -- that of no date
     named_by : (h : Bool) (w : List ℕ) (f : Standard) (is : List Item) (r : Item)
         → same_word w (codes "make_date") ≡ false → kind_word w ≡ None
         → standard_named w ≡ Some f → applied_by h w is ≡ answers r → IsCall f is answers r
     named_by false w f is r m k n e = named_call w f is r k n e
     named_by true w f is r m k n e =
-        named_call w f is r k n
-        (ap (λ b. cond b (made_date is) (applied_item w is)) (sym m) ∙ e)
+        named_kinds w f is r k n
+        (ap (λ b. cond b (made_date is) (kinds_item w is)) (sym m) ∙ e)
 
     names_call : NamesCall scope kinds
     names_call p w args a f us t m k n h e =

@@ -6,7 +6,7 @@ use Rattle.vortex_syntax.specs.Syntax.{minus, tested, distinct, between, matched
 use Rattle.vortex_syntax.specs.Syntax.{chosen, chosen_else, nullary, applied, Arguments}
 use Rattle.vortex_syntax.specs.Syntax.{no_arguments, argument, Branches, without_operand}
 use Rattle.vortex_syntax.specs.Syntax.{of_operand, branch, plus, bit_not, null_tested, converted}
-use Rattle.vortex_syntax.specs.Syntax.{titled, extracted}
+use Rattle.vortex_syntax.specs.Syntax.{titled, extracted, parted, parted_for}
 use Rattle.vortex_syntax.specs.Tokens.{text}
 use Rattle.vortex_syntax.specs.declared.step.Test.TheVariants as test
 use Rattle.vortex_syntax.specs.Grammar.{Reads}
@@ -76,6 +76,12 @@ module _ (columns : Names) where
     item_by (extracted p f w a) =
         of_items (applied_by columns.has_kinds f)
         (with_item (with_item (answers []) (operand_by columns (text w))) (item_by a))
+    item_by (parted p f s a) =
+        of_items (applied_by columns.has_kinds f)
+        (with_item (with_item (answers []) (item_by s)) (item_by a))
+    item_by (parted_for p f s a w b) =
+        of_items (applied_by columns.has_kinds f)
+        (with_item (with_item (with_item (answers []) (item_by s)) (item_by a)) (item_by b))
 
     -- items after these; the last is first
     pub items_by : Outcome (List Item) → Arguments → Outcome (List Item)

@@ -32,7 +32,6 @@ use Rattle.vortex_syntax.specs.declared.token.Sign.TheVariants as sign
 use Rattle.vortex_syntax.specs.Tokens.{Token, name, nullable, function, quoted, number, text, sign}
 use Rattle.vortex_expressions.specs.declared.refusal.Refusal.TheVariants.{NotUtf8, UnknownType}
 use Rattle.vortex_expressions.specs.declared.refusal.Refusal.TheVariants.{NoEscape, Binding, Kinds}
-use Rattle.vortex_expressions.specs.declared.refusal.Refusal.TheVariants.{NoCast}
 use Rattle.vortex_expressions.specs.Literals as literal
 use Rattle.vortex_expressions.specs.Literals.{Literal, has_fraction}
 use Rattle.vortex_expressions.specs.Outcomes.{Outcome, answers, refuses, missing, and_then}
@@ -41,13 +40,14 @@ use Rattle.vortex_expressions.specs.Items.{Item, literal, bound, kinded, fractio
 use Rattle.vortex_expressions.specs.Items.{meaning, Callable, called, common_type}
 use Rattle.vortex_expressions.specs.Applied.{callable, function_call}
 use Rattle.vortex_expressions.specs.Functions.{function_item}
+use Rattle.vortex_expressions.specs.Joining.{as_text}
 use Rattle.vortex_expressions.specs.Items.{constant_at}
 pub use Rattle.vortex_expressions.specs.Items.{as_item, truth_type}
 use Rattle.vortex_expressions.specs.TypeNames.{named_type}
 pub use Rattle.vortex_expressions.specs.Casts.{cast_to}
 pub use Rattle.vortex_expressions.specs.Kinded.{is_kinded, kinded_joined, kinded_between, within_bounds}
 pub use Rattle.vortex_expressions.specs.Kinded.{stored_item, is_plain, stores}
-use Rattle.vortex_expressions.specs.KindCasts.{word_kind, kind_item, cast_to_kind, float_cast}
+use Rattle.vortex_expressions.specs.KindCasts.{word_kind, kind_item, cast_to_kind, stored_cast}
 use Rattle.vortex_expressions.specs.KindCasts.{fraction_cast, is_interval_name, interval_item}
 
 -- In quotes each quote is doubled, and the second of two is skipped: the mark is true after the
@@ -175,16 +175,16 @@ abbrev pub typed_by : Bool → List ℕ → Bool → Item → Outcome Item
 typed_by false w n i = typed_item w n i
 typed_by true w n i = and_then (kind_of_name w n) (typed_named w n i)
 
--- a cast to the type of that name; floats are rounded, but by `try_cast`
+-- a cast to the type of that name; values of kinds are rounded and written, but by `try_cast`
 abbrev pub cast_of_kind : Bool → List ℕ → Bool → Item → Outcome Item
-cast_of_kind false w n (kinded F64 t) = and_then (type_of_name w n) (λ u. float_cast u t)
+cast_of_kind false w n (kinded k t) = and_then (type_of_name w n) (λ u. stored_cast k u t)
 cast_of_kind false w n (fraction v) = and_then (type_of_name w n) (fraction_cast v)
 cast_of_kind p w n i = cast_item p w n i
 
 -- a cast to the kind or the type of that name
 abbrev pub cast_named : Bool → List ℕ → Bool → Item → Option Kind → Outcome Item
 cast_named p w n i None = cast_of_kind p w n i
-cast_named p w n i (Some k) = if p then refuses NoCast else cast_to_kind k i
+cast_named p w n i (Some k) = cast_to_kind p k i
 
 abbrev pub cast_by : Bool → Bool → List ℕ → Bool → Item → Outcome Item
 cast_by false p w n i = cast_item p w n i
@@ -232,9 +232,19 @@ abbrev pub plain_joined : syntax.WrittenOperator → Item → Item → Outcome I
 plain_joined o a b =
     let is = a ∷ b ∷ [] in as_item (called (written_function o) (joined_type o is) is)
 
+-- one text after the other: what is no text becomes one
+abbrev pub is_concat : syntax.WrittenOperator → Bool
+is_concat written.Concat = true
+is_concat o = false
+
+abbrev pub concat_item : Item → Item → Outcome Item
+concat_item a b =
+    and_then (as_text a) (λ x. and_then (as_text b) (λ y. plain_joined written.Concat x y))
+
 abbrev pub joined_item : syntax.WrittenOperator → Item → Item → Outcome Item
 joined_item o a b =
-    if is_kinded a || is_kinded b then kinded_joined o a b else plain_joined o a b
+    if is_concat o then concat_item a b
+    else (if is_kinded a || is_kinded b then kinded_joined o a b else plain_joined o a b)
 
 -- a test of a truth value; null is one
 abbrev pub truth_test : Standard → Bool → Item → Outcome Item

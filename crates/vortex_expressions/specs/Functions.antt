@@ -15,13 +15,18 @@ use Rattle.vortex_standard.specs.declared.standard.Standard.TheVariants as stand
 use Rattle.vortex_standard.specs.Standard.{row_of}
 use Rattle.vortex_standard.specs.Names.{standard_named}
 use Rattle.vortex_expressions.specs.declared.refusal.Refusal.TheVariants.{NoFunction}
+use Rattle.vortex_sql_float_functions.specs.declared.functions.FloatFunction.{FloatFunction}
+use Rattle.vortex_sql_float_functions.specs.declared.functions.FloatFunction.TheVariants as float
+use Rattle.vortex_expressions.specs.declared.kind_words.KindFunction.TheVariants.{OfFloat}
 use Rattle.vortex_expressions.specs.declared.kind_words.KindName.{KindName}
+use Rattle.vortex_expressions.specs.declared.kind_words.KindName.TheVariants.{Single}
 use Rattle.vortex_expressions.specs.Outcomes.{Outcome, answers, and_then, or_refuses}
 use Rattle.vortex_expressions.specs.Items.{Item, bound, kinded, Tree, as_item}
 use Rattle.vortex_expressions.specs.Applied.{values_of, function_call}
 use Rattle.vortex_expressions.specs.Kinded.{told, first_kind, is_plain, item_operand, value_item}
 use Rattle.vortex_expressions.specs.KindWords.{kind_word}
-use Rattle.vortex_expressions.specs.KindFunctions.{kind_call}
+use Rattle.vortex_expressions.specs.KindFunctions.{single_call, kind_call}
+use Rattle.vortex_expressions.specs.Joining.{joins, joined_texts}
 
 -- functions that return one of their values
 abbrev pub is_choice : Standard → Bool
@@ -114,8 +119,37 @@ applied_item w is =
 abbrev pub made_date : List Item → Outcome Item
 made_date is = and_then (function_call standard.MakeDate is) (λ t. answers (kinded Date t))
 
+-- functions of numbers take whole numbers as floats, but for those that whole numbers have, too
+abbrev pub takes_whole : FloatFunction → Bool
+takes_whole float.Abs = false
+takes_whole float.Sign = false
+takes_whole f = true
+
+-- the function of that name; one that makes a text of several takes values of each type
+abbrev pub joined_call : Standard → List Item → Outcome Item
+joined_call f is = if joins f then joined_texts f is else function_item f is
+
+abbrev pub joining_item : List ℕ → List Item → Outcome Item
+joining_item w is = and_then (or_refuses NoFunction (standard_named w)) (λ f. joined_call f is)
+
+-- what a name means without a value of a kind, over columns with kinds
+abbrev pub whole_item : Option KindName → List ℕ → List Item → Outcome Item
+whole_item (Some (Single (OfFloat f))) w is =
+    if takes_whole f then single_call (OfFloat f) is else joining_item w is
+whole_item o w is = joining_item w is
+
+-- what it means next to one
+abbrev pub kinded_item : Option KindName → List ℕ → List Item → Outcome Item
+kinded_item (Some n) w is = kind_call n is
+kinded_item None w is = joining_item w is
+
+abbrev pub kinds_item : List ℕ → List Item → Outcome Item
+kinds_item w is =
+    if is_plain (first_kind is) then whole_item (kind_word w) w is
+    else kinded_item (kind_word w) w is
+
 -- what a name means in a text, over columns with kinds where the flag is true
 abbrev pub applied_by : Bool → List ℕ → List Item → Outcome Item
 applied_by false w is = applied_item w is
 applied_by true w is =
-    if same_word w (codes "make_date") then made_date is else applied_item w is
+    if same_word w (codes "make_date") then made_date is else kinds_item w is

@@ -1,7 +1,11 @@
 -- Literals of kinds by name, and casts from and to kinds.
 use Rattle.std.specs.Prelude.{ℕ, ℤ, List, [], ◌∷◌, Bool, true, false, ◌||◌, Option, Some, None}
-use Rattle.std.specs.Prelude.{codes, if◌then◌else◌}
-use Rattle.vortex_types.specs.LogicalTypes.{LogicalType, integer_type}
+use Rattle.std.specs.Prelude.{codes, pos, ◌++◌, if◌then◌else◌}
+use Rattle.std.specs.Fmt.{decimal}
+use Rattle.vortex_types.specs.declared.dtype.PType.TheVariants.{I64}
+use Rattle.vortex_types.specs.LogicalTypes.{LogicalType, integer_type, text_type}
+use Rattle.vortex_columns.specs.ScalarOf.{int_scalar}
+use Rattle.vortex_interface.specs.Trees.{constant}
 use Rattle.vortex_interface.specs.Eval.{tree_type}
 use Rattle.vortex_syntax.specs.Keywords.{same_word}
 use Rattle.vortex_logical.specs.declared.kind.Kind.{Kind}
@@ -9,6 +13,17 @@ use Rattle.vortex_logical.specs.declared.kind.Kind.TheVariants.{Date, Timestamp,
 use Rattle.vortex_logical.specs.declared.kind.Kind.TheVariants.{F64, F32}
 use Rattle.vortex_logical.specs.declared.operand.Operand.{Operand}
 use Rattle.vortex_logical.specs.declared.operand.Operand.TheVariants.{Whole, Of}
+use Rattle.vortex_logical.specs.Kinds.{decimal_kind, digit_of, teen_of}
+use Rattle.vortex_syntax.specs.SizeDigits.{sizes_of}
+use Rattle.vortex_logical_casts.specs.declared.steps.Step.{Step}
+use Rattle.vortex_logical_casts.specs.declared.steps.Steps.{Steps}
+use Rattle.vortex_logical_casts.specs.declared.steps.Steps.TheVariants.{One, Two}
+use Rattle.vortex_logical_casts.specs.declared.steps.More.{More}
+use Rattle.vortex_logical_casts.specs.declared.steps.More.TheVariants as more
+use Rattle.vortex_logical_casts.specs.Casts.{text_steps, decimal_steps, integer_steps, written_steps}
+use Rattle.vortex_logical_casts.specs.Casts.{scaled_float_steps}
+use Rattle.vortex_logical.specs.Digits.{Digits}
+use Rattle.vortex_sql_floats.specs.declared.floats.FloatOperator.TheVariants.{Multiply}
 use Rattle.vortex_lowering.specs.Rows.{lowered}
 use Rattle.vortex_logical_calls.specs.Calls.{Lowered}
 use Rattle.vortex_logical_calls.specs.Conversions.{as_float}
@@ -19,24 +34,41 @@ use Rattle.vortex_expressions.specs.declared.refusal.Refusal.TheVariants.{NoCast
 use Rattle.vortex_expressions.specs.Literals.{Literal, number, text, truth, null}
 use Rattle.vortex_expressions.specs.Outcomes.{Outcome, answers, refuses, and_then}
 use Rattle.vortex_expressions.specs.Items.{Item, literal, bound, kinded, fraction, interval, Tree}
-use Rattle.vortex_expressions.specs.Items.{meaning, as_item}
+use Rattle.vortex_expressions.specs.Items.{meaning, as_item, constant_at}
 use Rattle.vortex_expressions.specs.Items.{callable, call_of}
 use Rattle.vortex_expressions.specs.Kinded.{told, text_literal, null_literal, plain_operand}
 use Rattle.vortex_expressions.specs.Kinded.{value_item}
 
 -- the kinds with a name in texts, in either case
 abbrev pub is_f64 : List ℕ → Bool
-is_f64 w = same_word w (codes "f64") || same_word w (codes "float8")
+is_f64 w =
+    (same_word w (codes "f64") || same_word w (codes "float8"))
+    || (same_word w (codes "float") || same_word w (codes "double"))
 
 abbrev pub is_f32 : List ℕ → Bool
 is_f32 w =
     same_word w (codes "f32") || (same_word w (codes "float4") || same_word w (codes "real"))
 
+-- a number from 0 to 19
+abbrev pub count_of : List ℕ → Option ℕ
+count_of (b ∷ []) = digit_of b
+count_of (t ∷ b ∷ []) = teen_of t b
+count_of bs = None
+
+abbrev pub digits_kind : Option ℕ → Option ℕ → Option Kind
+digits_kind (Some p) (Some s) = decimal_kind p s
+digits_kind p s = None
+
+-- the decimal of precision and scale
+abbrev pub sized_kind : Option (List ℕ × List ℕ) → Option Kind
+sized_kind None = None
+sized_kind (Some x) = digits_kind (count_of x.0) (count_of x.1)
+
 abbrev pub word_kind : List ℕ → Option Kind
 word_kind w =
     if same_word w (codes "date") then Some Date
     else (if same_word w (codes "timestamp") then Some Timestamp
-    else (if is_f64 w then Some F64 else (if is_f32 w then Some F32 else None)))
+    else (if is_f64 w then Some F64 else (if is_f32 w then Some F32 else sized_kind (sizes_of w))))
 
 -- a literal of a kind
 abbrev pub kind_literal : Kind → Literal → Outcome Lowered
@@ -61,43 +93,116 @@ float_item x =
     then and_then (told (as_float x)) (λ y. answers (value_item y.operand y.tree))
     else refuses NoCast
 
+-- whole numbers after a value among the arguments
+abbrev pub whole_tree : ℕ → Tree
+whole_tree n = constant (int_scalar I64 (pos n))
+
+abbrev pub more_trees : More → List Tree
+more_trees more.Nothing = []
+more_trees (more.One n) = whole_tree n ∷ []
+more_trees (more.Two n m) = whole_tree n ∷ whole_tree m ∷ []
+
+-- a value after functions, the first one first
+abbrev pub step_on : Step → Tree → Outcome Tree
+step_on s t = call_of (callable s.function) (t ∷ more_trees s.more)
+
+abbrev pub stepped : Steps → Tree → Outcome Tree
+stepped (One s) t = step_on s t
+stepped (Two s r) t = and_then (step_on s t) (step_on r)
+
+abbrev pub kind_by : Kind → Option Steps → Tree → Outcome Item
+kind_by k None t = refuses NoCast
+kind_by k (Some s) t = and_then (stepped s t) (λ u. answers (kinded k u))
+
 -- a value that a function makes one of the kind
 abbrev pub cast_by : Kind → Standard → Tree → Outcome Item
 cast_by k f t = and_then (call_of (callable f) (t ∷ [])) (λ u. answers (kinded k u))
 
--- a value of the first kind as one of the second: of its own kind it is unchanged, each number
--- has a nearest float, and a date is a timestamp's day, which is its midnight
-abbrev pub kind_cast : Kind → Kind → Tree → Outcome Item
-kind_cast Date Date t = answers (kinded Date t)
-kind_cast Timestamp Timestamp t = answers (kinded Timestamp t)
-kind_cast F32 F32 t = answers (kinded F32 t)
-kind_cast F64 F64 t = answers (kinded F64 t)
-kind_cast F64 j t = float_item (lowered t (Of j))
-kind_cast Timestamp Date t = cast_by Timestamp standard.DateToTimestamp t
-kind_cast Date Timestamp t = cast_by Date standard.TimestampToDate t
-kind_cast k j t = refuses NoCast
+-- by `try_cast`, of what may fault only texts and numbers
+abbrev pub instant_cast : Bool → Kind → Standard → Tree → Outcome Item
+instant_cast p k f t = if p then refuses NoCast else cast_by k f t
 
-abbrev pub plain_cast : Kind → Tree → Outcome Item
-plain_cast F64 t = float_item (lowered t (plain_operand (tree_type meaning t)))
-plain_cast k t = refuses NoCast
+-- a float times ten to the scale, as so many digits; by `try_cast` none
+abbrev pub float_digits : Digits → Tree → Tree → Outcome Item
+float_digits d t s =
+    and_then (call_of (callable (standard.FloatOperator Multiply)) (t ∷ s ∷ []))
+    (kind_by (Decimal d) (Some (scaled_float_steps d)))
+
+abbrev pub decimal_of_float : Digits → Kind → Tree → Outcome Item
+decimal_of_float d j t =
+    and_then (told (as_float (lowered t (Of j)))) (λ x.
+    and_then (text_literal F64 (codes "1e" ++ decimal d.scale)) (λ s. float_digits d x.tree s.tree))
+
+abbrev pub float_cast : Bool → Digits → Kind → Tree → Outcome Item
+float_cast p d j t = if p then refuses NoCast else decimal_of_float d j t
+
+-- a value of a kind as a decimal
+abbrev pub decimal_cast : Bool → Digits → Kind → Tree → Outcome Item
+decimal_cast p d F64 t = float_cast p d F64 t
+decimal_cast p d F32 t = float_cast p d F32 t
+decimal_cast p d j t = kind_by (Decimal d) (decimal_steps p d (Of j)) t
+
+-- a value of the first kind as one of the second, by `try_cast` if the flag is true: of its own kind
+-- it is unchanged, each number has a nearest float, and a date is a timestamp's day, which is its
+-- midnight
+abbrev pub kind_cast : Bool → Kind → Kind → Tree → Outcome Item
+kind_cast p Date Date t = answers (kinded Date t)
+kind_cast p Timestamp Timestamp t = answers (kinded Timestamp t)
+kind_cast p F32 F32 t = answers (kinded F32 t)
+kind_cast p F64 F64 t = answers (kinded F64 t)
+kind_cast p F64 j t = float_item (lowered t (Of j))
+kind_cast p Timestamp Date t = instant_cast p Timestamp standard.DateToTimestamp t
+kind_cast p Date Timestamp t = instant_cast p Date standard.TimestampToDate t
+kind_cast p (Decimal d) j t = decimal_cast p d j t
+kind_cast p k j t = refuses NoCast
+
+-- from a text
+abbrev pub text_cast : Bool → Kind → Tree → Outcome Item
+text_cast p k t = kind_by k (text_steps p k) t
+
+-- from a whole number
+abbrev pub number_cast : Bool → Kind → Operand → Tree → Outcome Item
+number_cast p F64 a t = float_item (lowered t a)
+number_cast p (Decimal d) a t = kind_by (Decimal d) (decimal_steps p d a) t
+number_cast p k a t = refuses NoCast
+
+-- from a text or a whole number
+abbrev pub is_text_type : Option LogicalType → Bool
+is_text_type (Some (text_type n)) = true
+is_text_type o = false
+
+abbrev pub plain_cast : Bool → Kind → Tree → Outcome Item
+plain_cast p k t =
+    if is_text_type (tree_type meaning t) then text_cast p k t
+    else number_cast p k (plain_operand (tree_type meaning t)) t
+
+-- a literal is one of the kind; by `try_cast` a text is cast like any other
+abbrev pub literal_cast : Bool → Kind → Literal → Outcome Item
+literal_cast true k (text bs) =
+    and_then (constant_at (text bs) (text_type false)) (text_cast true k)
+literal_cast p k l = kind_item k l
 
 -- a cast to a kind
-abbrev pub cast_to_kind : Kind → Item → Outcome Item
-cast_to_kind k (literal l) = kind_item k l
-cast_to_kind k (bound t) = plain_cast k t
-cast_to_kind k (kinded j t) = kind_cast k j t
-cast_to_kind k (fraction w) = kind_item k (number w)
-cast_to_kind k (interval z) = refuses NoCast
+abbrev pub cast_to_kind : Bool → Kind → Item → Outcome Item
+cast_to_kind p k (literal l) = literal_cast p k l
+cast_to_kind p k (bound t) = plain_cast p k t
+cast_to_kind p k (kinded j t) = kind_cast p k j t
+cast_to_kind p k (fraction w) = kind_item k (number w)
+cast_to_kind p k (interval z) = refuses NoCast
 
--- a float to the nearest integer, from halfway to the even one
-abbrev pub float_cast : LogicalType → Tree → Outcome Item
-float_cast (integer_type p false) t =
-    as_item (call_of (callable (standard.FloatToInt (record { ptype = p }))) (t ∷ []))
-float_cast u t = refuses (OfKind F64)
+abbrev pub from_kind : Kind → Option Steps → Tree → Outcome Item
+from_kind k None t = refuses (OfKind k)
+from_kind k (Some s) t = as_item (stepped s t)
+
+-- a value of a kind as the nearest integer, or as a text
+abbrev pub stored_cast : Kind → LogicalType → Tree → Outcome Item
+stored_cast k (integer_type p false) t = from_kind k (integer_steps k p) t
+stored_cast k (text_type false) t = from_kind k (written_steps k) t
+stored_cast k u t = refuses (OfKind k)
 
 -- a number with a fraction is a float of 64 bits
 abbrev pub fraction_cast : List ℕ → LogicalType → Outcome Item
-fraction_cast w u = and_then (text_literal F64 w) (λ x. float_cast u x.tree)
+fraction_cast w u = and_then (text_literal F64 w) (λ x. stored_cast F64 u x.tree)
 
 -- the microseconds of a text
 abbrev pub is_interval_name : List ℕ → Bool → Bool

@@ -1,15 +1,25 @@
 -- Calls of functions on values of kinds: of numbers as floats, of dates and timestamps.
-use Rattle.std.specs.Prelude.{ℕ, List, [], ◌∷◌, Bool, true, false, length, if◌then◌else◌}
+use Rattle.std.specs.Prelude.{ℕ, List, [], ◌∷◌, ◌++◌, Bool, true, false, length, codes}
+use Rattle.std.specs.Prelude.{Option, Some, None, if◌then◌else◌}
+use Rattle.std.specs.Option.{option_map}
+use Rattle.vortex_interface.specs.Eval.{tree_type}
 use Rattle.vortex_errors.specs.declared.arity.Arity.TheVariants.{Exact}
 use Rattle.vortex_errors.specs.declared.error.VortexError.TheVariants.{ArityMismatch, TypeMismatch}
 use Rattle.vortex_errors.specs.declared.error.MismatchPlace.TheVariants.{Scalars}
 use Rattle.vortex_logical.specs.declared.kind.Kind.{Kind}
 use Rattle.vortex_logical.specs.declared.kind.Kind.TheVariants.{Date, Timestamp, Decimal}
 use Rattle.vortex_logical.specs.declared.kind.Kind.TheVariants.{F64, F32}
-use Rattle.vortex_logical.specs.declared.operand.Operand.TheVariants.{Of}
+use Rattle.vortex_logical.specs.declared.operand.Operand.{Operand}
+use Rattle.vortex_logical.specs.declared.operand.Operand.TheVariants.{Whole, Of}
+use Rattle.vortex_logical.specs.Digits.{Digits}
+use Rattle.vortex_logical_casts.specs.declared.roundings.Rounded.{Rounded}
+use Rattle.vortex_logical_casts.specs.Roundings.{is_rounding, rounded}
 use Rattle.vortex_lowering.specs.Rows.{lowered}
+use Rattle.vortex_logical_calls.specs.Calls.{Lowered}
 use Rattle.vortex_logical_calls.specs.Conversions.{as_float}
 use Rattle.vortex_sql_float_functions.specs.declared.functions.FloatFunction.{FloatFunction}
+use Rattle.vortex_sql_float_functions.specs.declared.functions.FloatFunction.TheVariants as float
+use Rattle.vortex_sql_floats.specs.declared.floats.FloatOperator.TheVariants.{Multiply, Divide}
 use Rattle.vortex_sql_dates.specs.declared.parts.Part.{Part}
 use Rattle.vortex_sql_dates.specs.declared.truncations.Unit as units
 use Rattle.vortex_standard.specs.declared.standard.Standard.{Standard}
@@ -22,12 +32,13 @@ use Rattle.vortex_expressions.specs.declared.kind_words.KindFunction.TheVariants
 use Rattle.vortex_expressions.specs.declared.kind_words.KindFunction.TheVariants.{ToUnit}
 use Rattle.vortex_expressions.specs.declared.kind_words.KindName.{KindName}
 use Rattle.vortex_expressions.specs.declared.kind_words.KindName.TheVariants.{Single, PartByText}
-use Rattle.vortex_expressions.specs.declared.kind_words.KindName.TheVariants.{UnitByText}
-use Rattle.vortex_expressions.specs.Literals.{text}
+use Rattle.vortex_expressions.specs.declared.kind_words.KindName.TheVariants.{UnitByText, AddMonths}
+use Rattle.vortex_expressions.specs.Literals.{number, text}
 use Rattle.vortex_expressions.specs.Outcomes.{Outcome, answers, refuses, and_then, or_refuses}
 use Rattle.vortex_expressions.specs.Items.{Item, literal, bound, kinded, fraction, Tree, as_item}
-use Rattle.vortex_expressions.specs.Items.{callable, call_of}
-use Rattle.vortex_expressions.specs.Kinded.{told, text_literal}
+use Rattle.vortex_expressions.specs.Items.{meaning, callable, call_of, settled}
+use Rattle.vortex_expressions.specs.Kinded.{told, text_literal, plain_operand}
+use Rattle.vortex_expressions.specs.KindCasts.{step_on, count_of}
 use Rattle.vortex_expressions.specs.KindWords.{part_word, unit_word}
 
 abbrev pub other_types : BindStop
@@ -42,14 +53,79 @@ is_numeric F32 = true
 is_numeric F64 = true
 is_numeric k = false
 
+-- a number as the nearest float
+abbrev pub whole_float : Operand → Tree → Outcome Lowered
+whole_float (Whole p) t = told (as_float (lowered t (Whole p)))
+whole_float a t = refuses (Binding (TypeMismatch Scalars))
+
+abbrev pub kind_float : Kind → Tree → Outcome Lowered
+kind_float k t =
+    if is_numeric k then told (as_float (lowered t (Of k))) else refuses (OfKind k)
+
+abbrev pub float_of : Item → Outcome Lowered
+float_of (kinded k t) = kind_float k t
+float_of (bound t) = whole_float (plain_operand (tree_type meaning t)) t
+float_of (fraction w) = text_literal F64 w
+float_of (literal (number w)) = text_literal F64 w
+float_of i = refuses (Binding (TypeMismatch Scalars))
+
+abbrev pub float_on : FloatFunction → Tree → Outcome Tree
+float_on f t = call_of (callable (standard.FloatFunction f)) (t ∷ [])
+
 -- of the nearest float
-abbrev pub float_call : FloatFunction → Kind → Tree → Outcome Item
-float_call f k t =
-    if is_numeric k then
-    and_then (told (as_float (lowered t (Of k)))) (λ x.
-    and_then (call_of (callable (standard.FloatFunction f)) (x.tree ∷ [])) (λ u.
-    answers (kinded F64 u)))
-    else refuses (OfKind k)
+abbrev pub float_call : FloatFunction → Item → Outcome Item
+float_call f i =
+    and_then (float_of i) (λ x. and_then (float_on f x.tree) (λ u. answers (kinded F64 u)))
+
+-- decimals are rounded as decimals
+abbrev pub decimal_rounded : Digits → Tree → Option Rounded → Outcome Item
+decimal_rounded d t None = answers (kinded (Decimal d) t)
+decimal_rounded d t (Some r) =
+    and_then (step_on r.step t) (λ u. answers (kinded (Decimal r.digits) u))
+
+abbrev pub absolute : Digits → Tree → Outcome Item
+absolute d t =
+    and_then (call_of (callable standard.Abs) (t ∷ [])) (λ u. answers (kinded (Decimal d) u))
+
+abbrev pub rounded_or_float : FloatFunction → Digits → Tree → Outcome Item
+rounded_or_float f d t =
+    if is_rounding f then decimal_rounded d t (rounded f d 0)
+    else float_call f (kinded (Decimal d) t)
+
+abbrev pub decimal_call : FloatFunction → Digits → Tree → Outcome Item
+decimal_call float.Abs d t = absolute d t
+decimal_call f d t = rounded_or_float f d t
+
+-- a function of one number
+abbrev pub number_call : FloatFunction → Item → Outcome Item
+number_call f (kinded (Decimal d) t) = decimal_call f d t
+number_call f i = float_call f i
+
+-- a float, times ten to the places, rounded, and divided by that
+abbrev pub scaled_float : FloatFunction → Tree → Tree → Outcome Item
+scaled_float f t s =
+    and_then (call_of (callable (standard.FloatOperator Multiply)) (t ∷ s ∷ [])) (λ a.
+    and_then (float_on f a) (λ b.
+    and_then (call_of (callable (standard.FloatOperator Divide)) (b ∷ s ∷ [])) (λ c.
+    answers (kinded F64 c))))
+
+abbrev pub float_places : FloatFunction → Item → List ℕ → Outcome Item
+float_places f i w =
+    and_then (float_of i) (λ x.
+    and_then (text_literal F64 (codes "1e" ++ w)) (λ s. scaled_float f x.tree s.tree))
+
+-- a number rounded to so many places
+abbrev pub number_places : FloatFunction → Item → List ℕ → ℕ → Outcome Item
+number_places f (kinded (Decimal d) t) w n = decimal_rounded d t (rounded f d n)
+number_places f i w n = float_places f i w
+
+abbrev pub placed : FloatFunction → Item → List ℕ → Option ℕ → Outcome Item
+placed f i w None = refuses (Binding (TypeMismatch Scalars))
+placed f i w (Some n) = number_places f i w n
+
+abbrev pub places_call : FloatFunction → Item → Item → Outcome Item
+places_call f i (literal (number w)) = placed f i w (count_of w)
+places_call f i j = refuses (Binding (TypeMismatch Scalars))
 
 abbrev pub part_function : Part → Kind → Outcome Standard
 part_function p Date = answers (standard.DatePart (record { part = p }))
@@ -70,14 +146,11 @@ unit_call u k t =
     and_then (unit_function u k) (λ f.
     and_then (call_of (callable f) (t ∷ [])) (λ s. answers (kinded k s)))
 
-abbrev pub of_kind : KindFunction → Kind → Tree → Outcome Item
-of_kind (OfFloat f) k t = float_call f k t
-of_kind (OfPart p) k t = part_call p k t
-of_kind (ToUnit u) k t = unit_call u k t
-
 abbrev pub of_value : KindFunction → Item → Outcome Item
-of_value f (kinded k t) = of_kind f k t
-of_value f (fraction w) = and_then (text_literal F64 w) (λ x. of_kind f F64 x.tree)
+of_value (OfFloat f) i = number_call f i
+of_value (OfPart p) (kinded k t) = part_call p k t
+of_value (ToUnit u) (kinded k t) = unit_call u k t
+of_value f (fraction w) = refuses (OfKind F64)
 of_value f i = refuses (Binding (TypeMismatch Scalars))
 
 -- the part or the unit that a text names
@@ -95,15 +168,43 @@ function_by n i = refuses (Binding (TypeMismatch Scalars))
 abbrev pub of_text : KindName → Item → Item → Outcome Item
 of_text n s i = and_then (function_by n s) (λ f. of_value f i)
 
+-- `round` and `trunc` take places, too
+abbrev pub pair_call : KindFunction → Item → Item → Outcome Item
+pair_call (OfFloat float.Round) i j = places_call float.Round i j
+pair_call (OfFloat float.Trunc) i j = places_call float.Trunc i j
+pair_call f i j = refuses (Binding (ArityMismatch (Exact 1) 2))
+
 abbrev pub single_call : KindFunction → List Item → Outcome Item
 single_call f (i ∷ []) = of_value f i
+single_call f (i ∷ j ∷ []) = pair_call f i j
 single_call f is = refuses (Binding (ArityMismatch (Exact 1) (length is)))
 
 abbrev pub text_call : KindName → List Item → Outcome Item
 text_call n (s ∷ i ∷ []) = of_text n s i
 text_call n is = refuses (Binding (ArityMismatch (Exact 2) (length is)))
 
+-- a date or a timestamp so many months later
+abbrev pub months_function : Kind → Outcome Standard
+months_function Date = answers standard.DateAddMonths
+months_function Timestamp = answers standard.TimestampAddMonths
+months_function k = refuses (OfKind k)
+
+abbrev pub months_added : Kind → Tree → Item → Outcome Item
+months_added k t j =
+    and_then (months_function k) (λ f.
+    and_then (settled None j) (λ n.
+    and_then (call_of (callable f) (t ∷ n ∷ [])) (λ u. answers (kinded k u))))
+
+abbrev pub months_after : Item → Item → Outcome Item
+months_after (kinded k t) j = months_added k t j
+months_after i j = refuses (Binding (TypeMismatch Scalars))
+
+abbrev pub months_call : List Item → Outcome Item
+months_call (i ∷ j ∷ []) = months_after i j
+months_call is = refuses (Binding (ArityMismatch (Exact 2) (length is)))
+
 -- what a name means of arguments, one of which is a value of a kind
 abbrev pub kind_call : KindName → List Item → Outcome Item
 kind_call (Single f) is = single_call f is
+kind_call AddMonths is = months_call is
 kind_call n is = text_call n is

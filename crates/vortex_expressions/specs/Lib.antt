@@ -8,6 +8,7 @@ pub mod TypeNames
 pub mod Casts
 pub mod Kinded
 pub mod KindCasts
+pub mod Joining
 pub mod KindWords
 pub mod KindFunctions
 pub mod Functions

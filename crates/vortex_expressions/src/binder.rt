@@ -22,7 +22,8 @@ use crate::calls::{
 use crate::cases::chosen_item;
 use crate::functions::applied_by;
 use crate::item::{Item, LogicalTree};
-use crate::kind_casts::{are_given, cast_by, typed_by};
+use crate::kind_casts::cast_by;
+use crate::kind_names::{are_given, typed_by};
 use crate::patterns::matched_item;
 use crate::refusal::BindStop;
 use std::alloc::Global;

@@ -15,7 +15,8 @@ use crate::applied::function_call;
 use crate::casts::type_of_name;
 use crate::functions::function_item;
 use crate::item::{Item, callable, called, common_type, constant_at};
-use crate::kind_casts::are_given;
+use crate::joining::as_text;
+use crate::kind_names::are_given;
 use crate::kinded::{is_kinded, is_plain, kinded_joined, stored_item, stores};
 use crate::literal::{Literal, has_fraction};
 use crate::quotes::{between_quotes, text_of};
@@ -249,6 +250,21 @@ fn plain_joined(alloc: Global, written: Written, left: Item, right: Item) -> Res
     Ok(Item::Bound(tree))
 }
 
+fn is_concat(written: Written) -> bool
+    ensures { result ≡ specs.is_concat written }
+{
+    matches!(written, Written::Concat)
+}
+
+/// One text after the other: what is no text becomes one.
+fn concat_item(alloc: Global, left: Item, right: Item) -> Result<Item, BindStop>
+    ensures { Gives item_in result (specs.concat_item (item_in left) (item_in right)) }
+{
+    let first = as_text(alloc, left)?;
+    let second = as_text(alloc, right)?;
+    plain_joined(alloc, Written::Concat, first, second)
+}
+
 pub(crate) fn joined_item(
     alloc: Global,
     written: Written,
@@ -257,6 +273,9 @@ pub(crate) fn joined_item(
 ) -> Result<Item, BindStop>
     ensures { Gives item_in result (specs.joined_item written (item_in left) (item_in right)) }
 {
+    if is_concat(written) {
+        return concat_item(alloc, left, right);
+    }
     if is_kinded(&left) || is_kinded(&right) {
         kinded_joined(alloc, written, left, right)
     } else {

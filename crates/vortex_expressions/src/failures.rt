@@ -3,7 +3,7 @@ use crate::applied::common_value_type;
 use crate::binder::operands;
 use crate::calls::joined_item;
 use crate::casts::type_of_name;
-use crate::forms::{function_in, function_text, push_accepted, push_unnamed};
+use crate::forms::{function_in, function_text, push_accepted, push_unnamed, takes_texts};
 use crate::item::{Item, common_type};
 use crate::item_texts::{push_literals, push_operand, push_types};
 use crate::meeting::met_next;
@@ -67,6 +67,23 @@ fn push_columns(out: &mut String, scope: &StructFields) -> VortexResult<()> {
     Ok(())
 }
 
+/// What separates the names of several columns in one name.
+const SEPARATORS: [&str; 3] = [";", "\t", "|"];
+
+/// That the only column is probably several, whose delimiter is another.
+fn push_delimiter(out: &mut String, scope: &StructFields) -> VortexResult<()> {
+    if scope.len() != 1 {
+        return Ok(());
+    }
+    for separator in SEPARATORS {
+        if scope.name(0).contains(separator) {
+            write!(out, ", one column: is the delimiter {separator:?}?")?;
+            return Ok(());
+        }
+    }
+    Ok(())
+}
+
 /// The column that the scope does not have, and the one that may be meant.
 fn column_text(
     alloc: Global,
@@ -89,6 +106,7 @@ fn column_text(
         None => {
             let mut out = format!(in alloc; "no column {name:?}")?;
             push_columns(&mut out, scope)?;
+            push_delimiter(&mut out, scope)?;
             Ok(out)
         }
     }
@@ -248,6 +266,9 @@ impl<'a> TextFailure<'a> {
         push_accepted(&mut out, self.failing_step(), items.len())?;
         out.push_str(", not ")?;
         self.push_given(&mut out, &items, are_cases)?;
+        if takes_texts(self.failing_step()) {
+            out.push_str("; n::text is n as a text")?;
+        }
         Ok(out)
     }
 
@@ -301,7 +322,7 @@ impl<'a> TextFailure<'a> {
             "no type {found}; types are bool, utf8, i8, i16, i32, i64, u8, u16, u32 and u64, with ? where they have null"
         )?;
         if !self.kinds.is_empty() {
-            out.push_str("; and f64, f32, date, timestamp and interval")?;
+            out.push_str("; and f64, f32, date, timestamp, decimal(12,2) and interval")?;
         }
         Ok(out)
     }
@@ -309,7 +330,11 @@ impl<'a> TextFailure<'a> {
     /// That a value of the kind does not go there.
     fn kind_text(&self, kind: Kind) -> VortexResult<String> {
         let found = found_at(self.text, self.byte);
-        Ok(format!(in self.alloc; "{found} takes no values of kind {kind}")?)
+        let mut out = format!(in self.alloc; "{found} takes no values of kind {kind}")?;
+        if takes_texts(self.failing_step()) && !matches!(kind, Kind::F64 | Kind::F32) {
+            out.push_str("; d::text is d as a text")?;
+        }
+        Ok(out)
     }
 
     /// That values of kinds do not go together.

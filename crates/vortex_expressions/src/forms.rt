@@ -8,7 +8,9 @@ use std::alloc::Global;
 use std::str;
 use strsim::osa_distance;
 use vortex_columns::VortexResult;
-use vortex_standard::{BitOperator, FUNCTIONS, Kind, Shift, Standard, Takes, TruthTest, named};
+use vortex_standard::{
+    BitOperator, FUNCTIONS, FloatFunction, Kind, Shift, Standard, Takes, TruthTest, named,
+};
 use vortex_syntax::{Call, Step, WrittenOperator};
 
 /// Names by which other languages call what has no form of a call here, and how it is written.
@@ -68,9 +70,13 @@ fn called_name<'a>(step: Option<&Step<'a>>) -> &'a [u8] {
 /// What a function of that name takes next to a value of a kind.
 fn taken_by(name: KindName) -> &'static str {
     match name {
-        KindName::Single(KindFunction::OfFloat(_)) => "a float, as n::f64",
+        KindName::Single(KindFunction::OfFloat(FloatFunction::Round | FloatFunction::Trunc)) => {
+            "a number, and how many places are kept, from 0 to 19, if any"
+        }
+        KindName::Single(KindFunction::OfFloat(_)) => "a number",
         KindName::Single(_) => "a date or a timestamp",
         KindName::PartByText | KindName::UnitByText => "a text, and a date or a timestamp",
+        KindName::AddMonths => "a date or a timestamp, and a number of months",
     }
 }
 
@@ -183,6 +189,17 @@ pub(crate) fn function_in(step: Option<&Step<'_>>) -> Option<Standard> {
         Some(Step::Call(Call::Join(operator))) => bits_of(*operator),
         Some(Step::Call(Call::BitNot)) => Some(Standard::BitNot),
         _ => None,
+    }
+}
+
+/// Whether the step calls a function whose first argument is a text.
+pub(crate) fn takes_texts(step: Option<&Step<'_>>) -> bool {
+    match function_in(step) {
+        Some(function) => matches!(
+            function.takes(),
+            Takes::Alike(Kind::Text) | Takes::Each(Kind::Text, _, _)
+        ),
+        None => false,
     }
 }
 

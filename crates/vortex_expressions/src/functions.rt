@@ -9,8 +9,9 @@ ghost use Rattle.vortex_expressions.specs.Answering.{Gives};
 
 use crate::applied::function_call;
 use crate::item::Item;
-use crate::kind_functions::kind_call;
-use crate::kind_words::{is_word, kind_word};
+use crate::joining::{joined_texts, joins};
+use crate::kind_functions::{kind_call, single_call};
+use crate::kind_words::{KindFunction, KindName, is_word, kind_word};
 use crate::kinded::{fraction_kind, is_plain, item_operand, value_item};
 use crate::refusal::{BindStop, Refusal};
 use std::alloc::Global;
@@ -19,7 +20,7 @@ use vortex_logical::kind::Kind;
 use vortex_logical::operand::Operand;
 use vortex_logical_calls as calls;
 use vortex_logical_calls::Lowered;
-use vortex_standard::{Standard, Takes, named};
+use vortex_standard::{FloatFunction, Standard, Takes, named};
 
 /// Whether the function returns one of its values.
 fn is_choice(function: Standard) -> bool
@@ -312,6 +313,54 @@ fn made_date(alloc: Global, items: Vec<Item>) -> Result<Item, BindStop>
     Ok(Item::Kinded(Kind::Date, tree))
 }
 
+/// Whether a function of numbers takes whole numbers as floats: some whole numbers have, too.
+fn takes_whole(function: FloatFunction) -> bool
+    ensures { result ≡ specs.takes_whole function }
+{
+    !matches!(function, FloatFunction::Abs | FloatFunction::Sign)
+}
+
+/// The function of that name; one that makes a text of several takes values of each type.
+fn joining_item(alloc: Global, name: &[u8], items: Vec<Item>) -> Result<Item, BindStop>
+    ensures { Gives item_in result (specs.joining_item name.now (map item_in items.items)) }
+{
+    match named(name) {
+        Some(function) if joins(function) => joined_texts(alloc, function, items),
+        Some(function) => function_item(alloc, function, items),
+        None => Err(BindStop::Refused(Refusal::NoFunction)),
+    }
+}
+
+/// What a name means without a value of a kind, over columns with kinds.
+fn whole_item(
+    alloc: Global,
+    meant: Option<KindName>,
+    name: &[u8],
+    items: Vec<Item>,
+) -> Result<Item, BindStop>
+    ensures { Gives item_in result (specs.whole_item meant name.now (map item_in items.items)) }
+{
+    match meant {
+        Some(KindName::Single(KindFunction::OfFloat(function))) if takes_whole(function) => {
+            single_call(alloc, KindFunction::OfFloat(function), &items)
+        }
+        _ => joining_item(alloc, name, items),
+    }
+}
+
+/// What a name means over columns with kinds.
+fn kinds_item(alloc: Global, name: &[u8], items: Vec<Item>) -> Result<Item, BindStop>
+    ensures { Gives item_in result (specs.kinds_item name.now (map item_in items.items)) }
+{
+    if is_plain(&first_kind(false, &items)) {
+        return whole_item(alloc, kind_word(name), name, items);
+    }
+    match kind_word(name) {
+        Some(meant) => kind_call(alloc, meant, &items),
+        None => joining_item(alloc, name, items),
+    }
+}
+
 /// What a name means in a text, over columns with kinds if the flag is true.
 pub(crate) fn applied_by(
     alloc: Global,
@@ -328,6 +377,6 @@ pub(crate) fn applied_by(
     if is_word(name, b"make_date") {
         made_date(alloc, items)
     } else {
-        applied_item(alloc, name, items)
+        kinds_item(alloc, name, items)
     }
 }

@@ -19,6 +19,8 @@ const ARRAYS: &str = "no arrays: a in (1, 2) compares with a list of values";
 
 const POWERS: &str = "no powers: write a * a";
 
+const LOGARITHMS: &str = "no logarithms, exponentials or angles";
+
 /// Words that other languages have behind an operand.
 const BEHIND: [(&str, &str); 20] = [
     ("over", WINDOWS),
@@ -56,7 +58,7 @@ const BEFORE: [(&str, &[u8], &str); 7] = [
 ];
 
 /// Functions that other languages have.
-const FUNCTIONS: [(&str, &str); 26] = [
+const FUNCTIONS: [(&str, &str); 61] = [
     ("sum", AGGREGATES),
     ("count", AGGREGATES),
     ("avg", AGGREGATES),
@@ -83,6 +85,50 @@ const FUNCTIONS: [(&str, &str); 26] = [
     ("decode", "write case a when x then v end"),
     ("if", "write case when c then a else b end"),
     ("iif", "write case when c then a else b end"),
+    ("to_char", "write d::text, or extract(year from d)"),
+    ("strftime", "write d::text, or extract(year from d)"),
+    ("date_format", "write d::text, or extract(year from d)"),
+    ("to_date", "write s::date"),
+    ("str_to_date", "write s::date"),
+    ("to_timestamp", "write s::timestamp, of a text"),
+    ("to_number", "write s::f64, or s::decimal(12,2)"),
+    ("datediff", "write a - b"),
+    ("date_diff", "write a - b"),
+    ("age", "write a - b"),
+    ("date_add", "write d + 3, or add_months(d, 3)"),
+    ("date_sub", "write d - 3, or add_months(d, -3)"),
+    ("dateadd", "write d + 3, or add_months(d, 3)"),
+    (
+        "last_day",
+        "write date_trunc('month', add_months(d, 1)) - 1",
+    ),
+    (
+        "regexp_replace",
+        "no replacing by patterns: write replace(s, t, u)",
+    ),
+    ("regexp_matches", "write regexp_like(s, 'a+')"),
+    ("len", "write length(s)"),
+    ("charindex", "write strpos(s, t)"),
+    ("contains", "write strpos(s, t) > 0"),
+    ("ends_with", "write right(s, 2) = 'ab'"),
+    ("endswith", "write right(s, 2) = 'ab'"),
+    ("startswith", "write starts_with(s, t)"),
+    ("weekday", "write dow(d), from 0 for Sunday"),
+    ("dayofweek", "write dow(d), from 0 for Sunday"),
+    ("dayofyear", "write doy(d)"),
+    ("split", "write split_part(s, ',', 1)"),
+    ("substring_index", "write split_part(s, ',', 1)"),
+    ("title", "write initcap(s)"),
+    (
+        "regexp_substr",
+        "no parts by patterns: write split_part(s, ',', 1)",
+    ),
+    ("string_agg", AGGREGATES),
+    ("pow", POWERS),
+    ("power", POWERS),
+    ("ln", LOGARITHMS),
+    ("log", LOGARITHMS),
+    ("exp", LOGARITHMS),
 ];
 
 fn told_of(words: &[(&'static str, &'static str)], word: &[u8]) -> &'static str {

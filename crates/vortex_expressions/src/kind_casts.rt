@@ -1,163 +1,31 @@
-//! Literals of kinds by name, and casts from and to kinds.
-ghost use Rattle.std.specs.Prelude.{◌≡◌};
+//! Casts from and to kinds.
+ghost use Rattle.std.specs.Prelude.{◌≡◌, Some};
 ghost use Rattle.vortex_types.specs.TypeOf.{type_of};
 ghost use Rattle.vortex_lowering.specs.Rows.{lowered};
+ghost use Rattle.vortex_logical_casts.specs.Casts.{written_steps};
 ghost use Rattle.vortex_expressions.specs.KindCasts as specs;
 ghost use Rattle.vortex_expressions.specs.Calls as calls;
 ghost use Rattle.vortex_expressions.specs.Items.{item_in};
 ghost use Rattle.vortex_expressions.specs.Literals.{literal_in};
 ghost use Rattle.vortex_expressions.specs.Answering.{Gives};
 
-use crate::calls::typed_item;
-use crate::casts::{cast_item, is_same_word, type_of_name};
-use crate::item::{Item, call_of, callable};
-use crate::kinded::{null_literal, plain_operand, text_literal, value_item};
+use crate::casts::{cast_item, type_of_name};
+use crate::decimal_casts::decimal_cast;
+use crate::item::{Item, call_of, callable, constant_at};
+use crate::kind_names::{kind_item, kind_of_name};
+use crate::kind_steps::stepped;
+use crate::kinded::{plain_operand, text_literal, value_item};
 use crate::literal::Literal;
-use crate::quotes::text_of;
 use crate::refusal::{BindStop, Refusal};
 use std::alloc::Global;
 use vortex_columns::{DType, Nullability};
 use vortex_functions::BoundExpression;
 use vortex_logical::kind::Kind;
 use vortex_logical::operand::Operand;
+use vortex_logical_calls::Lowered;
 use vortex_logical_calls::conversions::as_float;
-use vortex_logical_calls::{Lowered, interval_of};
-use vortex_standard::{FloatToInt, Standard};
-
-/// Whether a list of kinds is given.
-pub(crate) fn are_given(kinds: &[Kind]) -> bool
-    ensures { result ≡ calls.are_given kinds.now }
-{
-    !kinds.is_empty()
-}
-
-fn is_f64(word: &str) -> bool
-    ensures { result ≡ specs.is_f64 word.now }
-{
-    is_same_word(word, "f64") || is_same_word(word, "float8")
-}
-
-fn is_f32(word: &str) -> bool
-    ensures { result ≡ specs.is_f32 word.now }
-{
-    is_same_word(word, "f32") || (is_same_word(word, "float4") || is_same_word(word, "real"))
-}
-
-/// The kind of that name, in either case.
-fn word_kind(word: &str) -> Option<Kind>
-    ensures { result ≡ specs.word_kind word.now }
-{
-    if is_same_word(word, "date") {
-        Some(Kind::Date)
-    } else if is_same_word(word, "timestamp") {
-        Some(Kind::Timestamp)
-    } else if is_f64(word) {
-        Some(Kind::F64)
-    } else if is_f32(word) {
-        Some(Kind::F32)
-    } else {
-        None
-    }
-}
-
-/// The kind of that name; no kind is named with a question mark.
-fn kind_of_name(alloc: Global, name: &[u8], is_nullable: bool) -> Result<Option<Kind>, BindStop>
-    ensures { Gives (λ k. k) result (calls.kind_of_name name.now is_nullable) }
-{
-    if is_nullable {
-        return Ok(None);
-    }
-    let name = text_of(alloc, name)?;
-    Ok(word_kind(name.as_str()))
-}
-
-/// A literal of a kind.
-fn kind_literal(alloc: Global, kind: Kind, literal: &Literal) -> Result<Lowered<Standard>, BindStop>
-    ensures { Gives (λ x. lowered x.tree x.operand) result
-        (specs.kind_literal kind (literal_in literal.now)) }
-{
-    match literal {
-        Literal::Number(word) => text_literal(alloc, kind, word.as_bytes()),
-        Literal::Text(text) => text_literal(alloc, kind, text.as_bytes()),
-        Literal::Truth(_) => Err(BindStop::Refused(Refusal::NotHeld)),
-        Literal::Null => null_literal(alloc, kind),
-    }
-}
-
-fn kind_item(alloc: Global, kind: Kind, literal: &Literal) -> Result<Item, BindStop>
-    ensures { Gives item_in result (specs.kind_item kind (literal_in literal.now)) }
-{
-    Ok(value_item(kind_literal(alloc, kind, literal)?))
-}
-
-/// The interval of a text.
-fn interval_item(literal: &Literal) -> Result<Item, BindStop>
-    ensures { Gives item_in result (specs.interval_item (literal_in literal.now)) }
-{
-    let Literal::Text(text) = literal else {
-        return Err(BindStop::Refused(Refusal::NotHeld));
-    };
-    match interval_of(text.as_bytes()) {
-        Some(micros) => Ok(Item::Interval(micros)),
-        None => Err(BindStop::Refused(Refusal::NotHeld)),
-    }
-}
-
-/// Whether intervals have that name.
-fn is_interval_name(name: &[u8], is_nullable: bool) -> bool
-    ensures { result ≡ specs.is_interval_name name.now is_nullable }
-{
-    !is_nullable && name.eq_ignore_ascii_case(b"interval")
-}
-
-/// An interval, or a literal of the type of that name.
-fn typed_plain(alloc: Global, name: &[u8], is_nullable: bool, item: Item) -> Result<Item, BindStop>
-    ensures { Gives item_in result (calls.typed_plain name.now is_nullable (item_in item)) }
-{
-    if let Item::Literal(literal) = &item
-        && is_interval_name(name, is_nullable)
-    {
-        return interval_item(literal);
-    }
-    typed_item(alloc, name, is_nullable, item)
-}
-
-/// A literal of the kind or the type of that name.
-fn typed_named(
-    alloc: Global,
-    name: &[u8],
-    is_nullable: bool,
-    item: Item,
-    kind: Option<Kind>,
-) -> Result<Item, BindStop>
-    ensures { Gives item_in result
-        (calls.typed_named name.now is_nullable (item_in item) kind) }
-{
-    match (kind, item) {
-        (None, item) => typed_plain(alloc, name, is_nullable, item),
-        (Some(kind), Item::Literal(literal)) => kind_item(alloc, kind, &literal),
-        (Some(kind), Item::Fraction(number)) => { kind_item(alloc, kind, &Literal::Number(number)) }
-        (Some(_), _) => Err(BindStop::Missing),
-    }
-}
-
-/// A literal of the type of that name, and where kinds have names of the kind.
-pub(crate) fn typed_by(
-    alloc: Global,
-    has_kinds: bool,
-    name: &[u8],
-    is_nullable: bool,
-    item: Item,
-) -> Result<Item, BindStop>
-    ensures { Gives item_in result
-        (calls.typed_by has_kinds name.now is_nullable (item_in item)) }
-{
-    if !has_kinds {
-        return typed_item(alloc, name, is_nullable, item);
-    }
-    let kind = kind_of_name(alloc, name, is_nullable)?;
-    typed_named(alloc, name, is_nullable, item, kind)
-}
+use vortex_logical_casts::{Steps, decimal_steps, integer_steps, text_steps, written_steps};
+use vortex_standard::Standard;
 
 /// Whether it is a number, but no float of 64 bits.
 fn becomes_float(operand: &Operand) -> bool
@@ -193,16 +61,53 @@ fn cast_by_function(
     Ok(Item::Kinded(kind, tree))
 }
 
-/// A value of a kind as one of another: of its own kind it is unchanged, each number has a nearest
-/// float, and a date is a timestamp's day, which is its midnight.
+/// The same, but by `try_cast`: of what may fault only texts and numbers are tried.
+fn instant_cast(
+    alloc: Global,
+    is_tried: bool,
+    kind: Kind,
+    function: Standard,
+    tree: BoundExpression<Standard>,
+) -> Result<Item, BindStop>
+    ensures { Gives item_in result (specs.instant_cast is_tried kind function tree) }
+{
+    if is_tried {
+        Err(BindStop::Refused(Refusal::NoCast))
+    } else {
+        cast_by_function(alloc, kind, function, tree)
+    }
+}
+
+/// A value that functions make one of the kind, if there are any.
+pub(crate) fn kind_by(
+    alloc: Global,
+    kind: Kind,
+    steps: Option<Steps>,
+    tree: BoundExpression<Standard>,
+) -> Result<Item, BindStop>
+    ensures { Gives item_in result (specs.kind_by kind steps tree) }
+{
+    match steps {
+        Some(steps) => Ok(Item::Kinded(kind, stepped(alloc, steps, tree)?)),
+        None => Err(BindStop::Refused(Refusal::NoCast)),
+    }
+}
+
+/// A value of a kind as one of another, by `try_cast` if the flag is true: of its own kind it is
+/// unchanged, each number has a nearest float, and a date is a timestamp's day, which is its
+/// midnight.
 fn kind_cast(
     alloc: Global,
+    is_tried: bool,
     kind: Kind,
     found: Kind,
     tree: BoundExpression<Standard>,
 ) -> Result<Item, BindStop>
-    ensures { Gives item_in result (specs.kind_cast kind found tree) }
+    ensures { Gives item_in result (specs.kind_cast is_tried kind found tree) }
 {
+    if let Kind::Decimal(digits) = kind {
+        return decimal_cast(alloc, is_tried, digits, found, tree);
+    }
     match (kind, found) {
         (Kind::Date, Kind::Date)
         | (Kind::Timestamp, Kind::Timestamp)
@@ -213,67 +118,158 @@ fn kind_cast(
             float_item(alloc, Lowered { tree, operand })
         }
         (Kind::Timestamp, Kind::Date) => {
-            cast_by_function(alloc, kind, Standard::DateToTimestamp, tree)
+            instant_cast(alloc, is_tried, kind, Standard::DateToTimestamp, tree)
         }
         (Kind::Date, Kind::Timestamp) => {
-            cast_by_function(alloc, kind, Standard::TimestampToDate, tree)
+            instant_cast(alloc, is_tried, kind, Standard::TimestampToDate, tree)
         }
         _ => Err(BindStop::Refused(Refusal::NoCast)),
     }
 }
 
-fn plain_cast(alloc: Global, kind: Kind, tree: BoundExpression<Standard>) -> Result<Item, BindStop>
-    ensures { Gives item_in result (specs.plain_cast kind tree) }
+/// A text as a value of a kind.
+fn text_cast(
+    alloc: Global,
+    is_tried: bool,
+    kind: Kind,
+    tree: BoundExpression<Standard>,
+) -> Result<Item, BindStop>
+    ensures { Gives item_in result (specs.text_cast is_tried kind tree) }
+{
+    let steps = text_steps(is_tried, &kind);
+    kind_by(alloc, kind, steps, tree)
+}
+
+/// A whole number as a value of a kind.
+fn number_cast(
+    alloc: Global,
+    is_tried: bool,
+    kind: Kind,
+    operand: Operand,
+    tree: BoundExpression<Standard>,
+) -> Result<Item, BindStop>
+    ensures { Gives item_in result (specs.number_cast is_tried kind operand tree) }
 {
     match kind {
-        Kind::F64 => {
-            let operand = plain_operand(tree.dtype());
-            float_item(alloc, Lowered { tree, operand })
+        Kind::F64 => float_item(alloc, Lowered { tree, operand }),
+        Kind::Decimal(digits) => {
+            let steps = decimal_steps(is_tried, digits, &operand);
+            kind_by(alloc, kind, steps, tree)
         }
         _ => Err(BindStop::Refused(Refusal::NoCast)),
     }
 }
 
-/// A cast to a kind.
-fn cast_to_kind(alloc: Global, kind: Kind, item: Item) -> Result<Item, BindStop>
-    ensures { Gives item_in result (specs.cast_to_kind kind (item_in item)) }
+fn is_text_type(dtype: &DType) -> bool
+    ensures { result ≡ specs.is_text_type (Some (type_of dtype.now)) }
+{
+    matches!(dtype, DType::Utf8(_))
+}
+
+/// A text or a whole number as a value of a kind.
+fn plain_cast(
+    alloc: Global,
+    is_tried: bool,
+    kind: Kind,
+    tree: BoundExpression<Standard>,
+) -> Result<Item, BindStop>
+    ensures { Gives item_in result (specs.plain_cast is_tried kind tree) }
+{
+    if is_text_type(tree.dtype()) {
+        return text_cast(alloc, is_tried, kind, tree);
+    }
+    let operand = plain_operand(tree.dtype());
+    number_cast(alloc, is_tried, kind, operand, tree)
+}
+
+/// A literal as a value of a kind; by `try_cast` a text is cast like any other.
+fn literal_cast(
+    alloc: Global,
+    is_tried: bool,
+    kind: Kind,
+    literal: Literal,
+) -> Result<Item, BindStop>
+    ensures { Gives item_in result (specs.literal_cast is_tried kind (literal_in literal)) }
+{
+    match (is_tried, literal) {
+        (true, Literal::Text(text)) => {
+            let dtype = DType::Utf8(Nullability::NonNullable);
+            let tree = constant_at(alloc, &Literal::Text(text), dtype)?;
+            text_cast(alloc, true, kind, tree)
+        }
+        (_, literal) => kind_item(alloc, kind, &literal),
+    }
+}
+
+/// A cast to a kind, by `try_cast` if the flag is true.
+fn cast_to_kind(alloc: Global, is_tried: bool, kind: Kind, item: Item) -> Result<Item, BindStop>
+    ensures { Gives item_in result (specs.cast_to_kind is_tried kind (item_in item)) }
 {
     match item {
-        Item::Literal(literal) => kind_item(alloc, kind, &literal),
-        Item::Bound(tree) => plain_cast(alloc, kind, tree),
-        Item::Kinded(found, tree) => kind_cast(alloc, kind, found, tree),
+        Item::Literal(literal) => literal_cast(alloc, is_tried, kind, literal),
+        Item::Bound(tree) => plain_cast(alloc, is_tried, kind, tree),
+        Item::Kinded(found, tree) => kind_cast(alloc, is_tried, kind, found, tree),
         Item::Fraction(number) => kind_item(alloc, kind, &Literal::Number(number)),
         Item::Interval(_) => Err(BindStop::Refused(Refusal::NoCast)),
     }
 }
 
-/// A float as the nearest integer, from halfway the even one; E10 in rows where the type does not
-/// hold it.
-fn float_cast(
+/// A value of a kind after functions, if there are any.
+fn from_kind(
     alloc: Global,
-    dtype: &DType,
+    kind: Kind,
+    steps: Option<Steps>,
     tree: BoundExpression<Standard>,
 ) -> Result<Item, BindStop>
-    ensures { Gives item_in result (specs.float_cast (type_of dtype.now) tree) }
+    ensures { Gives item_in result (specs.from_kind kind steps tree) }
 {
-    match dtype {
-        DType::Primitive(ptype, Nullability::NonNullable) => {
-            let function = callable(Standard::FloatToInt(FloatToInt { ptype: *ptype }));
-            Ok(Item::Bound(call_of(alloc, function, vec![in alloc; tree]?)?))
-        }
-        _ => Err(BindStop::Refused(Refusal::OfKind(Kind::F64))),
+    match steps {
+        Some(steps) => Ok(Item::Bound(stepped(alloc, steps, tree)?)),
+        None => Err(BindStop::Refused(Refusal::OfKind(kind))),
     }
 }
 
-/// A number with a fraction as the nearest integer.
+/// The text of a value of a kind.
+pub(crate) fn written(
+    alloc: Global,
+    kind: Kind,
+    tree: BoundExpression<Standard>,
+) -> Result<Item, BindStop>
+    ensures { Gives item_in result (specs.from_kind kind (written_steps kind) tree) }
+{
+    let steps = written_steps(&kind);
+    from_kind(alloc, kind, steps, tree)
+}
+
+/// A value of a kind as the nearest integer, E10 in rows where the type does not hold it, or as a
+/// text.
+fn stored_cast(
+    alloc: Global,
+    kind: Kind,
+    dtype: &DType,
+    tree: BoundExpression<Standard>,
+) -> Result<Item, BindStop>
+    ensures { Gives item_in result (specs.stored_cast kind (type_of dtype.now) tree) }
+{
+    match dtype {
+        DType::Primitive(ptype, Nullability::NonNullable) => {
+            let steps = integer_steps(&kind, *ptype);
+            from_kind(alloc, kind, steps, tree)
+        }
+        DType::Utf8(Nullability::NonNullable) => written(alloc, kind, tree),
+        _ => Err(BindStop::Refused(Refusal::OfKind(kind))),
+    }
+}
+
+/// A number with a fraction as a float of 64 bits, which is cast.
 fn fraction_cast(alloc: Global, number: &str, dtype: &DType) -> Result<Item, BindStop>
     ensures { Gives item_in result (specs.fraction_cast number.now (type_of dtype.now)) }
 {
     let float = text_literal(alloc, Kind::F64, number.as_bytes())?;
-    float_cast(alloc, dtype, float.tree)
+    stored_cast(alloc, Kind::F64, dtype, float.tree)
 }
 
-/// A cast to the type of that name; floats are rounded, but by `try_cast`.
+/// A cast to the type of that name; values of kinds are rounded and written, but by `try_cast`.
 fn cast_of_kind(
     alloc: Global,
     is_tried: bool,
@@ -285,9 +281,9 @@ fn cast_of_kind(
         (calls.cast_of_kind is_tried name.now is_nullable (item_in item)) }
 {
     match (is_tried, item) {
-        (false, Item::Kinded(Kind::F64, tree)) => {
+        (false, Item::Kinded(kind, tree)) => {
             let dtype = type_of_name(alloc, name, is_nullable)?;
-            float_cast(alloc, &dtype, tree)
+            stored_cast(alloc, kind, &dtype, tree)
         }
         (false, Item::Fraction(number)) => {
             let dtype = type_of_name(alloc, name, is_nullable)?;
@@ -310,8 +306,7 @@ fn cast_named(
 {
     match kind {
         None => cast_of_kind(alloc, is_tried, name, is_nullable, item),
-        Some(_) if is_tried => Err(BindStop::Refused(Refusal::NoCast)),
-        Some(kind) => cast_to_kind(alloc, kind, item),
+        Some(kind) => cast_to_kind(alloc, is_tried, kind, item),
     }
 }
 

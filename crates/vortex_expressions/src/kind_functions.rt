@@ -1,4 +1,4 @@
-//! Calls of functions on values of kinds: of numbers as floats, of dates and timestamps.
+//! Calls of functions on values of kinds: of numbers, of dates and timestamps.
 ghost use Rattle.std.specs.Prelude.{◌≡◌, map};
 ghost use Rattle.vortex_expressions.specs.KindFunctions as specs;
 ghost use Rattle.vortex_expressions.specs.Items.{item_in};
@@ -6,22 +6,19 @@ ghost use Rattle.vortex_expressions.specs.Answering.{Gives};
 
 use crate::item::{Item, call_of, callable};
 use crate::kind_words::{KindFunction, KindName, part_word, unit_word};
-use crate::kinded::text_literal;
 use crate::literal::Literal;
+use crate::number_functions::{number_call, places_call};
 use crate::refusal::{BindStop, Refusal};
 use std::alloc::Global;
 use vortex_columns::{Arity, MismatchPlace, VortexError};
 use vortex_functions::BoundExpression;
 use vortex_logical::kind::Kind;
-use vortex_logical::operand::Operand;
-use vortex_logical_calls::Lowered;
-use vortex_logical_calls::conversions::as_float;
 use vortex_standard::{
     DatePart, DateTrunc, FloatFunction, Part, Standard, TimestampPart, TimestampTrunc, Unit,
 };
 
 /// E3: an argument is none of those that the function takes.
-fn other_types() -> BindStop
+pub(crate) fn other_types() -> BindStop
     ensures { result ≡ specs.other_types }
 {
     BindStop::Refused(Refusal::Binding(VortexError::TypeMismatch(MismatchPlace::Scalars)))
@@ -33,32 +30,6 @@ fn other_count(taken: usize, given: usize) -> BindStop
 {
     let arity = Arity::Exact(taken);
     BindStop::Refused(Refusal::Binding(VortexError::ArityMismatch { arity, given }))
-}
-
-/// Whether it is a kind of numbers.
-fn is_numeric(kind: &Kind) -> bool
-    ensures { result ≡ specs.is_numeric kind.now }
-{
-    matches!(kind, Kind::Decimal(_) | Kind::F32 | Kind::F64)
-}
-
-/// The function of a number, which becomes the nearest float.
-fn float_call(
-    alloc: Global,
-    function: FloatFunction,
-    kind: Kind,
-    tree: BoundExpression<Standard>,
-) -> Result<Item, BindStop>
-    ensures { Gives item_in result (specs.float_call function kind tree) }
-{
-    if !is_numeric(&kind) {
-        return Err(BindStop::Refused(Refusal::OfKind(kind)));
-    }
-    let operand = Operand::Of(kind);
-    let float = as_float(alloc, Lowered { tree, operand })?;
-    let call = callable(Standard::FloatFunction(function));
-    let tree = call_of(alloc, call, vec![in alloc; float.tree]?)?;
-    Ok(Item::Kinded(Kind::F64, tree))
 }
 
 /// The function that has the part of values of the kind.
@@ -110,31 +81,19 @@ fn unit_call(
     Ok(Item::Kinded(kind, tree))
 }
 
-fn of_kind(
-    alloc: Global,
-    function: KindFunction,
-    kind: Kind,
-    tree: BoundExpression<Standard>,
-) -> Result<Item, BindStop>
-    ensures { Gives item_in result (specs.of_kind function kind tree) }
-{
-    match function {
-        KindFunction::OfFloat(function) => float_call(alloc, function, kind, tree),
-        KindFunction::OfPart(part) => part_call(alloc, part, kind, tree),
-        KindFunction::ToUnit(unit) => unit_call(alloc, unit, kind, tree),
-    }
-}
-
-/// The function on an argument, which is a value of a kind, or a number with a fraction.
+/// The function on a value.
 fn of_value(alloc: Global, function: KindFunction, item: &Item) -> Result<Item, BindStop>
     ensures { Gives item_in result (specs.of_value function (item_in item.now)) }
 {
-    match item {
-        Item::Kinded(kind, tree) => of_kind(alloc, function, *kind, tree.try_clone(alloc)?),
-        Item::Fraction(number) => {
-            let float = text_literal(alloc, Kind::F64, number.as_bytes())?;
-            of_kind(alloc, function, Kind::F64, float.tree)
+    match (function, item) {
+        (KindFunction::OfFloat(function), item) => number_call(alloc, function, item),
+        (KindFunction::OfPart(part), Item::Kinded(kind, tree)) => {
+            part_call(alloc, part, *kind, tree.try_clone(alloc)?)
         }
+        (KindFunction::ToUnit(unit), Item::Kinded(kind, tree)) => {
+            unit_call(alloc, unit, *kind, tree.try_clone(alloc)?)
+        }
+        (_, Item::Fraction(_)) => Err(BindStop::Refused(Refusal::OfKind(Kind::F64))),
         _ => Err(other_types()),
     }
 }
@@ -179,11 +138,37 @@ fn of_text(alloc: Global, name: KindName, text: &Item, item: &Item) -> Result<It
     of_value(alloc, function, item)
 }
 
-fn single_call(alloc: Global, function: KindFunction, items: &[Item]) -> Result<Item, BindStop>
+/// A function on two arguments: `round` and `trunc` take places, too.
+fn pair_call(
+    alloc: Global,
+    function: KindFunction,
+    item: &Item,
+    other: &Item,
+) -> Result<Item, BindStop>
+    ensures { Gives item_in result
+        (specs.pair_call function (item_in item.now) (item_in other.now)) }
+{
+    match function {
+        KindFunction::OfFloat(FloatFunction::Round) => {
+            places_call(alloc, FloatFunction::Round, item, other)
+        }
+        KindFunction::OfFloat(FloatFunction::Trunc) => {
+            places_call(alloc, FloatFunction::Trunc, item, other)
+        }
+        _ => Err(other_count(1, 2)),
+    }
+}
+
+pub(crate) fn single_call(
+    alloc: Global,
+    function: KindFunction,
+    items: &[Item],
+) -> Result<Item, BindStop>
     ensures { Gives item_in result (specs.single_call function (map item_in items.now)) }
 {
     match items {
         [item] => of_value(alloc, function, item),
+        [item, other] => pair_call(alloc, function, item, other),
         _ => Err(other_count(1, items.len())),
     }
 }
@@ -197,12 +182,57 @@ fn text_call(alloc: Global, name: KindName, items: &[Item]) -> Result<Item, Bind
     }
 }
 
+/// The function that adds months to values of the kind.
+fn months_function(kind: Kind) -> Result<Standard, BindStop>
+    ensures { Gives (λ f. f) result (specs.months_function kind) }
+{
+    match kind {
+        Kind::Date => Ok(Standard::DateAddMonths),
+        Kind::Timestamp => Ok(Standard::TimestampAddMonths),
+        _ => Err(BindStop::Refused(Refusal::OfKind(kind))),
+    }
+}
+
+/// A date or a timestamp so many months later.
+fn months_added(
+    alloc: Global,
+    kind: Kind,
+    tree: BoundExpression<Standard>,
+    months: &Item,
+) -> Result<Item, BindStop>
+    ensures { Gives item_in result (specs.months_added kind tree (item_in months.now)) }
+{
+    let function = months_function(kind)?;
+    let months = months.settle(alloc, None)?;
+    let tree = call_of(alloc, callable(function), vec![in alloc; tree, months]?)?;
+    Ok(Item::Kinded(kind, tree))
+}
+
+fn months_after(alloc: Global, item: &Item, months: &Item) -> Result<Item, BindStop>
+    ensures { Gives item_in result (specs.months_after (item_in item.now) (item_in months.now)) }
+{
+    match item {
+        Item::Kinded(kind, tree) => months_added(alloc, *kind, tree.try_clone(alloc)?, months),
+        _ => Err(other_types()),
+    }
+}
+
+fn months_call(alloc: Global, items: &[Item]) -> Result<Item, BindStop>
+    ensures { Gives item_in result (specs.months_call (map item_in items.now)) }
+{
+    match items {
+        [item, months] => months_after(alloc, item, months),
+        _ => Err(other_count(2, items.len())),
+    }
+}
+
 /// What the name means of arguments, one of which is a value of a kind.
 pub(crate) fn kind_call(alloc: Global, name: KindName, items: &[Item]) -> Result<Item, BindStop>
     ensures { Gives item_in result (specs.kind_call name (map item_in items.now)) }
 {
     match name {
         KindName::Single(function) => single_call(alloc, function, items),
+        KindName::AddMonths => months_call(alloc, items),
         KindName::PartByText | KindName::UnitByText => text_call(alloc, name, items),
     }
 }

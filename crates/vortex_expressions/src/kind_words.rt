@@ -25,6 +25,8 @@ pub(crate) enum KindName {
     PartByText,
     /// The value, truncated to the unit that a text before it names.
     UnitByText,
+    /// A date or a timestamp, so many months later.
+    AddMonths,
 }
 
 pub(crate) fn is_word(word: &[u8], other: &[u8]) -> bool
@@ -134,7 +136,7 @@ pub(crate) fn unit_word(word: &[u8]) -> Option<Unit>
     }
 }
 
-/// The function of a text and a value of that name.
+/// The function of that name of a text and a value, or of a value and a number of months.
 fn texted_word(word: &[u8]) -> Option<KindName>
     ensures { result ≡ specs.texted_word word.now }
 {
@@ -142,6 +144,8 @@ fn texted_word(word: &[u8]) -> Option<KindName>
         Some(KindName::PartByText)
     } else if is_word(word, b"date_trunc") {
         Some(KindName::UnitByText)
+    } else if is_word(word, b"add_months") {
+        Some(KindName::AddMonths)
     } else {
         None
     }

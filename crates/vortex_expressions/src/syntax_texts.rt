@@ -42,6 +42,8 @@ fn is_operator(expected: Expected) -> bool {
             | Expected::OperatorOrName
             | Expected::OperatorOrClose
             | Expected::OperatorOrComma
+            | Expected::OperatorOrFrom
+            | Expected::OperatorOrFor
             | Expected::OperatorOrAs
             | Expected::OperatorOrAnd
             | Expected::PredicateWord
