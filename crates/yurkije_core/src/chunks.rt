@@ -23,9 +23,28 @@ use vortex_columns::{Column, VortexError, VortexResult};
 use vortex_program::{Answer, Program, RunError, rows_at_once};
 use yurkije_columns::Joined;
 
-/// How many rows are run as a whole still: a run has a fixed cost, and so many rows take less than
-/// `malloc` maps from the system, as those of a usual chunk.
-pub(crate) const WHOLE: usize = 8192;
+/// Whether a program is one call of columns and literals, so that it makes no columns in between.
+fn is_single(answers: &[Answer]) -> bool {
+    match answers {
+        [answer] => answer
+            .tree
+            .children()
+            .iter()
+            .all(|child| child.children().is_empty()),
+        _ => false,
+    }
+}
+
+/// How many rows are run as a whole still: a run has a fixed cost. Of more, the columns in between
+/// would take so much that `free` gives memory back to the system, and the next run faults it in
+/// again.
+pub(crate) fn whole_rows(program: &Program) -> usize {
+    if is_single(&program.optimized) {
+        8192
+    } else {
+        2048
+    }
+}
 
 /// Some rows of a column. Where it has no null, no bits are read.
 fn chunk_of<'a>(column: &ArrowColumn<'a>, first: usize, count: usize) -> ArrowColumn<'a>

@@ -5,7 +5,7 @@ ghost use Rattle.vortex_types.specs.TypeOf.{struct_fields};
 ghost use Rattle.vortex_program.specs.Programs.{trees_of, AreRewrites};
 ghost use Rattle.yurkije_core.specs.Running.{AnswersBatch, RefusesRun};
 
-use crate::chunks::{WHOLE, begun, run_chunks};
+use crate::chunks::{begun, run_chunks, whole_rows};
 use std::alloc::Global;
 use vortex_arrow::ArrowColumn;
 use vortex_columns::Column;
@@ -120,7 +120,7 @@ pub fn run_program(
         (RefusesRun (struct_fields program.now.scope) program.now.kinds.items rows columns.now
         (trees_of program.now.written.items) (trees_of program.now.optimized.items)) }
 {
-    if rows > WHOLE && are_flat(columns) {
+    if rows > whole_rows(program) && are_flat(columns) {
         run_flat(alloc, program, columns, rows)
     } else {
         run_whole(alloc, program, columns, rows)
