@@ -192,7 +192,8 @@ impl StreamError {
             } => write!(f, "is no {dtype:?}"),
             StreamError::Misfit { kind, .. } => write!(f, "is no {kind}"),
             StreamError::Width { wanted, found, .. } => {
-                write!(f, "{found} fields instead of {wanted}")
+                let ending = if *found == 1 { "" } else { "s" };
+                write!(f, "{found} field{ending} instead of {wanted}")
             }
             StreamError::FieldTooLong { limit, .. } => write_too_long(f, *limit),
             StreamError::HeaderTooLong(limit) => write_too_long(f, *limit),
@@ -308,6 +309,11 @@ fn write_input<W: fmt::Write>(f: &mut fmt::Formatter<W>, error: &StreamError) ->
         StreamError::OpenHeader | StreamError::HeaderTooLong(_) => {
             f.write_str("header: ")?;
             error.write_reason(f)
+        }
+        StreamError::Width { row, .. } => {
+            write!(f, "row {row}: ")?;
+            error.write_reason(f)?;
+            f.write_str("; see --ragged and --errors")
         }
         error => {
             let row = error.row().unwrap_or(0);

@@ -1,11 +1,11 @@
 //! A command line, from its words to its status.
 
 use crate::failure::ProgramError;
-use crate::queries::query_of;
+use crate::queries::{is_like_path, query_of};
 use crate::standard_error::StandardError;
 use crate::streams::run_counted;
 use rowfn_batches::{Refusals, StreamError, check_names, explain, refusals_in};
-use rowfn_options::{Action, Options, read_options, status};
+use rowfn_options::{Action, Options, Source, read_options, status};
 use rowfn_queries::{Again, Query, Question};
 use std::fs;
 use std::io::Read;
@@ -37,6 +37,16 @@ fn print_query(console: &(impl Print + AllocGlobal), query: &Query) -> Result<()
     Ok(())
 }
 
+/// Says which columns are text by one field, and probably not meant to be: what compares them compares
+/// texts.
+fn note_mixed(console: &impl Eprint, query: &Query) {
+    for mixed in query.mixed.iter() {
+        if mixed.is_meant() {
+            let _ = eprintln!(console; "rowfn_stream: note: {mixed}");
+        }
+    }
+}
+
 /// Does what the options ask for with the rows of a reader.
 fn perform_on<R: Read + Drop>(
     files: &(impl Files + AllocGlobal),
@@ -49,6 +59,7 @@ fn perform_on<R: Read + Drop>(
     if options.action == Action::Explain {
         return Ok(print_query(console, &query)?);
     }
+    note_mixed(console, &query);
     match options.errors_to {
         Some(name) => {
             let refusals = refusals_in(files, name)?;
@@ -58,6 +69,29 @@ fn perform_on<R: Read + Drop>(
             let refusals = Refusals::new(console.alloc(), StandardError { console });
             run_counted(console, options, &query, reader, refusals)
         }
+    }
+}
+
+/// Whether a text is the path of a file that there is, with a point or a slash.
+fn is_path(files: &impl Files, text: &str) -> bool {
+    is_like_path(text) && fs::open(files, text).is_ok()
+}
+
+/// The options, where the only word next to a condition is the path of a file: that of the rows.
+fn with_rows<'a>(files: &impl Files, options: Options<'a>) -> Options<'a> {
+    match options.source {
+        Source::Text(text)
+            if options.condition.is_some()
+                && options.input.is_none()
+                && options.output_delimiter == options.delimiter
+                && is_path(files, text) => {
+            Options {
+                source: Source::Nowhere,
+                input: Some(text),
+                ..options
+            }
+        }
+        _ => options,
     }
 }
 
@@ -106,6 +140,7 @@ pub fn run_command<R: Read + Drop>(
         Ok(options) => options,
         Err(error) => return print_no_options(console, &error),
     };
+    let options = with_rows(files, options);
     match perform(files, console, &options, input) {
         Ok(()) => 0,
         Err(error) if error.is_closed_pipe() => PIPE_CLOSED,

@@ -13,6 +13,8 @@ pub enum ProgramError {
     Query(QueryError),
     /// The same, where the text of the answers names a file.
     QueryOfFile(QueryError, String),
+    /// The same, where the text of the answers is like the name of a file, and there is none.
+    QueryOfNoFile(QueryError, String),
     /// The rows end.
     Stream(StreamError),
     /// The rows end at a field that is none of its column's type, which the first rows gave it.
@@ -71,7 +73,9 @@ impl ProgramError {
     /// fit, 3 for reading, writing and memory, 4 for an expression that is wrong.
     pub(crate) fn status(&self) -> u8 {
         match self {
-            ProgramError::Query(error) | ProgramError::QueryOfFile(error, _) => error.status(),
+            ProgramError::Query(error)
+            | ProgramError::QueryOfFile(error, _)
+            | ProgramError::QueryOfNoFile(error, _) => error.status(),
             ProgramError::Stream(error) | ProgramError::Inferred(error) => error.status(),
             ProgramError::Input(_, _)
             | ProgramError::NoRefusals(_)
@@ -100,6 +104,10 @@ impl fmt::Display for ProgramError {
             ProgramError::QueryOfFile(error, name) => {
                 let name = name.as_str();
                 write!(f, "{error}; {name} is a file: expected it after --input")
+            }
+            ProgramError::QueryOfNoFile(error, name) => {
+                let name = name.as_str();
+                write!(f, "{error}; there is no file {name}")
             }
             ProgramError::Stream(error) => write!(f, "{error}"),
             ProgramError::Inferred(error) => {

@@ -62,6 +62,11 @@ fn read_texts<R: Read>(
     )
 }
 
+/// Whether a text is like the path of a file: it has a point or a slash, and no blank.
+pub(crate) fn is_like_path(text: &str) -> bool {
+    text.bytes().any(|byte| byte == b'.' || byte == b'/') && !text.bytes().any(|byte| byte == b' ')
+}
+
 /// What a text asks. Where it is refused next to a condition and names a file, that is probably the
 /// file of the rows.
 fn read_text<R: Read>(
@@ -74,6 +79,9 @@ fn read_text<R: Read>(
         Ok(query) => Ok(query),
         Err(error) if options.condition.is_some() && fs::open(rt, text).is_ok() => {
             Err(ProgramError::QueryOfFile(error, String::from_str(rt.alloc(), text)?))
+        }
+        Err(error) if options.condition.is_some() && is_like_path(text) => {
+            Err(ProgramError::QueryOfNoFile(error, String::from_str(rt.alloc(), text)?))
         }
         Err(error) => Err(ProgramError::Query(error)),
     }

@@ -158,6 +158,12 @@ fn shapes_option(matches: &ArgMatches<'_>, command: &mut Command<'_>) -> Result<
         let message = "--ragged: expected refuse or fit";
         return Err(refusal(command, ErrorKind::InvalidValue, message)?);
     };
+    if fits && matches.get_flag("append") {
+        let message =
+            "--append: answers behind rows of another width would stand below other names: \
+                       expected --ragged refuse";
+        return Err(refusal(command, ErrorKind::ArgumentConflict, message)?);
+    }
     let blank_lines = matches.get_str("blank-lines").unwrap_or("skip");
     let Some(blank_rows) = is_second(blank_lines, "skip", "null") else {
         let message = "--blank-lines: expected null or skip";

@@ -5,6 +5,7 @@ use Rattle.std.specs.Option.{option_and_then}
 use Rattle.std.specs.Str.{bytes_eq, is_utf8}
 use Rattle.vortex_types.specs.LogicalTypes.{LogicalType}
 use Rattle.vortex_syntax.specs.declared.token.Sign.TheVariants as sign
+use Rattle.vortex_syntax.specs.SizeDigits.{sizes_of}
 use Rattle.vortex_syntax.specs.Tokens.{Token, name, nullable, function, number, sign}
 use Rattle.vortex_cells.specs.TypeWords.{type_named}
 use Rattle.vortex_logical.specs.declared.kind.Kind.{Kind}
@@ -86,14 +87,18 @@ type_at_word n w [] = type_of_name n w
 type_at_word n w (o ∷ ts) =
     if is_decimal_word w && is_open o then decimal_at n 5 ts else type_of_name n w
 
-abbrev pub decimal_called : List ℕ → List Token → Outcome TypeAt
-decimal_called w ts =
-    if is_decimal_word w then decimal_at false 4 ts else refuses reason.UnknownType
+-- the decimal of the digits in its name
+abbrev pub sized_kind : List ℕ × List ℕ → Option Kind
+sized_kind x = kind_with (count_of x.0) (count_of x.1)
+
+abbrev pub sized_or_word : List ℕ → List Token → Option (List ℕ × List ℕ) → Outcome TypeAt
+sized_or_word w ts None = type_at_word false w ts
+sized_or_word w ts (Some x) = if_known 0 (option_and_then (of_kind false) (sized_kind x))
 
 -- the type that begins with a token, and has null where a question mark stands behind its word; the
--- bracket of digits stands right behind the word, and is of its token, or apart
+-- bracket of digits stands right behind the word, and is of its name, or apart
 abbrev pub type_at : Token → List Token → Outcome TypeAt
-type_at (name w) ts = type_at_word false w ts
+type_at (name w) ts = sized_or_word w ts (sizes_of w)
 type_at (nullable w) ts = type_at_word true w ts
-type_at (function w) ts = decimal_called w ts
+type_at (function w) ts = refuses reason.UnknownType
 type_at t ts = refuses reason.NoType

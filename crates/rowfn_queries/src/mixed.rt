@@ -1,4 +1,4 @@
-//! Columns that have numbers in the first rows, and are text by another field.
+//! Columns that have numbers, dates or timestamps in the first rows, and are text by another field.
 ghost use Rattle.std.specs.Prelude.{◌≡◌, ◌<◌, ◌*◌, length};
 
 use crate::inference::is_numeric;
@@ -7,32 +7,95 @@ use std::alloc::{AllocError, Global};
 use std::{fmt, str};
 use vortex_columns::{DType, StructFields, VortexError};
 use vortex_expressions::{Reason, Refusal, TextError};
+use vortex_logical::cells::read_cell;
+use vortex_logical::kind::Kind;
 
 /// How many bytes of a field are reported, at most.
 const REPORTED: usize = 40;
 
-/// A column that has numbers in the first rows, and is text by a field of one of them.
+/// Texts that other programs write for null.
+const NULLS: [&str; 15] = [
+    "NA", "N/A", "n/a", "na", "NULL", "null", "None", "none", "NaN", "nan", "-", "--", "?", ".",
+    "#N/A",
+];
+
+/// What the other fields of a column are.
+#[derive(Clone, Copy, Debug, PartialEq, Eq)]
+pub enum Shape {
+    /// Numbers of any form, which are floats.
+    Number,
+    Date,
+    Timestamp,
+}
+
+/// The name of its type.
+impl fmt::Display for Shape {
+    fn fmt<W: fmt::Write>(&self, f: &mut fmt::Formatter<W>) -> fmt::Result {
+        f.write_str(match self {
+            Shape::Number => "f64",
+            Shape::Date => "date",
+            Shape::Timestamp => "timestamp",
+        })
+    }
+}
+
+/// A column that has values of a kind in the first rows, and is text by a field of one of them.
 #[derive(Drop)]
 pub struct MixedColumn {
     pub name: String,
-    /// The first row of which the field is no number, counted from 1.
+    /// What its other fields are.
+    pub shape: Shape,
+    /// The first row of which the field is none of these, counted from 1.
     pub row: usize,
     /// The first bytes of that field.
     pub text: String,
+    /// Whether more fields than not are of the kind.
+    pub is_mostly: bool,
 }
 
 impl MixedColumn {
-    fn new(alloc: Global, name: &str, row: usize, text: &str) -> Result<MixedColumn, AllocError> {
+    fn new(
+        alloc: Global,
+        name: &str,
+        shape: Shape,
+        row: usize,
+        text: &str,
+        is_mostly: bool,
+    ) -> Result<MixedColumn, AllocError> {
         Ok(MixedColumn {
             name: String::from_str(alloc, name)?,
+            shape,
             row,
             text: String::from_str(alloc, text)?,
+            is_mostly,
         })
     }
 
     fn try_clone(&self, alloc: Global) -> Result<MixedColumn, AllocError> {
-        MixedColumn::new(alloc, self.name.as_str(), self.row, self.text.as_str())
+        MixedColumn::new(
+            alloc,
+            self.name.as_str(),
+            self.shape,
+            self.row,
+            self.text.as_str(),
+            self.is_mostly,
+        )
     }
+
+    /// Whether that field is what other programs write for null.
+    fn has_null(&self) -> bool {
+        NULLS.iter().any(|null| *null == self.text.as_str())
+    }
+
+    /// Whether the column is probably not meant to be text: that field is what other programs write
+    /// for null, or more fields than not are of the kind.
+    pub fn is_meant(&self) -> bool {
+        self.is_mostly || self.has_null()
+    }
+}
+
+fn has_digit(text: &str) -> bool {
+    text.bytes().any(|byte| byte.is_ascii_digit())
 }
 
 /// Whether a text begins as a number does, as `02134` or `+1`, or is empty, in quotes: so it is none
@@ -54,42 +117,92 @@ fn is_word(name: &str) -> bool {
 impl fmt::Display for MixedColumn {
     fn fmt<W: fmt::Write>(&self, f: &mut fmt::Formatter<W>) -> fmt::Result {
         let (name, row, text) = (self.name.as_str(), self.row, self.text.as_str());
+        let kind = self.shape;
         write!(f, "column {name} is text by row {row}: {text:?} (")?;
-        if !is_like_number(text) {
+        if self.has_null() || !has_digit(text) && !text.is_empty() {
             write!(f, "--null {text:?}, or ")?;
         }
-        if is_word(name) {
-            write!(f, "--columns '{name} f64')")
-        } else {
-            write!(f, "--columns '{name:?} f64')")
+        match (is_like_number(text) && !self.has_null(), is_word(name)) {
+            (true, true) => write!(f, "--columns '{name} {kind}')"),
+            (true, false) => write!(f, "--columns '{name:?} {kind}')"),
+            (false, true) => write!(f, "try_cast({name} as {kind}))"),
+            (false, false) => write!(f, "try_cast({name:?} as {kind}))"),
         }
     }
 }
 
-/// The first field of a column that is no number, with its row, counted from 1; none where no field is
-/// one.
+fn is_of(shape: Shape, text: &[u8]) -> bool {
+    match shape {
+        Shape::Number => is_numeric(Some(text)),
+        Shape::Date => read_cell(Kind::Date, text).is_some(),
+        Shape::Timestamp => read_cell(Kind::Timestamp, text).is_some(),
+    }
+}
+
+/// The first field of a column that is none of a kind.
+#[derive(Clone, Copy)]
+struct OtherField<'b> {
+    /// Its row, counted from 1.
+    row: usize,
+    text: &'b [u8],
+    /// Whether more fields than not are of the kind.
+    is_mostly: bool,
+}
+
+/// The first field of a column that is none of the kind; none where no field is one.
 fn first_text<'b>(
+    shape: Shape,
     fields: &[Option<&'b [u8]>],
     width: usize,
     row_count: usize,
     column: usize,
-) -> Option<(usize, &'b [u8])>
+) -> Option<OtherField<'b>>
     requires column { column < width }
     requires even { length fields.now ≡ width * row_count }
 {
     let mut first = None;
-    let mut has_number = false;
+    let (mut values, mut others) = (0usize, 0usize);
     for row in 0..row_count {
         let Some(text) = fields[row * width + column] else {
             continue;
         };
-        if is_numeric(Some(text)) {
-            has_number = true;
-        } else if first.is_none() {
+        if is_of(shape, text) {
+            values = values.saturating_add(1);
+            continue;
+        }
+        others = others.saturating_add(1);
+        if first.is_none() {
             first = Some((row + 1, text));
         }
     }
-    if has_number { first } else { None }
+    let (row, text) = first?;
+    let is_mostly = values > others;
+    if values == 0 {
+        return None;
+    }
+    Some(OtherField {
+        row,
+        text,
+        is_mostly,
+    })
+}
+
+/// That of the first kind of which some field of the column is.
+fn mixed_field<'b>(
+    fields: &[Option<&'b [u8]>],
+    width: usize,
+    row_count: usize,
+    column: usize,
+) -> Option<(Shape, OtherField<'b>)>
+    requires column { column < width }
+    requires even { length fields.now ≡ width * row_count }
+{
+    for shape in [Shape::Number, Shape::Date, Shape::Timestamp] {
+        if let Some(found) = first_text(shape, fields, width, row_count, column) {
+            return Some((shape, found));
+        }
+    }
+    None
 }
 
 /// The first bytes of a field.
@@ -110,7 +223,7 @@ fn is_text(types: &StructFields, name: &str) -> bool {
     }
 }
 
-/// The columns of those names that are text, by one field, and have numbers.
+/// The columns of those names that are text, by one field, and have numbers, dates or timestamps.
 pub(crate) fn mixed_columns(
     alloc: Global,
     names: &[String],
@@ -125,13 +238,15 @@ pub(crate) fn mixed_columns(
         if !is_text(types, names[column].as_str()) {
             continue;
         }
-        let Some((row, field)) = first_text(fields, names.len(), row_count, column) else {
+        let Some((shape, found)) = mixed_field(fields, names.len(), row_count, column) else {
             continue;
         };
-        let Ok(text) = str::from_utf8(field) else {
+        let Ok(text) = str::from_utf8(found.text) else {
             continue;
         };
-        columns.push(MixedColumn::new(alloc, names[column].as_str(), row, reported(text))?)?;
+        let (name, text) = (names[column].as_str(), reported(text));
+        let mixed = MixedColumn::new(alloc, name, shape, found.row, text, found.is_mostly)?;
+        columns.push(mixed)?;
     }
     Ok(columns)
 }

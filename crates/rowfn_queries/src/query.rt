@@ -13,6 +13,7 @@ use crate::binding::Binding;
 use crate::columns::Gathered;
 use crate::declared::{Declared, read_scope};
 use crate::error::QueryError;
+use crate::mixed::MixedColumn;
 use crate::question::Question;
 use crate::sample::{Sample, read_sample};
 use crate::scopes::{add_all, add_named};
@@ -47,6 +48,8 @@ pub struct Query {
     pub inferred: StructFields,
     /// The kinds of their values, by place.
     pub inferred_kinds: Vec<Kind>,
+    /// Those of them that are text by one field, and have numbers, dates or timestamps.
+    pub mixed: Vec<MixedColumn>,
 }
 
 /// All columns that are declared, that have the types of their fields, and that a header has besides.
@@ -179,6 +182,7 @@ pub fn read_query<R: Read>(
             condition,
             inferred: inferred.fields,
             inferred_kinds: inferred.kinds,
+            mixed,
         }),
         Err(error) => Err(with_header_names(binding, &texts, &names, error)),
     }

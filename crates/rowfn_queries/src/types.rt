@@ -9,7 +9,8 @@ ghost use Rattle.rowfn_queries.specs.DeclaredTypes.{is_comma, is_open, is_close,
 ghost use Rattle.rowfn_queries.specs.DeclaredTypes.{type_by, declared_type, type_of_name};
 ghost use Rattle.rowfn_queries.specs.DeclaredTypes.{is_decimal_word, count_of, count_in, kind_with};
 ghost use Rattle.rowfn_queries.specs.DeclaredTypes.{decimal_of, decimal_at, type_at_word};
-ghost use Rattle.rowfn_queries.specs.DeclaredTypes.{decimal_called, type_at};
+ghost use Rattle.rowfn_queries.specs.DeclaredTypes.{sized_kind, sized_or_word, type_at};
+ghost use Rattle.vortex_syntax.specs.SizeDigits.{sizes_of};
 ghost use Rattle.vortex_logical.specs.Kinds.{decimal_kind, digit_of, teen_of};
 
 use crate::column_type::ColumnType;
@@ -20,7 +21,7 @@ use vortex_cells::types::type_named;
 use vortex_columns::Nullability;
 use vortex_logical::digits::DecimalDigits;
 use vortex_logical::kind::{Kind, kind_named};
-use vortex_syntax::{Sign, Token};
+use vortex_syntax::{Sign, Token, sizes_of};
 
 /// A type as it is written, and how many tokens of it follow its first.
 #[derive(Drop)]
@@ -199,16 +200,32 @@ fn type_at_word(
     }
 }
 
-/// The decimal of a word right behind which a bracket opens.
-fn decimal_called(word: &[u8], behind: &[Token<'_>]) -> Result<WrittenType, ScopeReason>
+/// The decimal of the digits in its name.
+fn sized_kind(precision: &[u8], scale: &[u8]) -> Option<Kind>
+    ensures { result ≡ sized_kind (precision.now, scale.now) }
+{
+    kind_with(count_of(precision), count_of(scale))
+}
+
+/// The type of a name without a question mark: with sizes it is a decimal's.
+fn sized_or_word(
+    alloc: Global,
+    word: &[u8],
+    behind: &[Token<'_>],
+) -> Result<WrittenType, ScopeReason>
     ensures given { Gives (λ t. type_by t) result
-        (decimal_called word.now (map token_in behind.now)) }
+        (sized_or_word word.now (map token_in behind.now) (sizes_of word.now)) }
     ensures further { IfOk result (λ t. (t.further ≤ 5) × (t.further ≤ length behind.now)) }
 {
-    if is_decimal_word(word) {
-        decimal_at(Nullability::NonNullable, 4, behind)
-    } else {
-        Err(ScopeReason::UnknownType)
+    let Some((precision, scale)) = sizes_of(word) else {
+        return type_at_word(alloc, word, Nullability::NonNullable, behind);
+    };
+    let Some(kind) = sized_kind(precision, scale) else {
+        return Err(ScopeReason::UnknownType);
+    };
+    match ColumnType::of_kind(kind, Nullability::NonNullable) {
+        Some(column) => Ok(WrittenType { column, further: 0 }),
+        None => Err(ScopeReason::UnknownType),
     }
 }
 
@@ -224,9 +241,9 @@ pub(crate) fn type_at(
     ensures further { IfOk result (λ t. (t.further ≤ 5) × (t.further ≤ length behind.now)) }
 {
     match token {
-        Token::Name(word) => type_at_word(alloc, word, Nullability::NonNullable, behind),
+        Token::Name(word) => sized_or_word(alloc, word, behind),
         Token::Nullable(word) => type_at_word(alloc, word, Nullability::Nullable, behind),
-        Token::Function(word) => decimal_called(word, behind),
+        Token::Function(_) => Err(ScopeReason::UnknownType),
         _ => Err(ScopeReason::NoType),
     }
 }
