@@ -41,7 +41,7 @@ fn print_query(console: &(impl Print + AllocGlobal), query: &Query) -> Result<()
 /// texts.
 fn note_mixed(console: &impl Eprint, query: &Query) {
     for mixed in query.mixed.iter() {
-        if mixed.is_meant() {
+        if mixed.is_meant {
             let _ = eprintln!(console; "rowfn_stream: note: {mixed}");
         }
     }

@@ -49,8 +49,14 @@ pub struct MixedColumn {
     pub row: usize,
     /// The first bytes of that field.
     pub text: String,
-    /// Whether more fields than not are of the kind.
-    pub is_mostly: bool,
+    /// Whether the column is probably not meant to be text: that field is what other programs write
+    /// for null, or more fields than not are of the kind.
+    pub is_meant: bool,
+}
+
+/// Whether a text is what other programs write for null.
+fn is_null_text(text: &str) -> bool {
+    NULLS.iter().any(|null| *null == text)
 }
 
 impl MixedColumn {
@@ -60,14 +66,14 @@ impl MixedColumn {
         shape: Shape,
         row: usize,
         text: &str,
-        is_mostly: bool,
+        is_meant: bool,
     ) -> Result<MixedColumn, AllocError> {
         Ok(MixedColumn {
             name: String::from_str(alloc, name)?,
             shape,
             row,
             text: String::from_str(alloc, text)?,
-            is_mostly,
+            is_meant,
         })
     }
 
@@ -78,19 +84,8 @@ impl MixedColumn {
             self.shape,
             self.row,
             self.text.as_str(),
-            self.is_mostly,
+            self.is_meant,
         )
-    }
-
-    /// Whether that field is what other programs write for null.
-    fn has_null(&self) -> bool {
-        NULLS.iter().any(|null| *null == self.text.as_str())
-    }
-
-    /// Whether the column is probably not meant to be text: that field is what other programs write
-    /// for null, or more fields than not are of the kind.
-    pub fn is_meant(&self) -> bool {
-        self.is_mostly || self.has_null()
     }
 }
 
@@ -119,10 +114,10 @@ impl fmt::Display for MixedColumn {
         let (name, row, text) = (self.name.as_str(), self.row, self.text.as_str());
         let kind = self.shape;
         write!(f, "column {name} is text by row {row}: {text:?} (")?;
-        if self.has_null() || !has_digit(text) && !text.is_empty() {
+        if is_null_text(text) || !has_digit(text) && !text.is_empty() {
             write!(f, "--null {text:?}, or ")?;
         }
-        match (is_like_number(text) && !self.has_null(), is_word(name)) {
+        match (is_like_number(text) && !is_null_text(text), is_word(name)) {
             (true, true) => write!(f, "--columns '{name} {kind}')"),
             (true, false) => write!(f, "--columns '{name:?} {kind}')"),
             (false, true) => write!(f, "try_cast({name} as {kind}))"),
@@ -245,8 +240,8 @@ pub(crate) fn mixed_columns(
             continue;
         };
         let (name, text) = (names[column].as_str(), reported(text));
-        let mixed = MixedColumn::new(alloc, name, shape, found.row, text, found.is_mostly)?;
-        columns.push(mixed)?;
+        let is_meant = found.is_mostly || is_null_text(text);
+        columns.push(MixedColumn::new(alloc, name, shape, found.row, text, is_meant)?)?;
     }
     Ok(columns)
 }
