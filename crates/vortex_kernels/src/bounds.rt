@@ -65,8 +65,9 @@ fn hold_in_both<P: Comparison, Q: Comparison, L: Pairs, U: Pairs>(
     collect_rows(alloc, &rows, len)
 }
 
-/// The same for pairs of which 64 are compared at once.
-fn hold_both_in_spans<P: Comparison, Q: Comparison, L: SpanPairs, U: SpanPairs>(
+/// Whether both comparisons are true in each row, of pairs of which 64 are compared at once. E9
+/// where memory is refused.
+pub fn hold_both_in_spans<P: Comparison, Q: Comparison, L: SpanPairs, U: SpanPairs>(
     alloc: Global,
     lower: L,
     upper: U,

@@ -9,7 +9,7 @@ use vortex_bits::WordFormula;
 use vortex_views::{WordsOfBytes, compare, equal};
 
 /// A comparison.
-pub(crate) trait Comparison: WordFormula + Copy {
+pub trait Comparison: WordFormula + Copy {
     ghost use Rattle.std.specs.Prelude.{◌≡◌, ◌<◌, ℕ, Bool, map, length};
     ghost use Rattle.std.specs.Ordering.{bool_cmp};
     ghost use Rattle.vortex_kernels.specs.Words.{CompareOperator, holds, byte_order, bit};
@@ -45,23 +45,29 @@ pub(crate) trait Comparison: WordFormula + Copy {
     ghost of_bits: { (l r : Bool) → Self.says l r ≡ holds operator (bool_cmp l r) };
 }
 
+/// `a = b`
 #[derive(Clone, Copy)]
-pub(crate) struct IsEqual {}
+pub struct IsEqual {}
 
+/// `a <> b`
 #[derive(Clone, Copy)]
-pub(crate) struct IsNotEqual {}
+pub struct IsNotEqual {}
 
+/// `a > b`
 #[derive(Clone, Copy)]
-pub(crate) struct IsGreater {}
+pub struct IsGreater {}
 
+/// `a >= b`
 #[derive(Clone, Copy)]
-pub(crate) struct IsGreaterOrEqual {}
+pub struct IsGreaterOrEqual {}
 
+/// `a < b`
 #[derive(Clone, Copy)]
-pub(crate) struct IsLess {}
+pub struct IsLess {}
 
+/// `a <= b`
 #[derive(Clone, Copy)]
-pub(crate) struct IsLessOrEqual {}
+pub struct IsLessOrEqual {}
 
 impl WordFormula for IsEqual {
     ghost use Rattle.std.specs.Ordering.{bool_cmp};

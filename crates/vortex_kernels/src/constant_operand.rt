@@ -15,8 +15,9 @@ use std::alloc::Global;
 use vortex_checked::{CheckedDiv, CheckedMul, ConstantArithmetic, Divisor, factor_ends};
 use vortex_columns::{Column, ExecutionCtx, NumericOperator, VortexResult};
 
-/// The product of each integer with the factor, and whether the type does not hold one of them.
-fn bounded_products<T: ArithmeticInteger>(
+/// The product of each integer with the factor, and whether the type does not hold one of them. E9
+/// where memory is refused.
+pub fn bounded_products<T: ArithmeticInteger>(
     alloc: Global,
     numbers: &[T],
     factor: T,

@@ -6,7 +6,7 @@ mod unsigned;
 use vortex_columns::NativePType;
 
 /// One of the eight integer types, 64 of which are compared at once.
-pub(crate) trait LaneInteger: NativePType {
+pub trait LaneInteger: NativePType {
     ghost use Rattle.std.specs.Prelude.{◌≡◌, ◌<◌, ℕ, map, length};
     ghost use Rattle.vortex_kernels.specs.Words.{bit, Eq, Gt, Lt, holds, int_orders};
     ghost use Rattle.vortex_kernels.specs.Words.{int_orders_with};

@@ -4,7 +4,7 @@ ghost use Rattle.std.specs.Prelude.{◌≡◌, ◌<◌, ℕ, ℤ, pos, map, leng
 use vortex_columns::NativePType;
 
 /// An integer for each row.
-pub(crate) trait Numbers<T: NativePType> {
+pub trait Numbers<T: NativePType> {
     ghost has_row: { Self → ℕ → Type 0 };
 
     /// The number in a row. Arbitrary under a null.
@@ -17,8 +17,8 @@ pub(crate) trait Numbers<T: NativePType> {
 
 /// The integers of a column.
 #[derive(Clone, Copy)]
-pub(crate) struct ListedNumbers<'a, T: NativePType> {
-    pub(crate) values: &'a [T],
+pub struct ListedNumbers<'a, T: NativePType> {
+    pub values: &'a [T],
 }
 
 impl<T: NativePType> Numbers<T> for ListedNumbers<'_, T> {
@@ -33,8 +33,8 @@ impl<T: NativePType> Numbers<T> for ListedNumbers<'_, T> {
 
 /// One integer in each row.
 #[derive(Clone, Copy)]
-pub(crate) struct OneNumber<T: NativePType> {
-    pub(crate) value: T,
+pub struct OneNumber<T: NativePType> {
+    pub value: T,
 }
 
 impl<T: NativePType> Numbers<T> for OneNumber<T> {

@@ -79,8 +79,8 @@ fn unfaulted_rows<T: ArithmeticInteger, O: RowOperation<T>, L: Numbers<T>, R: Nu
 }
 
 /// The value of each row, even under a null, and whether any row faults, by the loop that is best
-/// for the operation.
-fn checked_rows<T: ArithmeticInteger, O: RowOperation<T>, L: Numbers<T>, R: Numbers<T>>(
+/// for the operation. E9 where memory is refused.
+pub fn checked_rows<T: ArithmeticInteger, O: RowOperation<T>, L: Numbers<T>, R: Numbers<T>>(
     alloc: Global,
     left: &L,
     right: &R,

@@ -24,7 +24,7 @@ use vortex_columns::{
 use vortex_views::ConstantBytes;
 
 /// Pairs of values, a left and a right one for each row.
-pub(crate) trait Pairs: Copy {
+pub trait Pairs: Copy {
     ghost has_pair: { Self → ℕ → Type 0 };
 
     /// The order of the values in a row. Arbitrary under a null.
@@ -37,7 +37,7 @@ pub(crate) trait Pairs: Copy {
 }
 
 /// Pairs of which 64 are compared at once.
-pub(crate) trait SpanPairs: Pairs {
+pub trait SpanPairs: Pairs {
     /// Whether the comparison is true for pairs `at` to `at + 63`, the first as the least
     /// significant bit.
     fn hold_from<P: Comparison>(&self, at: usize) -> u64
@@ -86,8 +86,9 @@ pub(crate) fn hold_in_pairs<P: Comparison, R: Pairs>(
     collect_rows(alloc, &rows, len)
 }
 
-/// The same for pairs of which 64 are compared at once.
-fn hold_in_spans<P: Comparison, R: SpanPairs>(
+/// Whether the comparison is true in each row, of pairs of which 64 are compared at once. E9 where
+/// memory is refused.
+pub fn hold_in_spans<P: Comparison, R: SpanPairs>(
     alloc: Global,
     pairs: R,
     len: usize,
@@ -121,9 +122,9 @@ impl Pairs for CellPairs<'_> {
 
 /// The integers of two columns.
 #[derive(Clone, Copy)]
-pub(crate) struct IntPairs<'a, T: LaneInteger> {
-    pub(crate) left: &'a [T],
-    pub(crate) right: &'a [T],
+pub struct IntPairs<'a, T: LaneInteger> {
+    pub left: &'a [T],
+    pub right: &'a [T],
 }
 
 impl<T: LaneInteger> Pairs for IntPairs<'_, T> {
@@ -144,9 +145,9 @@ impl<T: LaneInteger> SpanPairs for IntPairs<'_, T> {
 
 /// The integers of a column and a constant.
 #[derive(Clone, Copy)]
-pub(crate) struct IntsAndOne<'a, T: LaneInteger> {
-    pub(crate) left: &'a [T],
-    pub(crate) right: T,
+pub struct IntsAndOne<'a, T: LaneInteger> {
+    pub left: &'a [T],
+    pub right: T,
 }
 
 impl<T: LaneInteger> Pairs for IntsAndOne<'_, T> {

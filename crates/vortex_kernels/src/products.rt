@@ -56,7 +56,7 @@ fn overflow_32(left: i32, right: i32) -> u32
 }
 
 /// Multiplication of 16 and 32 bits: the product, wrapped.
-pub(crate) struct VectorMul {}
+pub struct VectorMul {}
 
 impl CheckedPrimitiveOp<i16> for VectorMul {
     ghost use Rattle.std.specs.Prelude.{◌*ℤ◌, Some};

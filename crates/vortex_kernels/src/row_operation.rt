@@ -5,7 +5,7 @@ use crate::products::VectorMul;
 use vortex_checked::{CheckedAdd, CheckedDiv, CheckedMul, CheckedPrimitiveOp, CheckedSub};
 
 /// A checked operation, and the best form of its loop.
-pub(crate) trait RowOperation<T: ArithmeticInteger>: CheckedPrimitiveOp<T> {
+pub trait RowOperation<T: ArithmeticInteger>: CheckedPrimitiveOp<T> {
     /// Whether the loop stops at the first fault, even under a null. Else flags are joined over all
     /// rows, so that the loop can become vector code.
     const ENDS_AT_FAULT: bool;
@@ -29,7 +29,7 @@ impl<T: ArithmeticInteger> RowOperation<T> for CheckedDiv {
 
 /// Multiplication of 64 bits: the product, wrapped. No vector holds such products, and the
 /// processor flags each overflow.
-pub(crate) struct WideMul {}
+pub struct WideMul {}
 
 impl CheckedPrimitiveOp<i64> for WideMul {
     ghost use Rattle.std.specs.Prelude.{◌*ℤ◌, Some};
