@@ -220,7 +220,7 @@ pub(crate) fn hold_in_cells<P: Comparison>(
 }
 
 /// The integer in each row of a constant column of integers of one type, unless it is null.
-pub(crate) fn constant_int<T: NativePType>(column: &Column) -> Option<T>
+pub fn constant_int<T: NativePType>(column: &Column) -> Option<T>
     ensures value { IfSome result (λ x. IsConstantOf (number (T.number x)) column.now) }
     ensures null { IfNone result (IsSome column.now.constant
         → IsIntegerType T.ptype column.now.dtype → IsNullColumn column.now) }

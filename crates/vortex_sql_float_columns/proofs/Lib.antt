@@ -1,2 +1,2 @@
-mod FloatRows
+pub mod FloatRows
 pub mod PlainResults

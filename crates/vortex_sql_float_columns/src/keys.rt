@@ -17,7 +17,7 @@ use vortex_float_bits::{WIDE_NAN, is_finite, is_infinite, is_nan, is_zero, turn_
 use vortex_sql_floats::floats::FloatOperator;
 
 /// An integer that stands for a float, for each row.
-pub(crate) trait Keys {
+pub trait Keys {
     ghost use Rattle.std.specs.Prelude.{◌≡◌, ℕ, ℤ};
 
     ghost has_row: { Self → ℕ → Type 0 };
@@ -32,8 +32,8 @@ pub(crate) trait Keys {
 
 /// The integers of a column.
 #[derive(Clone, Copy)]
-pub(crate) struct ListedKeys<'a> {
-    pub(crate) keys: &'a [i64],
+pub struct ListedKeys<'a> {
+    pub keys: &'a [i64],
 }
 
 impl Keys for ListedKeys<'_> {
@@ -50,8 +50,8 @@ impl Keys for ListedKeys<'_> {
 
 /// One integer in each row.
 #[derive(Clone, Copy)]
-pub(crate) struct OneKey {
-    pub(crate) key: i64,
+pub struct OneKey {
+    pub key: i64,
 }
 
 impl Keys for OneKey {
@@ -141,8 +141,8 @@ fn rows_by<O: Operation, L: Keys, R: Keys>(
 }
 
 /// The integer of each row's result, even under a null, unless one of them may fault. An operand
-/// that is infinite counts as such.
-pub(crate) fn key_rows<L: Keys, R: Keys>(
+/// that is infinite counts as such. E9 where memory is refused.
+pub fn key_rows<L: Keys, R: Keys>(
     alloc: Global,
     operator: FloatOperator,
     left: &L,

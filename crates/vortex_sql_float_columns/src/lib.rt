@@ -2,7 +2,7 @@
 #![tactic(auto)]
 
 mod execute;
-mod keys;
+pub mod keys;
 mod operations;
 
 pub use execute::execute_float_operator;
