@@ -37,8 +37,8 @@ pub struct ColumnError {
     pub fault: ColumnFault,
 }
 
-/// The type of a column's values.
-fn dtype_of(column: &ArrowColumn<'_>) -> DType
+/// The type of a column's values. Allocates nothing.
+pub fn dtype_of(column: &ArrowColumn<'_>) -> DType
     ensures { type_of result ≡ type_borrowed column.now }
 {
     let nullability = nullability(column.nullable);
