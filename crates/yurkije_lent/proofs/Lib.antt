@@ -1,0 +1,9 @@
+pub mod Bounded
+pub mod Calculated
+pub mod CallRows
+pub mod Dropped
+pub mod FloatArithmetic
+pub mod FloatSides
+pub mod Leaves
+pub mod LentRows
+pub mod Optional

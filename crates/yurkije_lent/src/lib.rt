@@ -1,0 +1,20 @@
+//! Trees over the columns of a batch where a caller's buffers lie: comparisons, BETWEEN, arithmetic
+//! and what joins them, without a copy of a value.
+#![tactic(auto)]
+
+mod between;
+mod calls;
+mod compare;
+mod execute;
+mod float_arithmetic;
+mod floats;
+mod integer_types;
+mod integers;
+mod numeric;
+pub mod operand;
+mod types;
+mod validity;
+
+pub use execute::{execute_lent, is_direct, leaves_fit};
+pub use operand::Operand;
+pub use types::are_typed;
