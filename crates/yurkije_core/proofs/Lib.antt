@@ -3,4 +3,5 @@ pub mod ChunkRuns
 pub mod ChunkRows
 pub mod PutRows
 pub mod ChunkAnswers
+pub mod LentAnswers
 pub mod MarkedPlaces

@@ -1,8 +1,8 @@
 -- Answers of a batch that is run chunk by chunk.
 use Rattle.std.specs.Prelude.{◌≡◌, ◌<◌, ◌≤◌, ◌+◌, ◌*◌, ◌/◌, ◌^◌, ◌++◌, ℕ, List}
-use Rattle.std.specs.Prelude.{[], ◌∷◌, length, Option, Some, IfSome, ⊤}
+use Rattle.std.specs.Prelude.{[], ◌∷◌, length, Option, Some, IfSome, All, ⊤}
 use Rattle.vortex_types.specs.Values.{Value}
-use Rattle.vortex_columns.specs.ColumnView.{ColumnView, row}
+use Rattle.vortex_columns.specs.ColumnView.{ColumnView, row, AreTyped}
 use Rattle.vortex_interface.specs.Outcomes.{gives}
 use Rattle.vortex_interface.specs.Eval.{eval, tree_type, HasTreeRows}
 use Rattle.vortex_interface.specs.Execution.{LeavesFit}
@@ -56,3 +56,8 @@ ArePut [] [] [] = ⊤
 ArePut (o ∷ os) (d ∷ ds) (e ∷ es) =
     (e.dtype ≡ o.dtype) × (e.rows ≡ o.rows ++ d.rows) × ArePut os ds es
 ArePut os ds es = ⊥
+
+-- each leaf of the trees has its column, and each column rows of its type
+pub record AreLent (cs : List ColumnView) (ts : List Tree) : Type 0 where
+  pub fit : All (LeavesFit cs) ts
+  pub typed : All (λ c. AreTyped c.dtype c.rows) cs

@@ -1,13 +1,14 @@
 //! A program run over a batch chunk by chunk: what lies between is made anew for each chunk, and is
 //! small enough to stay in the caches, but for programs of long lists, whose chunks have more rows.
 ghost use Rattle.std.specs.Prelude.{◌≡◌, ◌<◌, ◌≤◌, ◌+◌, ◌*◌, ◌/◌, ◌^◌, ◌⊎◌, ℕ, List};
-ghost use Rattle.std.specs.Prelude.{All, IfOk, IfErr};
+ghost use Rattle.std.specs.Prelude.{All, IfOk, IfErr, IsTrue};
 ghost use Rattle.std.specs.Prelude.{IfSome, MatchResult, MatchOption, None, [], length, map};
 ghost use Rattle.vortex_errors.specs.Answers.{AnswersUnlessMemory};
 ghost use Rattle.vortex_interface.specs.Bound.{IsBound};
 ghost use Rattle.vortex_interface.specs.Execution.{other_length};
 ghost use Rattle.vortex_functions.specs.Walks.{AllMean};
 ghost use Rattle.vortex_expressions.specs.Items.{meaning};
+ghost use Rattle.yurkije_core.specs.Chunks.{AreLent};
 ghost use Rattle.vortex_arrow.specs.Columns.{arrow_column};
 ghost use Rattle.vortex_program.specs.Executing.{AllGiveWithin};
 ghost use Rattle.vortex_program.specs.Programs.{trees_of, AreRewrites};
@@ -17,6 +18,8 @@ ghost use Rattle.yurkije_columns.specs.Batches.{batch_column};
 ghost use Rattle.yurkije_core.specs.Chunks.{HasChunk, RunsFrom, AnswersFrom, AreRun, AreAnswered};
 ghost use Rattle.yurkije_core.specs.Chunks.{HasChunkIfRead, TakesRows, ArePut};
 
+use crate::lent::{execute_parts, is_lent};
+use crate::parts::{chunk_of, parts_of};
 use std::alloc::Global;
 use vortex_arrow::{ArrowColumn, to_column};
 use vortex_columns::{Column, VortexError, VortexResult};
@@ -46,21 +49,14 @@ pub(crate) fn whole_rows(program: &Program) -> usize {
     }
 }
 
-/// Some rows of a column. Where it has no null, no bits are read.
-fn chunk_of<'a>(column: &ArrowColumn<'a>, first: usize, count: usize) -> ArrowColumn<'a>
-    requires { HasChunk first count column.now }
-    ensures { HasRows first count (arrow_column column.now) (arrow_column result) }
-{
-    ArrowColumn {
-        nullable: column.nullable,
-        length: count,
-        offset: column.offset + first,
-        validity: if column.nullable {
-            column.validity
-        } else {
-            None
-        },
-        values: column.values,
+/// How many rows are run as a whole over columns where they lie. One call makes its own column
+/// alone, which no copy comes before; of more calls the columns in between are to stay in the
+/// caches.
+pub(crate) fn whole_lent_rows(program: &Program) -> usize {
+    if is_single(&program.optimized) {
+        usize::MAX
+    } else {
+        2048
     }
 }
 
@@ -123,8 +119,11 @@ fn run_chunk(
     rows: usize,
     first: usize,
     count: usize,
+    is_lent: bool,
 ) -> Result<Vec<Column>, RunError>
     requires chunk { All (HasChunkIfRead first count) columns.now }
+    requires lent { IsTrue is_lent → AreLent (map (batch_column rows) columns.now)
+        (trees_of program.now.written.items) }
     requires within { first + count ≤ rows }
     requires even { other_length rows (map (batch_column rows) columns.now) ≡ None }
     requires written { All IsBound (trees_of program.now.written.items) }
@@ -142,6 +141,11 @@ fn run_chunk(
         → IfErr result (RefusesTrees (map (batch_column rows) columns.now) rows
         (trees_of program.now.written.items) (trees_of program.now.optimized.items)) }
 {
+    if is_lent && let Some(parts) = parts_of(alloc, columns, first, count) {
+        if let Some(answers) = execute_parts(alloc, &program.optimized, &parts, count) {
+            return Ok(answers);
+        }
+    }
     let Some(chunk) = read_chunk(alloc, columns, first, count) else {
         return Err(RunError::OutOfMemory);
     };
@@ -173,9 +177,12 @@ fn add_chunk(
     rows: usize,
     first: usize,
     count: usize,
+    is_lent: bool,
     joined: &mut Vec<Joined>,
 ) -> Result<(), RunError>
     requires chunk { All (HasChunkIfRead first count) columns.now }
+    requires lent { IsTrue is_lent → AreLent (map (batch_column rows) columns.now)
+        (trees_of program.now.written.items) }
     requires within { first + count ≤ rows }
     requires even { other_length rows (map (batch_column rows) columns.now) ≡ None }
     requires whole { 8 * (first / 8) ≡ first }
@@ -194,7 +201,7 @@ fn add_chunk(
         → IfErr result (RefusesTrees (map (batch_column rows) columns.now) rows
         (trees_of program.now.written.items) (trees_of program.now.optimized.items)) }
 {
-    let answers = match run_chunk(alloc, program, columns, rows, first, count) {
+    let answers = match run_chunk(alloc, program, columns, rows, first, count, is_lent) {
         Ok(answers) => answers,
         Err(error) => return Err(error),
     };
@@ -205,7 +212,7 @@ fn add_chunk(
 }
 
 /// Says that the leaves of each tree are places of its scope.
-fn learn_bound(answers: &[Answer])
+pub(crate) fn learn_bound(answers: &[Answer])
     ensures { All IsBound (trees_of answers.now) }
 {
     for answer in answers {
@@ -276,14 +283,24 @@ fn add_chunks(
 {
     learn_bound(&program.written);
     learn_bound(&program.optimized);
+    let is_lent = is_lent(program, columns);
     let mut first = 0;
     'chunks: while rows - first > count {
-        match add_chunk(alloc, program, columns, rows, first, count, joined) {
+        match add_chunk(alloc, program, columns, rows, first, count, is_lent, joined) {
             Ok(()) => first += count,
             Err(error) => return Err(error),
         }
     }
-    add_chunk(alloc, program, columns, rows, first, rows - first, joined)
+    add_chunk(
+        alloc,
+        program,
+        columns,
+        rows,
+        first,
+        rows - first,
+        is_lent,
+        joined,
+    )
 }
 
 /// How many rows are run at once: the usual number, if memory is refused as the lists are measured.

@@ -4,6 +4,8 @@
 
 mod chunks;
 pub mod expression;
+mod lent;
+mod parts;
 pub mod reading;
 pub mod report;
 pub mod running;

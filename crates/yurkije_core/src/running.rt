@@ -5,7 +5,8 @@ ghost use Rattle.vortex_types.specs.TypeOf.{struct_fields};
 ghost use Rattle.vortex_program.specs.Programs.{trees_of, AreRewrites};
 ghost use Rattle.yurkije_core.specs.Running.{AnswersBatch, RefusesRun};
 
-use crate::chunks::{begun, run_chunks, whole_rows};
+use crate::chunks::{begun, learn_bound, run_chunks, whole_lent_rows, whole_rows};
+use crate::lent::{execute_parts, is_lent};
 use std::alloc::Global;
 use vortex_arrow::ArrowColumn;
 use vortex_columns::Column;
@@ -99,6 +100,32 @@ fn run_flat(
     }
 }
 
+/// What `run_program` answers, where the program is run over the columns where they lie. None where
+/// it is not, a column is wrong, a row faults, or memory is refused.
+fn run_lent(
+    alloc: Global,
+    program: &Program,
+    columns: &[Option<ArrowColumn<'_>>],
+    rows: usize,
+) -> Option<Vec<Column>>
+    ensures { AreRewrites program.now.written.items program.now.optimized.items
+        → IfSome result (λ answers. AnswersBatch (struct_fields program.now.scope)
+        program.now.kinds.items rows columns.now (trees_of program.now.written.items)
+        answers.items) }
+{
+    if !is_lent(program, columns) {
+        return None;
+    }
+    let Ok(()) = check_batch(alloc, &program.scope, &program.kinds, columns, rows) else {
+        return None;
+    };
+    learn_bound(&program.written);
+    let Some(answers) = execute_parts(alloc, &program.optimized, columns, rows) else {
+        return None;
+    };
+    Some(answers)
+}
+
 /// What the program returns for a batch of so many rows: a column for each answer, which has its
 /// value in each row in which it has one. So says each program that is read: what runs are
 /// rewrites of what was written. A column that no answer reads is None: an answer that reads one is
@@ -120,6 +147,11 @@ pub fn run_program(
         (RefusesRun (struct_fields program.now.scope) program.now.kinds.items rows columns.now
         (trees_of program.now.written.items) (trees_of program.now.optimized.items)) }
 {
+    if rows <= whole_lent_rows(program)
+        && let Some(answers) = run_lent(alloc, program, columns, rows)
+    {
+        return Ok(answers);
+    }
     if rows > whole_rows(program) && are_flat(columns) {
         run_flat(alloc, program, columns, rows)
     } else {

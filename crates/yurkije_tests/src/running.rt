@@ -59,6 +59,15 @@ fn columns_are_answered(rt: HostRuntime) {
     assert!(rt; answers(rt, b"number * number, name like '%o%'", expected));
 }
 
+#[test]
+fn columns_are_run_where_they_lie(rt: HostRuntime) {
+    let expected = [
+        "bool?: false null true true false",
+        "bool?: true null false true true",
+    ];
+    assert!(rt; answers(rt, b"number > 1 and number <= 4, not number = 2", expected));
+}
+
 /// Whether the run of a text over the columns is refused with that status, column and row, in these
 /// words.
 fn refuses(

@@ -1,8 +1,8 @@
 use Rattle.std.proofs.Common.{◌≡◌, true, false, sym, ◌∙◌}
 use Rattle.vortex_arrow.specs.Layouts.{layout_of}
 use Rattle.yurkije_core.proofs.ChunkOf.{chunk_has}
-use Rattle.yurkije_core.proofs.chunks.chunk_of.Goals.{then-column, else-column}
-use Rattle.yurkije_core.proofs.chunks.chunk_of.Goals as goal
+use Rattle.yurkije_core.proofs.parts.chunk_of.Goals.{then-column, else-column}
+use Rattle.yurkije_core.proofs.parts.chunk_of.Goals as goal
 
 pub returns : goal.returns
 returns c =
