@@ -2,10 +2,11 @@
  * Yurkije: expressions over columns, for C and C++.
  *
  * An expression is a text over named fields, `price * stock as worth, name like 'a%'`. It is read
- * once, and then run over as many batches of columns as there are. Columns are read where they lie,
- * in the layout of Apache Arrow: each run copies each that an answer reads once, part by part where
- * none is of texts or byte strings, and keeps nothing of the caller's. Answers are columns, which are
- * copied into buffers of the caller in the same layout.
+ * once, and then run over as many batches of columns as there are. Columns lie in buffers of the
+ * caller, in the layout of Apache Arrow. Comparisons, BETWEEN, arithmetic, `and`, `or` and `not` of
+ * numbers, dates, times and truth values read them there; for other calls a run copies each that an
+ * answer reads once, part by part where none is of texts or byte strings. Nothing of the caller's is
+ * kept. Answers are columns, which are copied into buffers of the caller in the same layout.
  *
  *     struct yk_expression expression;
  *     struct yk_answers answers;
@@ -241,13 +242,14 @@ struct yk_type {
     bool nullable;
 };
 
-/* A column, which is borrowed for a run and, where an answer reads it, copied once. Row `i` is item `offset + i`: bit of the
- * validity and of truth values, integer, view, and text from its offset to the next. `kind` says
- * which of the slices are read; the others stay zeroed. A column that no answer reads may be zeroed as
- * a whole. No row is null where `validity` is empty.
- * What lies under a null may be anything, but for offsets: there too they are not negative, do not
- * fall, and do not pass the end of `data`. Of rows that are wrong the first is told. Texts that are
- * too long are told where no row is wrong, byte strings that are too long in their row's turn. */
+/* A column, which is borrowed for a run: read where it lies or, where an answer reads it, copied
+ * once. Row `i` is item `offset + i`: bit of the validity and of truth values, integer, view, and
+ * text from its offset to the next. `kind` says which of the slices are read; the others stay
+ * zeroed. A column that no answer reads may be zeroed as a whole. No row is null where `validity` is
+ * empty. What lies under a null may be anything, but for offsets: there too they are not negative,
+ * do not fall, and do not pass the end of `data`. Of rows that are wrong the first is told. Texts
+ * that are too long are told where no row is wrong, byte strings that are too long in their row's
+ * turn. */
 struct yk_column {
     uint32_t kind;
     bool nullable;               /* as the field is */
