@@ -3,10 +3,10 @@
  *
  * An expression is a text over named fields, `price * stock as worth, name like 'a%'`. It is read
  * once, and then run over as many batches of columns as there are. Columns lie in buffers of the
- * caller, in the layout of Apache Arrow. Comparisons, BETWEEN, arithmetic, `and`, `or` and `not` of
- * numbers, dates, times and truth values read them there; for other calls a run copies each that an
- * answer reads once, part by part where none is of texts or byte strings. Nothing of the caller's is
- * kept. Answers are columns, which are copied into buffers of the caller in the same layout.
+ * caller, in the layout of Apache Arrow. Expressions of comparisons, `and`, `or`, `not` and most
+ * arithmetic read them there (docs/EMBEDDING.md lists the calls); for others a run copies each that
+ * an answer reads once, part by part where none is of texts or byte strings. Nothing of the caller's
+ * is kept. Answers are columns, which are copied into buffers of the caller in the same layout.
  *
  *     struct yk_expression expression;
  *     struct yk_answers answers;

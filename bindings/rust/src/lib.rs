@@ -23,8 +23,8 @@
 //! # }
 //! ```
 //!
-//! Columns are borrowed for a call and read where they lie or, for other calls than the C header
-//! names, copied once; answers are copied out. Threads share an [`Expression`] and its [`Answers`], which are `Sync`; the thread that made them frees them: neither is `Send`. Batches with texts run fastest at some 8,192 rows.
+//! Columns are borrowed for a call and read where they lie or, for other calls than
+//! docs/EMBEDDING.md lists, copied once; answers are copied out. Threads share an [`Expression`] and its [`Answers`], which are `Sync`; the thread that made them frees them: neither is `Send`. Batches with texts run fastest at some 8,192 rows.
 #![allow(clippy::unit_arg)]
 
 mod answers;
