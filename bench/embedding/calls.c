@@ -44,6 +44,12 @@ __attribute__((noinline)) static void less(size_t rows) {
         mask[i] = a[i] < b[i];
 }
 
+__attribute__((noinline)) static void over_five(size_t rows) {
+    const int64_t *a = values[0];
+    for (size_t i = 0; i < rows; i++)
+        mask[i] = 5 < a[i];
+}
+
 __attribute__((noinline)) static void tree(size_t rows) {
     const int64_t *a = values[0], *b = values[1], *c = values[2], *d = values[3];
     for (size_t i = 0; i < rows; i++)
@@ -97,6 +103,7 @@ struct timed {
 
 static struct timed all[] = {
     {"a < b", YK_I64, 2, less, false, {0, 0}},
+    {"5 < a", YK_I64, 1, over_five, false, {0, 0}},
     {"a < b and c * 2 + d > 5", YK_I64, 4, tree, false, {0, 0}},
     {"a < b", YK_F64, 2, less_floats, false, {0, 0}},
     {"a between b and c", YK_F64, 3, between_floats, false, {0, 0}},
@@ -208,27 +215,26 @@ static void time_list(size_t rows) {
     yk_expression_free(&one.expression);
 }
 
-static void time_fault(void) {
-    struct timed it = {"100 / a", YK_I64, 1, NULL, false, {0, 0}};
+static void time_fault(const char *text) {
+    struct timed it = {text, YK_I64, 2, NULL, false, {0, 0}};
+    int64_t *a = &values[0][faulty_rows - 1], *b = &values[1][faulty_rows - 1];
+    const int64_t kept[] = {*a, *b};
     double with[turns], without[turns], ratio[turns];
     read_text(&it);
-    for (size_t i = 0; i < faulty_rows; i++)
-        values[0][i] = 1 + (int64_t)(i % 99);
     for (int at = 0; at < turns; at++) {
         double start = now();
         if (run(&it, faulty_rows) != YK_OK)
             stop("a run is refused");
         double between = now();
-        values[0][faulty_rows - 1] = 0;
+        *a = INT64_MAX, *b = 2;
         if (run(&it, faulty_rows) != YK_ARITHMETIC)
             stop("a fault is not told");
         with[at] = now() - between;
-        values[0][faulty_rows - 1] = 1;
+        *a = kept[0], *b = kept[1];
         without[at] = between - start;
         ratio[at] = with[at] / without[at];
     }
-    printf("\n| `%s`, %d rows | ns |\n|---|---|\n| no fault | %.0f |\n| a fault in the last row | %.0f |\n| ratio | %.2f |\n", it.text, faulty_rows,
-           median(without), median(with), median(ratio));
+    printf("| `%s` | %.0f | %.0f | %.2f |\n", it.text, median(without), median(with), median(ratio));
     yk_expression_free(&it.expression);
 }
 
@@ -252,7 +258,10 @@ int main(void) {
     printf("\n| Rows | `a = 5`, ns a row | `a in (..)` of %d | more |\n|---|---|---|---|\n", items);
     for (size_t i = 2; i < sizeof rows / sizeof *rows; i++)
         time_list(rows[i]);
-    time_fault();
+    printf("\n| %d rows | no fault, ns | a fault in the last row | ratio |\n|---|---|---|---|\n", faulty_rows);
+    time_fault("a + b");
+    time_fault("a * b");
+    time_fault("a + b < 5");
     yk_answers_free(&answers);
     return 0;
 }

@@ -1,6 +1,6 @@
 -- What runs over columns where they lie has the values of what was written.
-use Rattle.std.proofs.Common.{◌≡◌, ◌∙◌, ℕ, ◌+◌, ◌<◌, ◌≤◌, List, [], ◌∷◌, ◌++◌, map, length, sym, ap}
-use Rattle.std.proofs.Common.{arith, Option, refl}
+use Rattle.std.proofs.Common.{◌≡◌, ◌∙◌, ℕ, ◌+◌, ◌≤◌, List, [], ◌∷◌, sym, ap}
+use Rattle.std.proofs.Common.{arith}
 use Rattle.std.specs.Prelude.{All, None}
 use Rattle.vortex_types.specs.Values.{Value, null}
 use Rattle.vortex_columns.specs.ColumnView.{ColumnView, AreTyped}

@@ -4,4 +4,5 @@ pub mod ChunkRows
 pub mod PutRows
 pub mod ChunkAnswers
 pub mod LentAnswers
+pub mod Looked
 pub mod MarkedPlaces

@@ -4,6 +4,7 @@
 
 mod chunks;
 pub mod expression;
+mod faults;
 mod lent;
 mod parts;
 pub mod reading;

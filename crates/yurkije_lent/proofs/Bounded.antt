@@ -13,7 +13,7 @@ use Rattle.vortex_columns.specs.ValidRows.{IsJointValidity, IsValidityIn}
 use Rattle.vortex_bits.specs.Rows.{AreRows}
 use Rattle.vortex_operators.specs.declared.operators.CompareOperator.{CompareOperator}
 use Rattle.vortex_operators.specs.OperatorValues.{holds}
-use Rattle.vortex_kernels.specs.Between.{HasNoNull, AreBeside}
+use Rattle.vortex_kernels.specs.Between.{HasNoNull, AreBeside, AreBounded}
 use Rattle.vortex_kernels.specs.Comparison.{IsOrderAt}
 use Rattle.vortex_kernels.proofs.BoundedRows.{beside_held}
 use Rattle.yurkije_lent.proofs.Optional.{some_answers, some_weaker}
@@ -33,6 +33,25 @@ beside_rows test op order xs bounds r o e orders h =
     (AreBeside test op xs bounds)
     (λ bits are. beside_held test op order xs bounds (length xs) bits refl orders are)
     (some_answers r (AreRows (length xs) (λ i. test i && holds op (order i))) (λ f. ⊥) o e h)
+
+-- each row and both of its bounds, compared in order
+pub bounded_rows : (op other : CompareOperator) (above below : ℕ → Ordering)
+    (xs lower upper : List Value) (r : Result (List Bool) VortexError) (o : Option (List Bool))
+    → o ≡ result_ok r → ((i : ℕ) → i < length xs → IsOrderAt xs lower i (above i))
+    → ((i : ℕ) → i < length xs → IsOrderAt xs upper i (below i))
+    → AnswersUnlessMemory r
+    (AreRows (length xs) (λ i. holds op (above i) && holds other (below i)))
+    → IfSome o (AreBounded op other xs lower upper)
+bounded_rows op other above below xs lower upper r o e over under h =
+    some_weaker o (AreRows (length xs) (λ i. holds op (above i) && holds other (below i)))
+    (AreBounded op other xs lower upper)
+    (λ bits are. record {
+      count = are.count;
+      each = λ i lt p l u.
+          are.each i lt ∙ (λ j. holds op (over i lt p l j) && holds other (under i lt p u j));
+    })
+    (some_answers r (AreRows (length xs) (λ i. holds op (above i) && holds other (below i)))
+    (λ f. ⊥) o e h)
 
 -- beside rows that are not null, a type that is nullable or not
 pub valid_beside : (n m : Bool) (x b : ColumnView) (v : ValidityView) → n ≡ m

@@ -1,26 +1,26 @@
 -- From the rows of operands to those of a call.
-use Rattle.std.proofs.Common.{◌≡◌, ℕ, zero, suc, ◌+◌, ◌<◌, Bool, true, false, List, [], ◌∷◌, ◌++◌}
-use Rattle.std.proofs.Common.{length, map, take, get_or, Option, Some, None, Ok, refl, sym, ap, subst}
+use Rattle.std.proofs.Common.{◌≡◌, ℕ, zero, suc, ◌<◌, Bool, true, false, List, [], ◌∷◌, ◌++◌}
+use Rattle.std.proofs.Common.{length, map, take, get_or, Some, None, Ok, refl, sym, ap, subst}
 use Rattle.std.proofs.Common.{◌∙◌, arith}
 use Rattle.std.specs.Prelude.{slice_get, ◌||◌, IsSome}
 use Rattle.vortex_types.specs.LogicalTypes.{LogicalType}
 use Rattle.vortex_types.specs.TypeEquality.{alike_types}
 use Rattle.vortex_columns.specs.ColumnView.{ColumnView}
-use Rattle.vortex_operators.specs.declared.operators.Operator.{Operator}
 use Rattle.vortex_operators.specs.declared.operators.CompareOperator.{CompareOperator}
-use Rattle.vortex_operators.specs.Operators.{compare_operator_of}
 use Rattle.vortex_operators.specs.Arithmetic.{integer_of_both}
-use Rattle.vortex_kernels.specs.Comparison.{HasComparisonRows, AnswersCompare, is_settled}
+use Rattle.vortex_kernels.specs.Comparison.{HasComparisonRows, is_settled}
 use Rattle.vortex_errors.specs.declared.error.NumericOperator.{NumericOperator}
 use Rattle.vortex_operators.specs.declared.between.BetweenOptions.{BetweenOptions}
 use Rattle.vortex_kernels.specs.Between.{HasBetweenRows}
+use Rattle.vortex_kernels.specs.NullTests.{HasTests}
 use Rattle.vortex_kernels.specs.Numeric.{AnswersNumeric}
 use Rattle.vortex_interface.specs.Args.{AreOfLength}
 use Rattle.vortex_interface.specs.Outcomes.{HasCallRows, types_in}
 use Rattle.vortex_interface.specs.Meaning.{Meaning, fits}
 use Rattle.vortex_interface.specs.Functions.{Function, ours, function_arity, function_type}
 use Rattle.vortex_interface.specs.Functions.{function_means}
-use Rattle.vortex_interface.specs.Shipped.{Binary, Between}
+use Rattle.vortex_interface.specs.Shipped.{Between, NullTest}
+use Rattle.vortex_interface.specs.Shipped.NullTestFunctions.{null_test_value}
 use Rattle.vortex_interface.specs.Trees.{Tree, Trees, leaf, constant, call, no_trees, tree, trees_of}
 use Rattle.vortex_interface.specs.Trees.{list_of, children_of, called}
 use Rattle.vortex_interface.specs.Eval.{tree_type, HasTreeRows}
@@ -29,6 +29,7 @@ use Rattle.vortex_functions.proofs.Execution.{AllHaveRows, accepted, counts_are,
 use Rattle.vortex_shipped.proofs.BinaryCalls.{TwoAlike, two_alike, comparison_call}
 use Rattle.vortex_shipped.proofs.NumericCalls.{TwoIntegers, two_integers, numeric_call}
 use Rattle.vortex_shipped.proofs.BetweenCalls.{ThreeAlike, three_alike, between_call}
+use Rattle.vortex_shipped.proofs.NullTestCalls.{null_test_call}
 use Rattle.vortex_sql_floats.specs.declared.floats.FloatOperator.{FloatOperator}
 use Rattle.vortex_sql_float_columns.specs.KeyedRows.{HasFloatRows}
 use Rattle.vortex_sql_float_columns.proofs.FloatRows.{call_rows}
@@ -190,6 +191,16 @@ module _ {V O : Type 0} (m : Meaning V O) (f : Function V O) (options : BetweenO
       subst (λ (g : Function V O). HasCallRows (function_type m g) (function_means m g) ds n c)
       (sym is)
       (between_call options ds x lower upper n three_operands (Ok c) count rows)
+
+-- and a null test of one
+module _ {V O : Type 0} (m : Meaning V O) (f : Function V O) (negated : Bool)
+    (ds : List ColumnView) (x c : ColumnView) (n : ℕ) (is : f ≡ ours (NullTest negated))
+    (one : length ds ≡ 1) (first : slice_get ds 0 ≡ Some x) where
+  pub tested : length x.rows ≡ n → HasTests (null_test_value negated) x c
+      → HasCallRows (function_type m f) (function_means m f) ds n c
+  tested count rows =
+      subst (λ (g : Function V O). HasCallRows (function_type m g) (function_means m g) ds n c)
+      (sym is) (null_test_call negated ds x n (Ok c) one first count rows)
 
 -- and arithmetic of two floats
 module _ {O : Type 0} (f : Function Standard O) (op : FloatOperator) (ds : List ColumnView)

@@ -69,19 +69,23 @@ one_number z c h = record {
   each = λ i lt valid. h i lt;
 }
 
--- the integers of both sides compare as the rows do
+-- the order of the integers of both sides is that of the rows
+pub sides_order : (l r : ColumnView) (has_left has_right : ℕ → Type 0) (left right : ℕ → ℤ)
+    → length l.rows ≡ length r.rows → AreNumbers l has_left left → AreNumbers r has_right right
+    → (i : ℕ) → i < length l.rows → IsOrderAt l.rows r.rows i (int_cmp (left i) (right i))
+sides_order l r has_left has_right left right same on_left on_right i lt p q =
+    λ j. compare_values (sym (on_left.each i lt p) j)
+    (sym (on_right.each i (omega (arith, lt, same)) q) j)
+
+-- so they compare as the rows do
 pub sides_compare : (op : CompareOperator) (l r : ColumnView) (has_left has_right : ℕ → Type 0)
     (left right : ℕ → ℤ) (a : Result (List Bool) VortexError)
     → length l.rows ≡ length r.rows → AreNumbers l has_left left → AreNumbers r has_right right
     → AnswersUnlessMemory a (AreHeld op (λ i. int_cmp (left i) (right i)) (length l.rows))
     → AnswersUnlessMemory a (AreComparisons op l.rows r.rows)
 sides_compare op l r has_left has_right left right a same on_left on_right =
-    answers_compare op (λ i. int_cmp (left i) (right i)) l.rows r.rows a order
-  where
-    order : (i : ℕ) → i < length l.rows → IsOrderAt l.rows r.rows i (int_cmp (left i) (right i))
-    order i lt p q =
-        λ j. compare_values (sym (on_left.each i lt p) j)
-        (sym (on_right.each i (omega (arith, lt, same)) q) j)
+    answers_compare op (λ i. int_cmp (left i) (right i)) l.rows r.rows a
+    (sides_order l r has_left has_right left right same on_left on_right)
 
 -- what holds of a result
 pub ok_holds : {A : Type 0} (r : Result A VortexError) (P : A → Type 0) (o : Option A)

@@ -1,5 +1,5 @@
 -- Leaves of a tree over lent columns, and the tree of its children.
-use Rattle.std.proofs.Common.{◌≡◌, ◌∙◌, ℕ, ◌<◌, List, map, length, Option, Some, None, refl, sym, ap, subst}
+use Rattle.std.proofs.Common.{◌≡◌, ◌∙◌, ℕ, List, length, Option, Some, None, sym, ap, subst}
 use Rattle.std.specs.Prelude.{slice_get, IfSome}
 use Rattle.vortex_types.specs.LogicalTypes.{LogicalType}
 use Rattle.vortex_types.specs.ScalarView.{ScalarView}
@@ -11,10 +11,7 @@ use Rattle.vortex_interface.specs.Trees.{literal}
 use Rattle.vortex_interface.specs.Eval.{tree_type, HasTreeRows, rows_or_none}
 use Rattle.vortex_interface.specs.Execution.{LeavesFit, AllLeavesFit}
 use Rattle.vortex_functions.specs.Binding.{IsLeaf, IsLeafAt}
-use Rattle.vortex_arrow.specs.declared.column.ArrowColumn.{ArrowColumn}
-use Rattle.yurkije_columns.specs.Batches.{batch_column}
 use Rattle.yurkije_lent.proofs.CallRows.{listed_back}
-use Rattle.yurkije_lent.specs.Operands.{HasLeafRows}
 
 same_type : (t u : LogicalType) → Some t ≡ Some u → t ≡ u
 same_type t u e = cc

@@ -4,7 +4,7 @@ use Rattle.std.proofs.Common.{◌≡◌, ℕ, zero, suc, ◌+◌, ◌<◌, Bool,
 use Rattle.std.proofs.Common.{length, Option, Some, get_or, map, take, drop, ◌-◌, ◌≤◌}
 use Rattle.std.proofs.Common.{None, refl, sym, ap, subst, ◌∙◌, arith, ◌⊎◌, inl, inr}
 use Rattle.std.proofs.Common.{add-one}
-use Rattle.std.specs.Prelude.{ℤ, pos, not, slice_index_or, ◌||◌, All, IsTrue}
+use Rattle.std.specs.Prelude.{ℤ, pos, not, slice_index_or, ◌||◌, All}
 use Rattle.std.proofs.lemmas.List.FromFn.{get_or-map-range_with_len, length-map-range_with_len}
 use Rattle.vortex_types.specs.declared.dtype.PType.{PType}
 use Rattle.vortex_types.specs.declared.dtype.PType.TheVariants.{I8, I16, I32, I64, U8, U16, U32, U64}

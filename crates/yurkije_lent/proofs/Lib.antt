@@ -6,4 +6,7 @@ pub mod FloatArithmetic
 pub mod FloatSides
 pub mod Leaves
 pub mod LentRows
+pub mod NullTests
 pub mod Optional
+pub mod Served
+pub mod Swapped

@@ -1,5 +1,5 @@
-//! Whether each row of an operand of integers, or of what integers stand for, is between two
-//! bounds.
+//! Whether each row of an operand of integers, of what integers stand for, or of floats that are
+//! lent is between two bounds.
 ghost use Rattle.std.specs.Prelude.{◌≡◌, ◌<◌, ℕ, IfSome, length};
 ghost use Rattle.vortex_columns.specs.ValidityView.{validity_of};
 ghost use Rattle.vortex_columns.specs.ValidRows.{IsValidityIn};
@@ -8,6 +8,8 @@ ghost use Rattle.vortex_kernels.specs.Words.{any_nullable, bound_operator, compa
 ghost use Rattle.yurkije_lent.specs.Operands.{operand_column};
 
 use crate::compare::one;
+use crate::float_bounds::hold_between_floats;
+use crate::floats::are_lent_floats;
 use crate::integer_types::integer_type;
 use crate::integers::{LentInteger, ints};
 use crate::operand::Operand;
@@ -70,7 +72,7 @@ fn ints_between<P: Comparison, Q: Comparison, T: LentInteger>(
     ints_beside::<P, Q, IntsAndOne<T>, T>(alloc, array, pairs, upper)
 }
 
-/// The same; the integer type is chosen before the rows.
+/// The same; the integer type is chosen before the rows, and floats that are lent come first.
 fn hold_between<P: Comparison, Q: Comparison>(
     alloc: Global,
     array: &Operand<'_>,
@@ -84,6 +86,9 @@ fn hold_between<P: Comparison, Q: Comparison>(
     ensures { IfSome result (AreBounded P.operator Q.operator (operand_column array.now).rows
         (operand_column lower.now).rows (operand_column upper.now).rows) }
 {
+    if are_lent_floats(array) {
+        return hold_between_floats::<P, Q>(alloc, array, lower, upper);
+    }
     match integer_type(array)? {
         PType::I8 => ints_between::<P, Q, i8>(alloc, array, lower, upper),
         PType::I16 => ints_between::<P, Q, i16>(alloc, array, lower, upper),
@@ -153,9 +158,9 @@ fn valid_between(
     }
 }
 
-/// Whether each row of an operand of integers that is not constant, or of what they stand for, is
-/// between the row's bounds, of which none is null. None for others, where a bound has a list of
-/// valid rows, and where memory is refused.
+/// Whether each row of an operand of integers that is not constant, of what they stand for, or of
+/// floats that are lent is between the row's bounds, of which none is null. None for others, where a
+/// bound has a list of valid rows, and where memory is refused.
 pub(crate) fn between_operands(
     alloc: Global,
     options: &BetweenOptions,

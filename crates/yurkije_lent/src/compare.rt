@@ -93,7 +93,7 @@ fn compare_rows<P: Comparison>(
 /// The comparison of two operands row by row, where the left one is of integers, or of what they
 /// stand for, and not constant; the operator is chosen before the rows. None for others, and where
 /// memory is refused.
-pub(crate) fn compare_operands(
+fn compare_beside(
     alloc: Global,
     operator: CompareOperator,
     left: &Operand<'_>,
@@ -110,5 +110,33 @@ pub(crate) fn compare_operands(
         CompareOperator::Gte => compare_rows::<IsGreaterOrEqual>(alloc, left, right),
         CompareOperator::Lt => compare_rows::<IsLess>(alloc, left, right),
         CompareOperator::Lte => compare_rows::<IsLessOrEqual>(alloc, left, right),
+    }
+}
+
+/// Whether an operand has one value in each row.
+fn is_one(operand: &Operand<'_>) -> bool {
+    match operand {
+        Operand::Lent(_) => false,
+        Operand::Made(column) => column.as_constant().is_some(),
+    }
+}
+
+/// The comparison of two operands row by row, of integers or of what they stand for, of which one at
+/// most is constant: with a constant on the left by the swapped operator. None for others, and where
+/// memory is refused.
+pub(crate) fn compare_operands(
+    alloc: Global,
+    operator: CompareOperator,
+    left: &Operand<'_>,
+    right: &Operand<'_>,
+) -> Option<Column>
+    requires { length (operand_column left.now).rows ≡ length (operand_column right.now).rows }
+    ensures { IfSome result
+        (HasComparisonRows operator (operand_column left.now) (operand_column right.now)) }
+{
+    if is_one(left) {
+        compare_beside(alloc, operator.swap(), right, left)
+    } else {
+        compare_beside(alloc, operator, left, right)
     }
 }

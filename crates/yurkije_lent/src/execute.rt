@@ -6,6 +6,7 @@ ghost use Rattle.vortex_interface.specs.Eval.{HasTreeRows};
 ghost use Rattle.vortex_interface.specs.Execution.{LeavesFit, other_length};
 ghost use Rattle.vortex_standard.specs.Standard.{standard_meaning};
 ghost use Rattle.yurkije_columns.specs.Batches.{batch_column};
+ghost use Rattle.yurkije_lent.specs.Calls.{is_direct_tree};
 ghost use Rattle.yurkije_lent.specs.Operands.{operand_column, HasLeafRows};
 
 use crate::calls::{call_rows, direct_call};
@@ -93,11 +94,16 @@ pub fn leaves_fit(tree: &BoundExpression<Standard>, columns: &[Option<ArrowColum
 
 /// Whether each call of a tree is executed over rows where they lie, and at most `depth` stand one
 /// in another.
-fn part_is_direct(part: Part<'_>, depth: usize) -> bool {
+fn part_is_direct(part: Part<'_>, depth: usize) -> bool
+    ensures { result ≡ is_direct_tree depth part.entry.tree.now }
+{
     let Some(function) = part.tree.as_scalar() else {
         return true;
     };
-    if depth == 0 || direct_call(function).is_none() {
+    if depth == 0 {
+        return false;
+    }
+    if direct_call(function).is_none() {
         return false;
     }
     for child in part.tree.children() {
@@ -108,9 +114,11 @@ fn part_is_direct(part: Part<'_>, depth: usize) -> bool {
     true
 }
 
-/// Whether `execute_lent` executes each call of a tree, if no row faults. Of a tree of which this is
-/// not so it executes calls in vain.
-pub fn is_direct(tree: &BoundExpression<Standard>) -> bool {
+/// Whether each call of a tree is of a function that `execute_lent` executes, and at most 32 stand
+/// one in another. Of another tree it executes calls in vain.
+pub fn is_direct(tree: &BoundExpression<Standard>) -> bool
+    ensures { result ≡ is_direct_tree 32 tree.now }
+{
     part_is_direct(Part { tree }, DEPTH)
 }
 

@@ -184,10 +184,10 @@ impl<T: LaneInteger> Lanes<T> for OneNumber<T> {
 
 /// The integers of two sides.
 #[derive(Clone, Copy)]
-struct SidePairs<T: FloatLane, L: Lanes<T>, R: Lanes<T>> {
-    left: L,
-    right: R,
-    of: PhantomData<T>,
+pub(crate) struct SidePairs<T: FloatLane, L: Lanes<T>, R: Lanes<T>> {
+    pub(crate) left: L,
+    pub(crate) right: R,
+    pub(crate) of: PhantomData<T>,
 }
 
 impl<T: FloatLane, L: Lanes<T>, R: Lanes<T>> Pairs for SidePairs<T, L, R> {
@@ -331,13 +331,8 @@ fn hold_in_lanes<P: Comparison, T: FloatLane>(
         return hold_beside_patterns::<P, T>(alloc, lefts, left, right);
     }
     let rights = keys_that_lie::<T>(right)?;
-    if let Some(lefts) = made_keys::<T>(left) {
-        return hold_in_sides::<P, T, ListedNumbers<T>, ListedPatterns<T>>(
-            alloc, lefts, rights, left, right,
-        );
-    }
-    let lefts = one_key::<T>(left)?;
-    hold_in_sides::<P, T, OneNumber<T>, ListedPatterns<T>>(alloc, lefts, rights, left, right)
+    let lefts = made_keys::<T>(left)?;
+    hold_in_sides::<P, T, ListedNumbers<T>, ListedPatterns<T>>(alloc, lefts, rights, left, right)
 }
 
 /// Whether an operand is floats that are lent.
@@ -354,8 +349,8 @@ pub(crate) fn are_lent_floats(operand: &Operand<'_>) -> bool {
 }
 
 /// Whether the comparison is true in each row in which both sides have a value, of floats of which
-/// a side at least is lent, and the other one is lent, a column of the keys or one key in each row.
-/// None for other operands, floats of two widths, and where memory is refused.
+/// a side at least is lent, and the other one is lent, a column of the keys or, on the right, one key
+/// in each row. None for other operands, floats of two widths, and where memory is refused.
 pub(crate) fn hold_in_floats<P: Comparison>(
     alloc: Global,
     left: &Operand<'_>,

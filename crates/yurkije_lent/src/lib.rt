@@ -1,5 +1,5 @@
-//! Trees over the columns of a batch where a caller's buffers lie: comparisons, BETWEEN, arithmetic
-//! and what joins them, without a copy of a value.
+//! Trees over the columns of a batch where a caller's buffers lie: comparisons, BETWEEN, null tests,
+//! arithmetic and what joins them, without a copy of a value.
 #![tactic(auto)]
 
 mod between;
@@ -7,9 +7,11 @@ mod calls;
 mod compare;
 mod execute;
 mod float_arithmetic;
+mod float_bounds;
 mod floats;
 mod integer_types;
 mod integers;
+mod null_tests;
 mod numeric;
 pub mod operand;
 mod types;

@@ -45,8 +45,8 @@ fn marks(alloc: Global, column: &ArrowColumn<'_>) -> Option<Column>
     to_column(alloc, &truths).ok()
 }
 
-/// A column that is null where the operand is.
-fn nulls_of<'r>(alloc: Global, operand: &'r Operand<'_>) -> Option<Cow<'r, Column>>
+/// A column that is null where the operand is. None where memory is refused.
+pub(crate) fn nulls_of<'r>(alloc: Global, operand: &'r Operand<'_>) -> Option<Cow<'r, Column>>
     ensures { IfSome result (λ c. HasNullsOf (operand_column operand.now) (cow_value c)) }
 {
     match operand {

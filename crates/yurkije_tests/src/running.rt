@@ -68,6 +68,15 @@ fn columns_are_run_where_they_lie(rt: HostRuntime) {
     assert!(rt; answers(rt, b"number > 1 and number <= 4, not number = 2", expected));
 }
 
+#[test]
+fn constants_and_null_tests_are_run_where_columns_lie(rt: HostRuntime) {
+    let expected = [
+        "bool?: false null false true true",
+        "bool: true false true true true",
+    ];
+    assert!(rt; answers(rt, b"3 < number, number is not null", expected));
+}
+
 /// Whether the run of a text over the columns is refused with that status, column and row, in these
 /// words.
 fn refuses(

@@ -1,5 +1,4 @@
 use Rattle.std.proofs.Common.{add-one, map, subst, sym}
-use Rattle.vortex_columns.specs.ColumnView.{ColumnView}
 use Rattle.vortex_interface.specs.Execution.{Executes}
 use Rattle.vortex_expressions.specs.Items.{meaning}
 use Rattle.vortex_program.proofs.Answered.{all_more}

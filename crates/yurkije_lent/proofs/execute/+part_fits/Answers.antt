@@ -1,4 +1,4 @@
-use Rattle.std.proofs.Common.{◌≡◌, ◌<◌, ◌≤◌, ◌∙◌, ap, add-one, arith, length, map, refl, subst, sym}
+use Rattle.std.proofs.Common.{◌<◌, ◌≤◌, ◌∙◌, ap, add-one, arith, length, map, refl, subst, sym}
 use Rattle.std.proofs.Common.{take, take_all, get_or, ℕ}
 use Rattle.vortex_types.specs.TypeOf.{type_of}
 use Rattle.vortex_interface.specs.Execution.{AllLeavesFit}

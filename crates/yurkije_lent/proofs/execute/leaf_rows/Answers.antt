@@ -1,4 +1,4 @@
-use Rattle.std.proofs.Common.{◌≡◌, ◌∙◌, Option, Some, get_or, subst, arith, sym, length}
+use Rattle.std.proofs.Common.{◌≡◌, ◌∙◌, Option, Some, get_or, subst, arith, sym}
 use Rattle.std.specs.Prelude.{slice_get}
 use Rattle.vortex_types.specs.TypeOf.{type_of}
 use Rattle.vortex_types.specs.TypeEquality.{type_eq-decides}

@@ -1,4 +1,4 @@
-use Rattle.std.proofs.Common.{arith, rules, subst, take_all, map}
+use Rattle.std.proofs.Common.{arith, rules, subst, take_all}
 use Rattle.std.specs.Prelude.{All}
 use Rattle.vortex_columns.specs.ColumnView.{AreTyped}
 use Rattle.yurkije_columns.specs.Batches.{batch_column}

@@ -1,5 +1,4 @@
-use Rattle.std.proofs.Common.{◌≡◌, false, true, subst, sym, inl, inr, arith, Option, None, is_some}
-use Rattle.std.specs.Prelude.{not}
+use Rattle.std.proofs.Common.{◌≡◌, false, subst, sym, inl, inr, arith}
 use Rattle.vortex_kernels.specs.Words.{HasNoNull}
 use Rattle.yurkije_lent.specs.declared.operand.Operand.{Operand}
 use Rattle.yurkije_lent.specs.Operands.{operand_column}
