@@ -4,10 +4,13 @@ use Rattle.std.specs.Prelude.{Some, None, ⊤, length, nat_eq, refl}
 use Rattle.std.specs.List.{list_any}
 use Rattle.std.specs.Cmp.{unsigned_Decides}
 use Rattle.std.proofs.Common.{arith, sym, ap, ◌∙◌, subst, cond, inl, inr}
-use Rattle.vortex_types.specs.LogicalTypes.{LogicalType, bool_type, is_bool_type, is_nullable}
+use Rattle.vortex_types.specs.LogicalTypes.{LogicalType, bool_type, is_nullable}
+use Rattle.vortex_types.specs.ScalarView.{ScalarView}
 use Rattle.vortex_types.specs.TypeEquality.{alike_types}
-use Rattle.vortex_types.specs.Values.{Value, null, truth}
+use Rattle.vortex_types.specs.Values.{Value}
 use Rattle.vortex_columns.specs.ColumnView.{ColumnView}
+use Rattle.vortex_like.specs.declared.options.LikeOptions.{LikeOptions}
+use Rattle.vortex_operators.specs.declared.between.BetweenOptions.{BetweenOptions}
 use Rattle.vortex_operators.specs.declared.operators.Operator.{Operator}
 use Rattle.vortex_operators.specs.declared.operators.Operator.TheVariants.{Eq, NotEq, Gt, Gte, Lt}
 use Rattle.vortex_operators.specs.declared.operators.Operator.TheVariants.{Lte, And, Or, Add, Sub}
@@ -19,32 +22,33 @@ use Rattle.vortex_operators.specs.Operators.{is_arithmetic}
 use Rattle.vortex_statistics.specs.StatisticsView.{StatisticsView}
 use Rattle.vortex_interface.specs.Outcomes.{Outcome, gives, faults}
 use Rattle.vortex_interface.specs.Meaning.{Meaning}
-use Rattle.vortex_interface.specs.Shipped.{Binary, Not, NullTest}
+use Rattle.vortex_interface.specs.Shipped.{Binary, Not, NullTest, Between, Like}
 use Rattle.vortex_interface.specs.Shipped.BinaryFunction.{operator_type, operator_means}
 use Rattle.vortex_interface.specs.Shipped.BinaryFunction.{compared_type}
 use Rattle.vortex_interface.specs.Shipped.NotFunction.{not_type}
 use Rattle.vortex_interface.specs.Shipped.NullTestFunctions.{null_test_type}
 use Rattle.vortex_interface.specs.Functions.{Function, ours}
-use Rattle.vortex_interface.specs.Trees.{Tree, call, Trees, no_trees, tree}
+use Rattle.vortex_interface.specs.Trees.{place, Tree, leaf, constant, call, Trees, no_trees, tree}
 use Rattle.vortex_interface.specs.Eval.{tree_type, tree_types, eval}
 use Rattle.vortex_interface.proofs.TypedCalls.{types_parts, one_type, two_types, typed_call}
 use Rattle.vortex_interface.proofs.TypedCalls.{IsTypedCall}
 use Rattle.vortex_ranges.specs.Ranges.{RangeView}
 use Rattle.vortex_ranges.specs.Calls.{AdmitsOutcome}
-use Rattle.vortex_ranges.specs.Truths.{may_be_true, may_be_false, may_be_unknown, negation}
-use Rattle.vortex_ranges.specs.Truths.{null_test}
+use Rattle.vortex_ranges.specs.Truths.{negation, null_test}
 use Rattle.vortex_ranges.specs.Comparing.{comparison}
+use Rattle.vortex_ranges.specs.Prefixes.{ArePrefixRange}
+use Rattle.vortex_ranges.specs.Reached.{inclusive}
 use Rattle.vortex_ranges.specs.ShippedCalls.{operator_range, binary_range, not_range, null_test_range}
+use Rattle.vortex_ranges.specs.ShippedCalls.{between_range}
 use Rattle.vortex_ranges.specs.Described.{DescribeAll}
-use Rattle.vortex_pruning.specs.Knowing.{with_faults}
-use Rattle.vortex_pruning.specs.Exact.{IsReached, Gives, IsExact, is_simple, simple_range}
-use Rattle.vortex_pruning.specs.Sharpness.{reads, any_reads, AllReadOnce, IsSharp}
-use Rattle.vortex_pruning.specs.Pruning.{may_be_untrue, pruned_of}
-use Rattle.vortex_pruning.specs.declared.pruned.Verdict.TheVariants.{Unknown, NoneTrue, AllTrue}
-use Rattle.vortex_pruning.proofs.OrderedPairs.{one_of}
+use Rattle.vortex_pruning.specs.Knowing.{with_faults, IsLeafRange}
+use Rattle.vortex_pruning.specs.Exact.{IsExact, simple_range}
+use Rattle.vortex_pruning.specs.Exact.{IsCallRange}
+use Rattle.vortex_pruning.specs.SharpCalls.{IsSharpCall, AreBounds, IsPrefixTest, IsCapped}
+use Rattle.vortex_pruning.specs.Sharpness.{reads, any_reads, AllReadOnce}
 use Rattle.vortex_pruning.proofs.ExactTrees.{Reaches, not_exact, null_test_exact, and_exact}
-use Rattle.vortex_pruning.proofs.ExactTrees.{or_exact, comparison_exact, unknown_reached}
-use Rattle.vortex_pruning.proofs.ExactTrees.{false_reached, true_reached}
+use Rattle.vortex_pruning.proofs.ExactTrees.{or_exact, comparison_exact}
+use Rattle.vortex_pruning.proofs.ExactTests.{between_call, like_call}
 
 -- as many types as the arity says
 not_none : (w : ℕ) (types : List LogicalType) → Some [] ≡ Some types
@@ -117,7 +121,7 @@ module _ {V O : Type 0} (m : Meaning V O) (n : ℕ) (ss : List StatisticsView)
   abbrev pub IsReady : Tree V O → RangeView → Type 0
   IsReady t r =
       ((k : LogicalType) → tree_type m t ≡ Some k → IsExact m n ss t k r)
-      × AdmitsOutcome r (eval m base t 0)
+      × AdmitsOutcome r (eval m base t 0) × IsLeafRange n ss t r
 
   abbrev pub AllReady : Trees V O → List RangeView → Type 0
   AllReady no_trees [] = ⊤
@@ -273,67 +277,83 @@ module _ {V O : Type 0} (m : Meaning V O) (n : ℕ) (ss : List StatisticsView)
   test_exact negated (tree t (tree u ts)) k c rs ready =
       absurd (not_two_children (ours (NullTest negated)) t u ts c c.fitting)
 
+  abbrev CallExact : Function V O → Trees V O → LogicalType → List RangeView → RangeView → Type 0
+  CallExact f ts k rs r =
+      IsExact m n ss (call f ts) k
+      (with_faults (list_any (λ (s : RangeView). s.may_fault) rs) r)
+
+  -- a simple call has the range that its arguments give
+  simply : (f : Function V O) (ts : Trees V O) (k : LogicalType) (rs : List RangeView)
+      (r : RangeView) → r ≡ simple_range f k rs → CallExact f ts k rs (simple_range f k rs)
+      → CallExact f ts k rs r
+  simply f ts k rs r is h = subst (λ (q : RangeView). CallExact f ts k rs q) (sym is) h
+
+  between_ready : (options : BetweenOptions) (t : Tree V O) (lower upper : ScalarView)
+      (k : LogicalType)
+      → IsTypedCall m (ours (Between options))
+      (tree t (tree (constant lower) (tree (constant upper) no_trees))) k
+      → (options ≡ inclusive) × AreBounds lower.value upper.value → (rs : List RangeView)
+      → AllReady (tree t (tree (constant lower) (tree (constant upper) no_trees))) rs
+      → (r : RangeView) → r ≡ between_range options rs
+      → CallExact (ours (Between options))
+      (tree t (tree (constant lower) (tree (constant upper) no_trees))) k rs r
+  between_ready options t lower upper k c h (r ∷ p ∷ q ∷ []) ready o is =
+      let a =
+      types_parts (tree_type m t)
+      (tree_types m (tree (constant lower) (tree (constant upper) no_trees))) c.types c.children in
+      let x = (ready.0.0 a.0 a.2).faultless in
+      let y = (ready.1.0.0 lower.dtype refl).faultless in
+      let z = (ready.1.1.0.0 upper.dtype refl).faultless in
+      faultless_exact (r.may_fault || (p.may_fault || (q.may_fault || false)))
+      (call (ours (Between options)) (tree t (tree (constant lower) (tree (constant upper) no_trees))))
+      k o (λ i. x i || (y i || (z i || false)))
+      (between_call m n ss base d some options t lower upper k r p q o c h.0 h.1 ready.0.0
+      ready.1.0.0 ready.1.0.2 ready.1.1.0.0 ready.1.1.0.2 is)
+  between_ready options t lower upper k c h [] ready o is = absurd ready
+  between_ready options t lower upper k c h (r ∷ []) ready o is = absurd ready.1
+  between_ready options t lower upper k c h (r ∷ p ∷ []) ready o is = absurd ready.1.1
+  between_ready options t lower upper k c h (r ∷ p ∷ q ∷ s ∷ rs) ready o is = absurd ready.1.1.1
+
+  like_ready : (options : LikeOptions) (p : ℕ) (name : List ℕ) (t : LogicalType) (s : ScalarView)
+      (k : LogicalType)
+      → IsTypedCall m (ours (Like options)) (tree (leaf (place p name t)) (tree (constant s) no_trees)) k
+      → IsPrefixTest options s.value × IsCapped ss p → (rs : List RangeView)
+      → AllReady (tree (leaf (place p name t)) (tree (constant s) no_trees)) rs → (r : RangeView)
+      → ArePrefixRange options rs r
+      → CallExact (ours (Like options)) (tree (leaf (place p name t)) (tree (constant s) no_trees)) k rs r
+  like_ready options p name t s k c h (r ∷ q ∷ []) ready o is =
+      let x = (ready.0.0 t refl).faultless in
+      let y = (ready.1.0.0 s.dtype refl).faultless in
+      faultless_exact (r.may_fault || (q.may_fault || false))
+      (call (ours (Like options)) (tree (leaf (place p name t)) (tree (constant s) no_trees))) k o
+      (neither r.may_fault q.may_fault x y)
+      (like_call m n ss base d some options p name t s k r q o c h.0 h.1 ready.0.0 ready.0.2
+      ready.1.0.0 ready.1.0.2 is)
+  like_ready options p name t s k c h [] ready o is = absurd ready
+  like_ready options p name t s k c h (r ∷ []) ready o is = absurd ready.1
+  like_ready options p name t s k c h (r ∷ q ∷ u ∷ rs) ready o is = absurd ready.1.1
+
   by_function : (f : Function V O) (ts : Trees V O) (k : LogicalType) → IsTypedCall m f ts k
-      → is_simple f ≡ true → AllReadOnce n ss ts → (rs : List RangeView) → AllReady ts rs
-      → IsExact m n ss (call f ts) k
-      (with_faults (list_any (λ (s : RangeView). s.may_fault) rs) (simple_range f k rs))
-  by_function (ours (Binary op)) ts k c h once rs ready = binary_exact op ts k c h once rs ready
-  by_function (ours Not) ts k c h once rs ready = negation_exact ts k c rs ready
-  by_function (ours (NullTest negated)) ts k c h once rs ready = test_exact negated ts k c rs ready
-  by_function f ts k c h once rs ready = cc
+      → IsSharpCall ss f ts → AllReadOnce n ss ts → (rs : List RangeView) → AllReady ts rs
+      → (r : RangeView) → IsCallRange f k rs r → CallExact f ts k rs r
+  by_function (ours (Binary op)) ts k c h once rs ready r is =
+      simply (ours (Binary op)) ts k rs r (is h) (binary_exact op ts k c h once rs ready)
+  by_function (ours Not) ts k c h once rs ready r is =
+      simply (ours Not) ts k rs r (is h) (negation_exact ts k c rs ready)
+  by_function (ours (NullTest negated)) ts k c h once rs ready r is =
+      simply (ours (NullTest negated)) ts k rs r (is h) (test_exact negated ts k c rs ready)
+  by_function (ours (Between options))
+      (tree t (tree (constant lower) (tree (constant upper) no_trees))) k c h once rs ready r is =
+      between_ready options t lower upper k c h rs ready r is
+  by_function (ours (Like options)) (tree (leaf (place p name t)) (tree (constant s) no_trees)) k c h
+      once rs ready r is =
+      like_ready options p name t s k c h rs ready r is
+  by_function f ts k c h once rs ready r is = cc
 
   pub call_exact : (f : Function V O) (ts : Trees V O) (k : LogicalType)
-      → tree_type m (call f ts) ≡ Some k → is_simple f ≡ true → AllReadOnce n ss ts
-      → (rs : List RangeView) → AllReady ts rs → (r : RangeView) → r ≡ simple_range f k rs
+      → tree_type m (call f ts) ≡ Some k → IsSharpCall ss f ts → AllReadOnce n ss ts
+      → (rs : List RangeView) → AllReady ts rs → (r : RangeView) → IsCallRange f k rs r
       → IsExact m n ss (call f ts) k
       (with_faults (list_any (λ (s : RangeView). s.may_fault) rs) r)
   call_exact f ts k typed h once rs ready r is =
-      subst (λ (q : RangeView). IsExact m n ss (call f ts) k
-      (with_faults (list_any (λ (s : RangeView). s.may_fault) rs) q)) (sym is)
-      (by_function f ts k (typed_call m f ts k typed) h once rs ready)
-
-  -- what an exact range leaves open is reached
-  other_than_true : (t : Tree V O) (v : Value) → (gives v ≡ gives (truth true) → ⊥)
-      → Reaches m n ss base d some t v → IsReached m n ss t (λ o. ¬ Gives (truth true) o)
-  other_than_true t v never h =
-      record {
-        columns = h.columns;
-        described = h.described;
-        here = λ q. never (sym h.here ∙ q);
-      }
-
-  null_is_other : gives null ≡ gives (truth true) → ⊥
-  null_is_other e = cc
-
-  false_is_other : gives (truth false) ≡ gives (truth true) → ⊥
-  false_is_other e = cc
-
-  opened : (a b : Bool) → cond a (cond b Unknown AllTrue) NoneTrue ≡ Unknown
-      → (a ≡ true) × (b ≡ true)
-  opened true true e = (refl, refl)
-  opened true false e = cc
-  opened false b e = cc
-
-  pub sharp : (t : Tree V O) (k : LogicalType) (r : RangeView) → is_bool_type k ≡ true
-      → IsExact m n ss t k r → IsSharp m n ss t (pruned_of n r)
-  sharp t (bool_type b) r e x =
-      record {
-        faultless = ap not x.faultless;
-        some_true = λ h.
-            true_reached m n ss base d some t b r x
-            (opened (may_be_true r) (may_be_untrue r) h).0;
-        some_other = λ h. other (opened (may_be_true r) (may_be_untrue r) h).1;
-      }
-    where
-      other : may_be_untrue r ≡ true → IsReached m n ss t (λ o. ¬ Gives (truth true) o)
-      other h =
-          elim (one_of r.may_fault (may_be_unknown r || may_be_false r) h) [
-            | inl f ↦ let never : true ≡ false = sym f ∙ x.faultless in cc
-            | inr g ↦ elim (one_of (may_be_unknown r) (may_be_false r) g) [
-              | inl u ↦ other_than_true t null null_is_other
-                  (unknown_reached m n ss base d some t b r x u)
-              | inr f ↦ other_than_true t (truth false) false_is_other
-                  (false_reached m n ss base d some t b r x f)
-            ]
-          ]
-  sharp t k r e x = cc
+      by_function f ts k (typed_call m f ts k typed) h once rs ready r is

@@ -89,7 +89,7 @@ or_true v = ap truth_or_null (by (truth_of v))
     by (Some true) = refl
     by (Some false) = refl
 
-valid_comparison : (op : CompareOperator) (v w : Value) → is_null v ≡ false → is_null w ≡ false
+pub valid_comparison : (op : CompareOperator) (v w : Value) → is_null v ≡ false → is_null w ≡ false
     → comparison_value op v w ≡ truth (holds op (compare_values v w))
 valid_comparison op null w d e = cc
 valid_comparison op (truth a) null d e = cc
@@ -99,7 +99,7 @@ valid_comparison op (bytes a) null d e = cc
 valid_comparison op (list a) null d e = cc
 valid_comparison op v w d e = refl
 
-alike_back : (t u : LogicalType) → alike_types t u ≡ true → alike_types u t ≡ true
+pub alike_back : (t u : LogicalType) → alike_types t u ≡ true → alike_types u t ≡ true
 alike_back t u e =
     (type_eq-decides (without_nullability u) (without_nullability t)).1
     (sym ((type_eq-decides (without_nullability t) (without_nullability u)).0 e))

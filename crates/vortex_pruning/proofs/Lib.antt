@@ -11,4 +11,9 @@ pub mod MadeRows
 pub mod FirstRows
 pub mod ExactLeaves
 pub mod ExactTrees
+pub mod ExactBetweens
+pub mod ExactPrefixes
+pub mod ExactTests
 pub mod ExactCalls
+pub mod SharpVerdicts
+pub mod LeafSteps

@@ -41,7 +41,7 @@ use Rattle.vortex_ranges.specs.declared.range.Range.{Range}
 use Rattle.vortex_ranges.specs.BoundViews.{range_of}
 use Rattle.vortex_pruning.specs.Knowing.{typed_column, AreTold, Knows, with_faults, HasStatistics}
 use Rattle.vortex_pruning.specs.Knowing.{RefusesLeaves}
-use Rattle.vortex_pruning.specs.Exact.{IsExact, IsSimpleRange}
+use Rattle.vortex_pruning.specs.Exact.{IsExact, IsCallRange}
 use Rattle.vortex_pruning.specs.Sharpness.{HasRoom, AllReadOnce, IsExactIfReadOnce}
 use Rattle.vortex_pruning.proofs.ExactLeaves.{leaf_exact, literal_exact}
 use Rattle.vortex_pruning.proofs.ExactCalls.{AllReady, call_exact}
@@ -53,6 +53,7 @@ module _ {V O : Type 0} (m : Meaning V O) (n : ℕ) (ss : List StatisticsView) w
       → Knows m n ss (constant s) (literal_range s.value)
   literal_known s h = record {
     told = tt;
+    own = refl;
     admitted = λ cs d i lt. literal-admits s.value;
     exact = λ once lt cs d k typed.
         let is : s.dtype ≡ k = cc in
@@ -86,6 +87,7 @@ module _ {V O : Type 0} (m : Meaning V O) (n : ℕ) (ss : List StatisticsView) w
     exact = subst (λ (l : LogicalType).
         IsExactIfReadOnce m n ss (leaf (place p name l)) (described n s)) same
         (leaf_is_exact p name s e consistent);
+    own = (s, e, refl);
   }
 
   -- what is known of the children, side by side
@@ -149,7 +151,7 @@ module _ {V O : Type 0} (m : Meaning V O) (n : ℕ) (ss : List StatisticsView) w
   all_ready cs d lt no_trees (r ∷ rs) h once = absurd h
   all_ready cs d lt (tree t ts) [] h once = absurd h
   all_ready cs d lt (tree t ts) (r ∷ rs) h once = (
-    (λ k e. h.0.exact once.0 lt cs d k e, h.0.admitted cs d 0 lt),
+    (λ k e. h.0.exact once.0 lt cs d k e, h.0.admitted cs d 0 lt, h.0.own),
     all_ready cs d lt ts rs h.1 once.1,
   )
 
@@ -166,7 +168,7 @@ module _ {V O : Type 0} (m : Meaning V O) (n : ℕ) (ss : List StatisticsView) w
       (typed : tree_type m (call f ts) ≡ Some t) (bound : IsBound (call f ts))
       (rs : List RangeView) (known : AllKnown ts rs) (r : RangeView)
       (admits : AdmitsCalls (function_type m f) (function_means m f) t rs r)
-      (shape : IsSimpleRange f t rs r) where
+      (shape : IsCallRange f t rs r) where
     all_rows : (cs : List ColumnView) → DescribeAll n ss cs → (i : ℕ) → i < n
         → AllHaveRow cs i ts
     all_rows cs d i lt =
@@ -208,7 +210,8 @@ module _ {V O : Type 0} (m : Meaning V O) (n : ℕ) (ss : List StatisticsView) w
           subst (λ (l : LogicalType).
           IsExact m n ss (call f ts) l (with_faults (any_faulty rs) r)) is
           (call_exact m n ss cs d lt f ts t typed once.0 once.1 rs
-          (all_ready cs d lt ts rs known once.1) r (shape once.0));
+          (all_ready cs d lt ts rs known once.1) r shape);
+      own = tt;
     }
 
   -- the same of a node whose kind is told, with the results of a walk for its children
@@ -229,7 +232,7 @@ module _ {V O : Type 0} (m : Meaning V O) (n : ℕ) (ss : List StatisticsView) w
   module _ (lawful : Lawful m) (f : Function V O) (k : LogicalType) (rs : List Range)
       (r : RangeView)
       (admits : AdmitsCalls (function_type m f) (function_means m f) k (map range_of rs) r)
-      (shape : IsSimpleRange f k (map range_of rs) r) where
+      (shape : IsCallRange f k (map range_of rs) r) where
     pub called_known : (t : Tree V O) → called t ≡ Some f → tree_type m t ≡ Some k → IsBound t
         → AllMean KnowsRange (children_of t) rs
         → Knows m n ss t (with_faults (list_any (λ s. s.may_fault) rs) r)
@@ -241,7 +244,7 @@ module _ {V O : Type 0} (m : Meaning V O) (n : ℕ) (ss : List StatisticsView) w
         AdmitsCalls (function_type m x) (function_means m x) k (map range_of rs) r) is admits in
         subst (λ (b : Bool). Knows m n ss (call g ts) (with_faults b r)) (any_mapped rs)
         (call_known lawful g ts k typed bound (map range_of rs) (side_by_side ts rs h) r calls
-        (subst (λ (x : Function V O). IsSimpleRange x k (map range_of rs) r) is shape))
+        (subst (λ (x : Function V O). IsCallRange x k (map range_of rs) r) is shape))
 
   pub literal_node : (t : Tree V O) (s : ScalarView) → IsBound t → Some s ≡ literal t
       → Knows m n ss t (literal_range s.value)

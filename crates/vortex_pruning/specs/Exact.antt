@@ -9,11 +9,13 @@ use Rattle.vortex_statistics.specs.StatisticsView.{StatisticsView}
 use Rattle.vortex_statistics.specs.Extremes.{is_measured}
 use Rattle.vortex_interface.specs.Outcomes.{Outcome, gives}
 use Rattle.vortex_interface.specs.Meaning.{Meaning}
-use Rattle.vortex_interface.specs.Shipped.{Binary, Not, NullTest}
+use Rattle.vortex_interface.specs.Shipped.{Binary, Not, NullTest, Between, Like}
 use Rattle.vortex_interface.specs.Functions.{Function, ours}
 use Rattle.vortex_interface.specs.Trees.{Tree}
 use Rattle.vortex_interface.specs.Eval.{eval}
+use Rattle.vortex_ranges.specs.Prefixes.{ArePrefixRange}
 use Rattle.vortex_ranges.specs.ShippedCalls.{binary_range, not_range, null_test_range}
+use Rattle.vortex_ranges.specs.ShippedCalls.{between_range}
 use Rattle.vortex_ranges.specs.Ranges.{RangeView, is_over, may_be, anything}
 use Rattle.vortex_ranges.specs.Described.{DescribeAll}
 
@@ -64,6 +66,10 @@ simple_range (ours Not) k rs = not_range rs
 simple_range (ours (NullTest negated)) k rs = null_test_range negated rs
 simple_range f k rs = anything
 
-abbrev pub IsSimpleRange : {V O : Type 0} → Function V O → LogicalType → List RangeView
+-- the range of a call, where that of its function is known: of a simple one, of Between, and of Like
+-- with a pattern of a prefix and `%`
+abbrev pub IsCallRange : {V O : Type 0} → Function V O → LogicalType → List RangeView
     → RangeView → Type 0
-IsSimpleRange f k rs r = is_simple f ≡ true → r ≡ simple_range f k rs
+IsCallRange (ours (Between options)) k rs r = r ≡ between_range options rs
+IsCallRange (ours (Like options)) k rs r = ArePrefixRange options rs r
+IsCallRange f k rs r = is_simple f ≡ true → r ≡ simple_range f k rs

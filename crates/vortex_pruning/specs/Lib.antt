@@ -1,4 +1,5 @@
 pub mod Exact
+pub mod SharpCalls
 pub mod Sharpness
 pub mod Knowing
 pub mod Pruning

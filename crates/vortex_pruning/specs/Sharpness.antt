@@ -15,7 +15,8 @@ use Rattle.vortex_ranges.specs.Ranges.{RangeView}
 use Rattle.vortex_ranges.specs.Described.{DescribeAll}
 use Rattle.vortex_pruning.specs.declared.pruned.Verdict.TheVariants.{Unknown}
 use Rattle.vortex_pruning.specs.declared.pruned.Pruned.{Pruned}
-use Rattle.vortex_pruning.specs.Exact.{IsReached, Gives, IsExact, is_simple}
+use Rattle.vortex_pruning.specs.Exact.{IsReached, Gives, IsExact}
+use Rattle.vortex_pruning.specs.SharpCalls.{IsSharpCall}
 
 -- the tree reads the column in place p, or one of several does
 abbrev mutual
@@ -43,8 +44,9 @@ HasRoom n s =
     (is_all_null (Some n) s.nulls ≡ true)
     ⊎ (known_nulls s.nulls + (rows_taken s.low + rows_taken s.high) < n)
 
--- Simple calls over literals and columns of Bool, integers, texts and bytes, whose statistics
--- leave room; and no two arguments of a call read one column.
+-- Calls of And, Or, Not, comparisons, null tests, BETWEEN and LIKE, as above, over literals and
+-- columns of Bool, integers, texts and bytes, whose statistics leave room; and no two arguments of
+-- a call read one column.
 module _ {V O : Type 0} (n : ℕ) (ss : List StatisticsView) where
   abbrev mutual
     pub IsReadOnce : Tree V O → Type 0
@@ -52,7 +54,7 @@ module _ {V O : Type 0} (n : ℕ) (ss : List StatisticsView) where
         (is_measured t ≡ true) × IfSome (slice_get ss p) (HasRoom n)
     IsReadOnce (leaf (held c)) = ⊥
     IsReadOnce (constant s) = is_measured s.dtype ≡ true
-    IsReadOnce (call f ts) = (is_simple f ≡ true) × AllReadOnce ts
+    IsReadOnce (call f ts) = IsSharpCall ss f ts × AllReadOnce ts
 
     pub AllReadOnce : Trees V O → Type 0
     AllReadOnce no_trees = ⊤

@@ -6,7 +6,7 @@ ghost use Rattle.vortex_functions.specs.Words.{function_means, type_of};
 ghost use Rattle.vortex_ranges.specs.BoundViews.{range_of};
 ghost use Rattle.vortex_ranges.specs.Calls.{AdmitsCalls};
 ghost use Rattle.vortex_pruning.specs.Knowing.{with_faults};
-ghost use Rattle.vortex_pruning.specs.Exact.{IsSimpleRange};
+ghost use Rattle.vortex_pruning.specs.Exact.{IsCallRange};
 
 use crate::functions::ScalarFnRanges;
 use std::alloc::Global;
@@ -27,7 +27,7 @@ pub(crate) fn call_range<'a, C: ScalarFnRanges>(
         (function_type C.meaning (function_of function.now))
         (function_means C.meaning (function_of function.now)) (type_of dtype.now)
         (map range_of inputs.now) (range_of r)) }
-    ensures shape { AnswersUnlessMemory result (λ r. IsSimpleRange (function_of function.now)
+    ensures shape { AnswersUnlessMemory result (λ r. IsCallRange (function_of function.now)
         (type_of dtype.now) (map range_of inputs.now) (range_of r)) }
 {
     match function {

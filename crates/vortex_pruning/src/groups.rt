@@ -132,7 +132,9 @@ pub fn statistics_in(
     ensures { MatchResult result (λ found. found.items ≡ statistics_in group rows fields.now)
         (RefusesFields fields.now group rows) }
 {
-    let mut found = Vec::new(alloc);
+    let Ok(mut found) = Vec::with_capacity(alloc, fields.len()) else {
+        return Err(GroupError::Refused(VortexError::OutOfMemory));
+    };
     for number in 0..fields.len() {
         let statistics = match field_in(alloc, &fields[number], number, group, rows) {
             Ok(statistics) => statistics,

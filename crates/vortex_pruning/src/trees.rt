@@ -35,6 +35,12 @@ pub fn ranges<'a, C: ScalarFnRanges>(
         let _ = step;
         if inputs.len() < node.children().len() {
             let child = node.child(inputs.len());
+            // a leaf needs no frame, and no list of its own
+            if child.children().len() == 0 {
+                let output = node_range(alloc, child, Vec::new(alloc), statistics, rows)?;
+                inputs.push(output)?;
+                continue;
+            }
             above.push(WalkFrame {
                 node,
                 outputs: inputs,
@@ -59,8 +65,9 @@ pub fn ranges<'a, C: ScalarFnRanges>(
 /// which stand in the places of the scope: whether no row is true, or every row is; whether no row
 /// faults; and between which ends the number of true rows lies.
 ///
-/// No more can be known of a condition of And, Or, Not, comparisons and null tests that reads each
-/// column once, where no column has as few rows as its attained ends (`specs/Sharpness.antt`).
+/// No more can be known of a condition of And, Or, Not, comparisons, null tests, BETWEEN with bounds
+/// that are literals in order, and LIKE with a prefix and `%` of a column with a high end, that reads
+/// each column once, where no column has as few rows as its attained ends (`specs/Sharpness.antt`).
 ///
 /// In order: E11 exactly where a leaf has no statistics in its place, or some of another type; E3
 /// exactly where the tree is not of Bool; and E9. A fault excludes nothing: where a row may fault,

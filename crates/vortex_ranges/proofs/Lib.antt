@@ -13,5 +13,6 @@ pub mod Computed
 pub mod PrefixOrder
 pub mod LikeAdmits
 pub mod LikeCertain
+pub mod PrefixPatterns
 pub mod PrefixesReached
 pub mod BetweensReached

@@ -1,5 +1,5 @@
 -- The range of Like admits its values.
-use Rattle.std.specs.Prelude.{◌≡◌, ◌++◌, ◌||◌, ℕ, List, [], ◌∷◌, Bool, true, false, not, Option}
+use Rattle.std.specs.Prelude.{◌≡◌, ◌++◌, ◌&&◌, ◌||◌, ℕ, List, [], ◌∷◌, Bool, true, false, not, Option}
 use Rattle.std.specs.Prelude.{Some, None, IsUtf8, refl, if◌then◌else◌, encode_utf8_all}
 use Rattle.std.specs.Str.{chars}
 use Rattle.std.proofs.Common.{map, ap, sym, subst, ◌∙◌, ◌≤◌, ◌<◌, length, get_or, arith}
@@ -21,13 +21,13 @@ use Rattle.vortex_ranges.specs.Truths.{truths}
 use Rattle.vortex_ranges.specs.Calls.{AdmitsCalls}
 use Rattle.vortex_ranges.specs.Prefixes.{excludes_prefix, matches, NoneMatch, NoneBegins}
 use Rattle.vortex_ranges.specs.Prefixes.{NoneEquals, NoneIs, NoneIsLike, IsOnlyText, likeness}
-use Rattle.vortex_ranges.specs.Prefixes.{AdmitsLike, AreMatches}
+use Rattle.vortex_ranges.specs.Prefixes.{AdmitsLike, AreMatches, IsPrefixRange, ArePrefixRange}
 use Rattle.vortex_ranges.specs.declared.like.Matches.{Matches}
 use Rattle.vortex_ranges.specs.declared.range.Range.{Range}
 use Rattle.vortex_ranges.specs.BoundViews.{range_of}
-use Rattle.vortex_ranges.proofs.Tests.{on_left, on_right}
+use Rattle.vortex_ranges.proofs.Tests.{both, on_left, on_right}
 use Rattle.vortex_ranges.proofs.KleeneTables.{truths-admit}
-use Rattle.vortex_ranges.proofs.Above.{not_under, not_over, lies_inside}
+use Rattle.vortex_ranges.proofs.Above.{not_under, not_over, has_value, lies_inside}
 use Rattle.vortex_ranges.proofs.PrefixOrder.{prefix_is_admitted, only_between}
 
 no_both : (b : Bool) → b ≡ true → b ≡ false → ⊥
@@ -100,6 +100,18 @@ module _ (options : LikeOptions) (m : Matches) (r s : RangeView)
       truths (r.may_be_null || s.may_be_null) (if negated then possible else not certain)
       (if negated then not certain else possible)
 
+  -- there is a text and a pattern
+  abbrev there : Bool
+  there = r.may_be_value && s.may_be_value
+
+  where_there : there ≡ true → (v : Value)
+      → Admits (known m.possible m.certain options.negated) v
+      → Admits (likeness options m.possible m.certain r s) v
+  where_there e v a =
+      subst (λ b. Admits (truths (r.may_be_null || s.may_be_null)
+      (b && (if options.negated then m.possible else not m.certain))
+      (b && (if options.negated then not m.certain else m.possible))) v) (sym e) a
+
   told : (possible certain negated found : Bool) → (possible ≡ false → found ≡ false)
       → (certain ≡ true → found ≡ true)
       → Admits (known possible certain negated) (truth (turned negated found))
@@ -118,8 +130,12 @@ module _ (options : LikeOptions) (m : Matches) (r s : RangeView)
       → Admits r v → Admits s w
       → Admits (likeness options m.possible m.certain r s) (like_value options v w)
   pair n k (text bs) (text p) i j a d =
-      told m.possible m.certain options.negated (matches options bs p)
-      (λ e. h.0 e bs p i j a d) (λ e. h.1 e bs p i j a d)
+      let found = matches options bs p in
+      where_there
+      (both r.may_be_value s.may_be_value (has_value r (text bs) a) (has_value s (text p) d))
+      (truth (turned options.negated found))
+      (told m.possible m.certain options.negated found
+      (λ e. h.0 e bs p i j a d) (λ e. h.1 e bs p i j a d))
   pair n k null w i j a d = on_left r.may_be_null s.may_be_null a
   pair n k (text bs) null i j a d = on_right r.may_be_null s.may_be_null d
   pair n k (text bs) w i j a d = absurd j
@@ -154,3 +170,12 @@ like-calls options t [] r h k a = absurd (omega (arith, h))
 like-calls options t (x ∷ []) r h k a = absurd (omega (arith, h))
 like-calls options t (x ∷ y ∷ []) r h k a = a t
 like-calls options t (x ∷ y ∷ z ∷ rs) r h k a = absurd (omega (arith, k))
+
+pub like-prefix : (options : LikeOptions) (rs : List Range) (r : RangeView)
+    → 2 ≤ length rs → length rs < 3
+    → IsPrefixRange options (range_of (get_or rs 0 no_range)) (range_of (get_or rs 1 no_range)) r
+    → ArePrefixRange options (map range_of rs) r
+like-prefix options [] r h k a = tt
+like-prefix options (x ∷ []) r h k a = tt
+like-prefix options (x ∷ y ∷ []) r h k a = a
+like-prefix options (x ∷ y ∷ z ∷ rs) r h k a = tt

@@ -49,7 +49,7 @@ extended (c ∷ prefix) rest t ts m = (
       (same_tail c m.0 prefix m.1 m.2) m.4),
 )
 
-begun : (tokens : List Token) (prefix rest : List ℕ) → AreLiteralThenWildcard tokens prefix
+pub begun : (tokens : List Token) (prefix rest : List ℕ) → AreLiteralThenWildcard tokens prefix
     → Match false tokens prefix → Match false tokens (prefix ++ rest)
 begun tokens prefix rest h m =
     subst (λ (ts : List Token). Match false ts (prefix ++ rest)) (sym h.3)

@@ -8,5 +8,6 @@ pub mod ShippedCalls
 pub mod Described
 pub mod Arithmetic
 pub mod Prefixes
+pub mod PrefixTests
 pub mod Sound
 pub mod Reached

@@ -1,17 +1,17 @@
 -- Whether texts between two ends can begin with a prefix, or match a pattern.
-use Rattle.std.specs.Prelude.{◌≡◌, ◌&&◌, ◌||◌, ◌++◌, ℕ, List, [], ◌∷◌, Bool, true, false, not}
-use Rattle.std.specs.Prelude.{Option, Some, IsUtf8, nat_eq, if◌then◌else◌}
+use Rattle.std.specs.Prelude.{◌≡◌, ◌≢◌, ◌&&◌, ◌||◌, ◌++◌, ℕ, List, [], ◌∷◌, Bool, true, false}
+use Rattle.std.specs.Prelude.{not, map, Option, Some, IsUtf8, nat_eq, if◌then◌else◌, ⊤}
 use Rattle.std.specs.List.{starts_with}
 use Rattle.std.specs.Cow.{cow_str_bytes}
 use Rattle.std.specs.Str.{chars}
 use Rattle.vortex_types.specs.LogicalTypes.{LogicalType}
 use Rattle.vortex_types.specs.Values.{Value, text}
 use Rattle.vortex_like.specs.declared.options.LikeOptions.{LikeOptions}
-use Rattle.vortex_like.specs.Tokens.{tokens_of, is_match, Match}
+use Rattle.vortex_like.specs.Tokens.{any, character, tokens_of, is_match, Match}
 use Rattle.vortex_like.specs.declared.variant.LikeVariant.{LikeVariant}
 use Rattle.vortex_like.specs.declared.variant.LikeVariant.TheVariants.{Exact, Prefix}
 use Rattle.vortex_ranges.specs.declared.like.Matches.{Matches}
-use Rattle.vortex_ranges.specs.Ranges.{RangeView, Admits, is_above, is_over}
+use Rattle.vortex_ranges.specs.Ranges.{RangeView, Admits, is_above, is_over, only}
 use Rattle.vortex_interface.specs.Shipped.{Like, shipped_type, shipped_means}
 use Rattle.vortex_ranges.specs.Calls.{AdmitsCalls}
 use Rattle.vortex_ranges.specs.Truths.{truths}
@@ -57,12 +57,13 @@ abbrev pub AreMatches : LikeOptions → RangeView → RangeView → Matches → 
 AreMatches options r s m =
     (m.possible ≡ false → NoneMatch options r s) × (m.certain ≡ true → AllMatch options r s)
 
--- the range of Like, by whether a text may match, and whether each does
+-- the range of Like, by whether a text may match, and whether each does; without a text or a pattern
+-- there is only null
 abbrev pub likeness : LikeOptions → Bool → Bool → RangeView → RangeView → RangeView
 likeness options possible certain r s =
     truths (r.may_be_null || s.may_be_null)
-    (if options.negated then possible else not certain)
-    (if options.negated then not certain else possible)
+    ((r.may_be_value && s.may_be_value) && (if options.negated then possible else not certain))
+    ((r.may_be_value && s.may_be_value) && (if options.negated then not certain else possible))
 
 -- the only text that is admitted
 abbrev pub IsOnlyText : RangeView → List ℕ → Type 0
@@ -107,3 +108,25 @@ AdmitsLike options r s result =
     (t : LogicalType)
     → AdmitsCalls (shipped_type (Like options)) (shipped_means (Like options)) t (r ∷ s ∷ [])
     result
+
+-- the pattern is a prefix, which is not empty, and then `%`
+abbrev pub IsPrefixPattern : Option ℕ → List ℕ → List ℕ → Type 0
+IsPrefixPattern escape pattern prefix =
+    (prefix ≢ [])
+    × (tokens_of escape (chars pattern) ≡ map character (chars prefix) ++ any ∷ [])
+
+-- the range of Like of such a pattern: no text matches only where none begins with the prefix, and
+-- each does only where the ends share it
+abbrev pub prefix_range : LikeOptions → List ℕ → RangeView → RangeView → RangeView
+prefix_range options prefix r s =
+    likeness options (not (excludes_prefix r prefix)) (shares_prefix r prefix) r s
+
+abbrev pub IsPrefixRange : LikeOptions → RangeView → RangeView → RangeView → Type 0
+IsPrefixRange options r s result =
+    options.case_insensitive ≡ false → (pattern prefix : List ℕ) → s ≡ only (text pattern)
+    → IsUtf8 pattern → IsUtf8 prefix → IsPrefixPattern options.escape pattern prefix
+    → result ≡ prefix_range options prefix r s
+
+abbrev pub ArePrefixRange : LikeOptions → List RangeView → RangeView → Type 0
+ArePrefixRange options (r ∷ s ∷ []) result = IsPrefixRange options r s result
+ArePrefixRange options rs result = ⊤

@@ -1,10 +1,11 @@
 //! The range of a call of Like.
-ghost use Rattle.std.specs.Prelude.{◌≡◌, map, true, false, IfSome, Some};
+ghost use Rattle.std.specs.Prelude.{◌≡◌, map, not, true, false, IfSome, IsUtf8, Some};
+ghost use Rattle.std.specs.Option.{option_map};
 ghost use Rattle.std.specs.Str.{chars};
 ghost use Rattle.vortex_types.specs.Values.{text};
 ghost use Rattle.vortex_errors.specs.Answers.{AnswersUnlessMemory};
 ghost use Rattle.vortex_types.specs.TypeOf.{type_of};
-ghost use Rattle.vortex_like.specs.Tokens.{tokens_of, Match};
+ghost use Rattle.vortex_like.specs.Tokens.{tokens_of, is_match, Match};
 ghost use Rattle.vortex_like.specs.Variants.{AreLiteralThenWildcard, IsVariantOf};
 ghost use Rattle.vortex_interface.specs.Shipped.{Like, shipped_type, shipped_means};
 ghost use Rattle.vortex_ranges.specs.BoundViews.{end_of, range_of};
@@ -12,7 +13,10 @@ ghost use Rattle.vortex_ranges.specs.Calls.{AdmitsCalls};
 ghost use Rattle.vortex_ranges.specs.Prefixes.{is_past, excludes_prefix, begins_with};
 ghost use Rattle.vortex_ranges.specs.Prefixes.{shares_prefix, IsOnlyText, NoneBegins, NoneEquals};
 ghost use Rattle.vortex_ranges.specs.Prefixes.{NoneIs, AllAreLike, AreLike, AreMatches, likeness};
-ghost use Rattle.vortex_ranges.specs.Prefixes.{AdmitsLike};
+ghost use Rattle.vortex_ranges.specs.Prefixes.{AdmitsLike, IsPrefixPattern, IsPrefixRange};
+ghost use Rattle.vortex_ranges.specs.Prefixes.{ArePrefixRange};
+ghost use Rattle.vortex_ranges.specs.PrefixTests.{text_in, FindsOnly, TellsBegun, TellsShared};
+ghost use Rattle.vortex_ranges.specs.PrefixTests.{TellsPrefix, TellsPattern};
 
 use crate::bound::Bound;
 use crate::range::Range;
@@ -67,7 +71,8 @@ fn shares_prefix(text: &Range<'_>, prefix: &[u8]) -> bool
 
 /// The text of an end, if it is one.
 fn text_of<'a>(end: &Option<Bound<'a>>) -> Option<&'a [u8]>
-    ensures { IfSome result (λ bytes. end_of end.now ≡ Some (text bytes.now)) }
+    ensures is { IfSome result (λ bytes. end_of end.now ≡ Some (text bytes.now)) }
+    ensures found { option_map (λ bytes. bytes.now) result ≡ text_in (end_of end.now) }
 {
     match end {
         Some(Bound::Text(bytes)) => Some(*bytes),
@@ -77,7 +82,8 @@ fn text_of<'a>(end: &Option<Bound<'a>>) -> Option<&'a [u8]>
 
 /// The only text that a range admits, if its ends are one.
 fn only_text<'a>(range: &Range<'a>) -> Option<&'a str>
-    ensures { IfSome result (λ t. IsOnlyText (range_of range.now) t.now) }
+    ensures only { IfSome result (λ t. IsOnlyText (range_of range.now) t.now) }
+    ensures found { FindsOnly (range_of range.now) (option_map (λ t. t.now) result) }
 {
     let low = text_of(&range.low)?;
     let high = text_of(&range.high)?;
@@ -92,7 +98,9 @@ fn only_text<'a>(range: &Range<'a>) -> Option<&'a str>
 
 /// Whether some text may begin with the prefix.
 fn may_begin(text: &Range<'_>, prefix: &str) -> bool
-    ensures { result ≡ false → NoneBegins (range_of text.now) prefix.now }
+    ensures none { result ≡ false → NoneBegins (range_of text.now) prefix.now }
+    ensures exact { result ≡ not (excludes_prefix (range_of text.now) prefix.now) }
+    ensures utf8 { IsUtf8 prefix.now }
 {
     !excludes_prefix(text, prefix.as_bytes())
 }
@@ -106,7 +114,8 @@ fn may_equal(text: &Range<'_>, exact: &str) -> bool
 
 /// Whether some text may be the one that a pattern stands for, or begin with its prefix.
 fn may_be_variant(text: &Range<'_>, variant: &LikeVariant<'_>) -> bool
-    ensures { result ≡ false → NoneIs (range_of text.now) variant.now }
+    ensures none { result ≡ false → NoneIs (range_of text.now) variant.now }
+    ensures exact { TellsBegun (range_of text.now) variant.now result }
 {
     match variant {
         LikeVariant::Exact(CowStr::Borrowed(exact)) => may_equal(text, exact),
@@ -118,8 +127,10 @@ fn may_be_variant(text: &Range<'_>, variant: &LikeVariant<'_>) -> bool
 
 /// Whether the pattern matches a text, in that case.
 fn is_matched(alloc: Global, escape: Option<char>, pattern: &str, text: &str) -> VortexResult<bool>
-    ensures { AnswersUnlessMemory result (λ b. b ≡ true
+    ensures matches { AnswersUnlessMemory result (λ b. b ≡ true
         → Match false (tokens_of escape (chars pattern.now)) (chars text.now)) }
+    ensures test { AnswersUnlessMemory result (λ b. b
+        ≡ is_match false (tokens_of escape (chars pattern.now)) (chars text.now)) }
 {
     let options = LikeOptions {
         negated: false,
@@ -141,8 +152,11 @@ fn must_begin(
     prefix: &str,
 ) -> VortexResult<bool>
     requires { AreLiteralThenWildcard (tokens_of escape (chars pattern.now)) (chars prefix.now) }
-    ensures { AnswersUnlessMemory result
+    ensures all { AnswersUnlessMemory result
         (λ b. b ≡ true → AllAreLike escape (range_of text.now) pattern.now) }
+    ensures exact { AnswersUnlessMemory result (λ b. IsPrefixPattern escape pattern.now prefix.now
+        → b ≡ shares_prefix (range_of text.now) prefix.now) }
+    ensures utf8 { IsUtf8 prefix.now }
 {
     if shares_prefix(text, prefix.as_bytes()) {
         Ok(is_matched(alloc, escape, pattern, prefix)?)
@@ -170,8 +184,10 @@ fn must_be_variant(
     variant: &LikeVariant<'_>,
 ) -> VortexResult<bool>
     requires { IsVariantOf escape (chars pattern.now) (Some variant.now) }
-    ensures { AnswersUnlessMemory result
+    ensures all { AnswersUnlessMemory result
         (λ b. b ≡ true → AllAreLike escape (range_of text.now) pattern.now) }
+    ensures exact { AnswersUnlessMemory result
+        (TellsShared escape (range_of text.now) pattern.now variant.now) }
 {
     match variant {
         LikeVariant::Exact(CowStr::Borrowed(exact)) => Ok(must_equal(text, exact)),
@@ -193,7 +209,9 @@ fn matches_of(
     text: &Range<'_>,
     pattern: &str,
 ) -> VortexResult<Matches>
-    ensures { AnswersUnlessMemory result (AreLike escape (range_of text.now) pattern.now) }
+    ensures like { AnswersUnlessMemory result (AreLike escape (range_of text.now) pattern.now) }
+    ensures exact { AnswersUnlessMemory result
+        (TellsPrefix escape (range_of text.now) pattern.now) }
 {
     match LikeVariant::from_str_with(alloc, pattern, escape)? {
         Some(variant) => Ok(Matches {
@@ -215,8 +233,10 @@ fn matches_of_two(
     text: &Range<'_>,
     pattern: &Range<'_>,
 ) -> VortexResult<Matches>
-    ensures { AnswersUnlessMemory result
+    ensures matches { AnswersUnlessMemory result
         (AreMatches options (range_of text.now) (range_of pattern.now)) }
+    ensures exact { AnswersUnlessMemory result
+        (TellsPattern options (range_of text.now) (range_of pattern.now)) }
 {
     let unknown = Matches {
         possible: true,
@@ -242,10 +262,11 @@ fn likeness<'a>(
         (range_of text.now) (range_of pattern.now) }
 {
     let null = text.may_be_null || pattern.may_be_null;
+    let value = text.may_be_value && pattern.may_be_value;
     if options.negated {
-        Range::truths(null, matches.possible, !matches.certain)
+        Range::truths(null, value && matches.possible, value && !matches.certain)
     } else {
-        Range::truths(null, !matches.certain, matches.possible)
+        Range::truths(null, value && !matches.certain, value && matches.possible)
     }
 }
 
@@ -256,23 +277,29 @@ fn like_of_two<'a>(
     text: &Range<'_>,
     pattern: &Range<'_>,
 ) -> VortexResult<Range<'a>>
-    ensures { AnswersUnlessMemory result
+    ensures admits { AnswersUnlessMemory result
         (λ r. AdmitsLike options (range_of text.now) (range_of pattern.now) (range_of r)) }
+    ensures prefix { AnswersUnlessMemory result
+        (λ r. IsPrefixRange options (range_of text.now) (range_of pattern.now) (range_of r)) }
 {
     let matches = matches_of_two(alloc, options, text, pattern)?;
     Ok(likeness(options, matches, text, pattern))
 }
 
-/// The range of a call of Like: the texts, and their pattern. Fails only where memory runs out.
+/// The range of a call of Like: the texts, and their pattern. Where the pattern is known, and is a
+/// prefix and `%`, a text may match exactly where one between the ends may begin with the prefix, and
+/// each does where both ends do. Fails only where memory runs out.
 pub fn like_range<'a>(
     alloc: Global,
     options: LikeOptions,
     dtype: &DType,
     inputs: &[Range<'_>],
 ) -> VortexResult<Range<'a>>
-    ensures { AnswersUnlessMemory result (λ r. AdmitsCalls (shipped_type (Like options))
+    ensures admits { AnswersUnlessMemory result (λ r. AdmitsCalls (shipped_type (Like options))
         (shipped_means (Like options)) (type_of dtype.now) (map range_of inputs.now)
         (range_of r)) }
+    ensures prefix { AnswersUnlessMemory result
+        (λ r. ArePrefixRange options (map range_of inputs.now) (range_of r)) }
 {
     let [text, pattern] = inputs else {
         return Ok(Range::of_type(dtype, false));

@@ -8,7 +8,7 @@ use Rattle.vortex_ranges.specs.BoundViews.{range_of}
 use Rattle.vortex_ranges.specs.Ranges.{RangeView}
 use Rattle.vortex_ranges.specs.Calls.{AdmitsCalls}
 use Rattle.vortex_errors.proofs.Answering.{AnswersUnlessMemory-weaker}
-use Rattle.vortex_pruning.specs.Exact.{IsSimpleRange}
+use Rattle.vortex_pruning.specs.Exact.{IsCallRange}
 use Rattle.vortex_ranges.proofs.CallsAdmit.{binary-admits, null_test-admits, between-admits}
 use Rattle.vortex_pruning.proofs.call.call_range.Goals as goal
 
@@ -60,48 +60,48 @@ returns-in-Between-clause-admits g c =
     rs r) (sym c.in-Between.is)
     (subst (λ r. Fits (Between o) t rs r) (sym c.between_range.ensures) (between-admits o t rs))
 
--- a simple function has its range by definition, and no other is simple
+-- a simple function and Between have their ranges by definition, and no other is simple
 pub returns-in-Binary-clause-shape : goal.returns-in-Binary-clause-shape
 returns-in-Binary-clause-shape g c =
     let t = type_of c.args.dtype.now in
     let rs = map range_of c.args.inputs.now in
     let r = range_of c.binary_range.result in
-    subst (λ f. IsSimpleRange (function_of f) t rs r) (sym c.in-Binary.is) (λ e. c.binary_range.ensures)
+    subst (λ f. IsCallRange (function_of f) t rs r) (sym c.in-Binary.is) (λ e. c.binary_range.ensures)
 
 pub returns-in-Not-clause-shape : goal.returns-in-Not-clause-shape
 returns-in-Not-clause-shape g c =
     let t = type_of c.args.dtype.now in
     let rs = map range_of c.args.inputs.now in
     let r = range_of c.not_range.result in
-    subst (λ f. IsSimpleRange (function_of f) t rs r) (sym c.in-Not.is) (λ e. c.not_range.ensures)
+    subst (λ f. IsCallRange (function_of f) t rs r) (sym c.in-Not.is) (λ e. c.not_range.ensures)
 
 pub returns-in-IsNull-clause-shape : goal.returns-in-IsNull-clause-shape
 returns-in-IsNull-clause-shape g c =
     let t = type_of c.args.dtype.now in
     let rs = map range_of c.args.inputs.now in
     let r = range_of c.null_test_range.result in
-    subst (λ f. IsSimpleRange (function_of f) t rs r) (sym c.in-IsNull.is) (λ e. c.null_test_range.ensures)
+    subst (λ f. IsCallRange (function_of f) t rs r) (sym c.in-IsNull.is) (λ e. c.null_test_range.ensures)
 
 pub returns-in-IsNotNull-clause-shape : goal.returns-in-IsNotNull-clause-shape
 returns-in-IsNotNull-clause-shape g c =
     let t = type_of c.args.dtype.now in
     let rs = map range_of c.args.inputs.now in
     let r = range_of c.null_test_range-in-IsNotNull.result in
-    subst (λ f. IsSimpleRange (function_of f) t rs r) (sym c.in-IsNotNull.is) (λ e. c.null_test_range-in-IsNotNull.ensures)
+    subst (λ f. IsCallRange (function_of f) t rs r) (sym c.in-IsNotNull.is) (λ e. c.null_test_range-in-IsNotNull.ensures)
 
 pub returns-in-Cast-clause-shape : goal.returns-in-Cast-clause-shape
 returns-in-Cast-clause-shape g c =
     let t = type_of c.args.dtype.now in
     let rs = map range_of c.args.inputs.now in
     let r = range_of c.cast_range.result in
-    subst (λ f. IsSimpleRange (function_of f) t rs r) (sym c.in-Cast.is) (λ e. cc)
+    subst (λ f. IsCallRange (function_of f) t rs r) (sym c.in-Cast.is) (λ e. cc)
 
 pub returns-in-Between-clause-shape : goal.returns-in-Between-clause-shape
 returns-in-Between-clause-shape g c =
     let t = type_of c.args.dtype.now in
     let rs = map range_of c.args.inputs.now in
     let r = range_of c.between_range.result in
-    subst (λ f. IsSimpleRange (function_of f) t rs r) (sym c.in-Between.is) (λ e. cc)
+    subst (λ f. IsCallRange (function_of f) t rs r) (sym c.in-Between.is) c.between_range.ensures
 
 pub returns-in-Like-clause-shape : goal.returns-in-Like-clause-shape
 returns-in-Like-clause-shape g c =
@@ -109,13 +109,13 @@ returns-in-Like-clause-shape g c =
     let t = type_of c.args.dtype.now in
     let rs = map range_of c.args.inputs.now in
     AnswersUnlessMemory-weaker c.like_range.result _
-    (λ r. IsSimpleRange (function_of c.args.function.now) t rs (range_of r))
-    (λ r h. subst (λ f. IsSimpleRange (function_of f) t rs (range_of r)) (sym c.in-Like.is) (λ e. cc))
-    c.like_range.ensures
+    (λ r. IsCallRange (function_of c.args.function.now) t rs (range_of r))
+    (λ r h. subst (λ f. IsCallRange (function_of f) t rs (range_of r)) (sym c.in-Like.is) h)
+    c.like_range.ensures.prefix
 
 pub returns-in-Custom-clause-shape : goal.returns-in-Custom-clause-shape
 returns-in-Custom-clause-shape g c =
     let t = type_of c.args.dtype.now in
     let rs = map range_of c.args.inputs.now in
     let r = range_of c.range.result in
-    subst (λ f. IsSimpleRange (function_of f) t rs r) (sym c.in-Custom.is) (λ e. cc)
+    subst (λ f. IsCallRange (function_of f) t rs r) (sym c.in-Custom.is) (λ e. cc)

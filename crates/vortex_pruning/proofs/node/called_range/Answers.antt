@@ -6,7 +6,7 @@ use Rattle.vortex_ranges.specs.declared.range.Range.{Range}
 use Rattle.vortex_ranges.specs.BoundViews.{range_of}
 use Rattle.vortex_ranges.specs.Calls.{AdmitsCalls}
 use Rattle.vortex_pruning.specs.Knowing.{Knows, with_faults}
-use Rattle.vortex_pruning.specs.Exact.{IsSimpleRange}
+use Rattle.vortex_pruning.specs.Exact.{IsCallRange}
 use Rattle.vortex_pruning.proofs.TreesKnown.{called_known}
 use Rattle.vortex_pruning.proofs.node.called_range.Goals as goal
 
@@ -24,7 +24,7 @@ returns g c =
     let admits = subst (λ (rs : List Range).
     AdmitsCalls (function_type m f) (function_means m f) k (map range_of rs) own)
     c.deref.ensures.value c.in_ok-own.ensures.admits in
-    let shape = subst (λ (rs : List Range). IsSimpleRange f k (map range_of rs) own)
+    let shape = subst (λ (rs : List Range). IsCallRange f k (map range_of rs) own)
     c.deref.ensures.value c.in_ok-own.ensures.shape in
     subst (λ r. Knows m n ss t r)
     (sym (c.with_faults.ensures ∙ ap (λ b. with_faults b own) faulty))

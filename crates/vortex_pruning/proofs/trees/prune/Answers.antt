@@ -3,7 +3,7 @@ use Rattle.vortex_types.specs.TypeOf.{type_of}
 use Rattle.vortex_ranges.specs.BoundViews.{range_of}
 use Rattle.vortex_pruning.specs.Pruning.{Prunes, uncondition}
 use Rattle.vortex_pruning.proofs.Verdicts.{tells_rows}
-use Rattle.vortex_pruning.proofs.ExactCalls.{sharp}
+use Rattle.vortex_pruning.proofs.SharpVerdicts.{sharp}
 use Rattle.vortex_pruning.proofs.trees.prune.Goals as goal
 
 pub returns : goal.returns
