@@ -1,2 +1,3 @@
+pub mod FloatEnds
 pub mod PutItems
 pub mod Refused

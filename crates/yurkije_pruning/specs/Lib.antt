@@ -1,4 +1,5 @@
 pub mod Lent
+pub mod Floats
 pub mod Pruning
 pub mod Verdicts
 pub mod Statuses

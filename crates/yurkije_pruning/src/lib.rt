@@ -5,6 +5,7 @@
 pub mod error;
 mod fields;
 mod groups;
+pub mod laws;
 mod lent;
 mod statuses;
 mod verdicts;
