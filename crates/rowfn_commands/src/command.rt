@@ -1,14 +1,18 @@
 //! A command line, from its words to its status.
 
 use crate::failure::ProgramError;
+use crate::indexing::write_index;
+use crate::planning::{index_error, plan_of};
 use crate::queries::{is_like_path, query_of};
 use crate::standard_error::StandardError;
-use crate::streams::run_counted;
+use crate::streams::{Rows, run_counted};
 use rowfn_batches::{Refusals, StreamError, check_names, explain, refusals_in};
+use rowfn_index::IndexError;
 use rowfn_options::{Action, Options, Source, read_options, status};
 use rowfn_queries::{Again, Query, Question};
+use std::cell::Cell;
 use std::fs;
-use std::io::Read;
+use std::io::{Read, Seek};
 use std::rt::Files;
 
 /// Prints a program on standard output: each tree as it is written, and as rules make it.
@@ -47,9 +51,53 @@ fn note_mixed(console: &impl Eprint, query: &Query) {
     }
 }
 
-/// Does what the options ask for with the rows of a reader.
-fn perform_on<R: Read + Drop>(
+/// Passes rows on, and reports bad ones where the options say.
+fn pass_rows<R: Read + Drop, F: Read + Seek + Drop>(
     files: &(impl Files + AllocGlobal),
+    console: &(impl Print + Eprint + AllocGlobal),
+    options: &Options<'_>,
+    query: &Query,
+    rows: Rows<'_, R, F>,
+) -> Result<(), ProgramError> {
+    match options.errors_to {
+        Some(name) => {
+            let refusals = refusals_in(files, name)?;
+            run_counted(console, options, query, rows, refusals)
+        }
+        None => {
+            let refusals = Refusals::new(console.alloc(), StandardError { console });
+            run_counted(console, options, query, rows, refusals)
+        }
+    }
+}
+
+/// Passes the rows of a file on that an index, in the file of that name, does not exclude.
+fn pass_planned<Fs: Files + AllocGlobal, R: Read + Drop>(
+    files: &Fs,
+    console: &(impl Print + Eprint + AllocGlobal),
+    options: &Options<'_>,
+    query: &Query,
+    name: &str,
+) -> Result<(), ProgramError> {
+    let input = options.input.unwrap_or("-");
+    let changed = Cell::new(None);
+    let plan = plan_of(files, options, query, input, name, &changed)?;
+    let rows: Rows<'_, R, Fs::File> = Rows::Planned(plan);
+    match (
+        pass_rows(files, console, options, query, rows),
+        changed.get(),
+    ) {
+        (Err(_), Some(chunk)) => {
+            let error = IndexError::OtherChunk(chunk.saturating_add(1));
+            Err(index_error(files, name, error))
+        }
+        (passed, _) => passed,
+    }
+}
+
+/// Does what the options ask for with the rows of a reader.
+fn perform_on<Fs: Files + AllocGlobal, R: Read + Drop>(
+    files: &Fs,
     console: &(impl Print + Eprint + AllocGlobal),
     options: &Options<'_>,
     reader: R,
@@ -60,14 +108,11 @@ fn perform_on<R: Read + Drop>(
         return Ok(print_query(console, &query)?);
     }
     note_mixed(console, &query);
-    match options.errors_to {
-        Some(name) => {
-            let refusals = refusals_in(files, name)?;
-            run_counted(console, options, &query, reader, refusals)
-        }
+    match options.index {
+        Some(name) => pass_planned::<Fs, R>(files, console, options, &query, name),
         None => {
-            let refusals = Refusals::new(console.alloc(), StandardError { console });
-            run_counted(console, options, &query, reader, refusals)
+            let rows: Rows<'_, Again<R>, Fs::File> = Rows::Whole(reader);
+            pass_rows(files, console, options, &query, rows)
         }
     }
 }
@@ -105,6 +150,9 @@ fn perform<R: Read + Drop>(
     let Some(name) = options.input else {
         return perform_on(files, console, options, input);
     };
+    if let Some(index) = options.write_index {
+        return write_index(files, options, name, index);
+    }
     match fs::open(files, name) {
         Ok(file) => perform_on(files, console, options, file),
         Err(error) => Err(ProgramError::Input(String::from_str(files.alloc(), name)?, error)),

@@ -1,6 +1,7 @@
 //! What goes wrong, with its status and its text.
 
 use rowfn_batches::{NoRefusals, StreamError};
+use rowfn_index::IndexError;
 use rowfn_queries::QueryError;
 use std::alloc::{AllocError, AllocFailed};
 use std::{fmt, io};
@@ -29,6 +30,10 @@ pub enum ProgramError {
     Reporting(String, io::Error),
     /// So many rows were refused, and left out.
     LeftOut(u64),
+    /// The rows have no column that an index could describe.
+    NoColumns,
+    /// The index in the file of that name is not used.
+    Index(String, IndexError),
 }
 
 impl From<QueryError> for ProgramError {
@@ -82,6 +87,8 @@ impl ProgramError {
             | ProgramError::Reporting(_, _) => 3,
             ProgramError::NoText(_) => 4,
             ProgramError::LeftOut(_) => 1,
+            ProgramError::NoColumns => 2,
+            ProgramError::Index(_, error) => error.status(),
         }
     }
 
@@ -130,6 +137,11 @@ impl fmt::Display for ProgramError {
                 write!(f, "writing {name}: {error}")
             }
             ProgramError::LeftOut(count) => write!(f, "rows left out {count}"),
+            ProgramError::NoColumns => f.write_str("--write-index: the rows have no columns"),
+            ProgramError::Index(name, error) => {
+                let name = name.as_str();
+                write!(f, "{name}: {error}")
+            }
         }
     }
 }

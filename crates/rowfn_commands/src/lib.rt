@@ -3,6 +3,9 @@
 
 mod command;
 mod failure;
+mod indexing;
+mod planned;
+mod planning;
 mod progress;
 mod queries;
 mod standard_error;

@@ -1,6 +1,7 @@
 //! The stream that options ask for, over any reader, with what it says of rows and how it ends.
 
 use crate::failure::ProgramError;
+use crate::planned::{Plan, run_plan};
 use crate::progress::{PRINTED_BYTES, Progress};
 use crate::queries::format_with;
 use rowfn_batches::{Refusals, RefusedRows, Request, Settings, StreamError, Summary, Watched, run};
@@ -9,7 +10,7 @@ use rowfn_options::Options;
 use rowfn_queries::{Query, Question};
 use std::alloc::Global;
 use std::cell::Cell;
-use std::io::{self, Read, Write};
+use std::io::{self, Read, Seek, Write};
 use vortex_columns::StructFields;
 use vortex_program::rows_at_once;
 
@@ -33,7 +34,7 @@ fn usual_batch(alloc: Global, query: &Query) -> Result<usize, StreamError> {
 
 /// How rows are read and written, with batches of so many rows where the options do not say it; the
 /// rows that were passed on are counted in a cell.
-fn settings_of<'a>(
+pub(crate) fn settings_of<'a>(
     options: &Options<'_>,
     format: Format<'a>,
     usual: usize,
@@ -54,19 +55,51 @@ fn settings_of<'a>(
     }
 }
 
-/// A question, as a stream takes it.
-fn asked(question: &Question) -> Request<'_> {
+/// What is asked of rows, as a stream takes it.
+#[derive(Clone, Copy)]
+pub(crate) struct Asked<'a> {
+    pub(crate) answers: Option<Request<'a>>,
+    pub(crate) condition: Option<Request<'a>>,
+}
+
+/// The rows that are passed on.
+#[derive(Drop)]
+pub(crate) enum Rows<'a, R, F> {
+    /// All of a reader.
+    Whole(R),
+    /// Those of a file that an index does not exclude.
+    Planned(Plan<'a, F>),
+}
+
+/// A question, as a stream takes it, where its columns are at those places.
+pub(crate) fn asked_at<'a>(question: &'a Question, places: &'a [Option<usize>]) -> Request<'a> {
     Request {
         program: &question.program,
-        places: &question.places,
+        places,
+    }
+}
+
+/// A question, if there is one.
+fn request_of(question: &Option<Question>) -> Option<Request<'_>> {
+    match question {
+        Some(question) => Some(asked_at(question, &question.places)),
+        None => None,
+    }
+}
+
+/// What a query asks.
+pub(crate) fn asked_of(query: &Query) -> Asked<'_> {
+    Asked {
+        answers: request_of(&query.answers),
+        condition: request_of(&query.condition),
     }
 }
 
 /// Runs the stream of a query, and returns how many rows it read and wrote.
-fn run_query<R: Read + Drop, E: Write + Drop>(
+pub(crate) fn run_query<R: Read + Drop, E: Write + Drop>(
     console: &(impl Print + AllocGlobal),
     settings: Settings<'_>,
-    query: &Query,
+    asked: Asked<'_>,
     reader: R,
     refused: &mut RefusedRows<E>,
 ) -> Result<Summary, StreamError> {
@@ -76,10 +109,9 @@ fn run_query<R: Read + Drop, E: Write + Drop>(
         ..settings
     };
     let mut out = io::writer(console);
-    let (settings, answers, condition) = match (&query.answers, &query.condition) {
-        (Some(answers), Some(condition)) => (settings, asked(answers), Some(asked(condition))),
-        (Some(answers), None) => (settings, asked(answers), None),
-        (None, Some(condition)) => (picking, asked(condition), None),
+    let (settings, answers, condition) = match (asked.answers, asked.condition) {
+        (Some(answers), condition) => (settings, answers, condition),
+        (None, Some(condition)) => (picking, condition, None),
         (None, None) => {
             return Ok(Summary {
                 rows_read: 0,
@@ -100,11 +132,11 @@ fn run_query<R: Read + Drop, E: Write + Drop>(
 
 /// The same, with the rows counted on standard error while they are read, where that is asked.
 /// `rows` and `null` must outlive `settings`, so they are locals here.
-fn run_watched<R: Read + Drop, E: Write + Drop>(
+fn run_watched<R: Read + Drop, F: Read + Seek + Drop, E: Write + Drop>(
     console: &(impl Print + Eprint + AllocGlobal),
     options: &Options<'_>,
     query: &Query,
-    reader: R,
+    rows_of: Rows<'_, R, F>,
     refused: &mut RefusedRows<E>,
 ) -> Result<Summary, StreamError> {
     let alloc = console.alloc();
@@ -113,17 +145,22 @@ fn run_watched<R: Read + Drop, E: Write + Drop>(
     let rows = Cell::new(0);
     let format = format_with(options, null.as_bytes(), &options.more_nulls);
     let settings = settings_of(options, format, usual, &rows);
+    let reader = match rows_of {
+        Rows::Whole(reader) => reader,
+        Rows::Planned(plan) => return run_plan(console, settings, query, plan, refused),
+    };
+    let asked = asked_of(query);
     if !options.progress {
-        return run_query(console, settings, query, reader, refused);
+        return run_query(console, settings, asked, reader, refused);
     }
     let watched = Watched::new(reader, Progress { console }, &rows, PRINTED_BYTES);
-    let passed = run_query(console, settings, query, watched, refused);
+    let passed = run_query(console, settings, asked, watched, refused);
     let _ = eprintln!(console; "\rrows {}", rows.get());
     passed
 }
 
 /// The error, with advice where the type that a field has not was taken from the first rows.
-fn advised(inferred: &StructFields, error: StreamError) -> ProgramError {
+pub(crate) fn advised(inferred: &StructFields, error: StreamError) -> ProgramError {
     let is_inferred = match &error {
         StreamError::Misfit { column, .. } => inferred.find(column.as_str()).is_some(),
         _ => false,
@@ -184,21 +221,21 @@ fn ended<E: Write + Drop>(
 
 /// Runs the stream, with bad rows reported and skipped or up to the first, as the options say.
 /// Returns how many were skipped, and how it ended.
-fn run_reported<R: Read + Drop, E: Write + Drop>(
+fn run_reported<R: Read + Drop, F: Read + Seek + Drop, E: Write + Drop>(
     console: &(impl Print + Eprint + AllocGlobal),
     options: &Options<'_>,
     query: &Query,
-    reader: R,
+    rows: Rows<'_, R, F>,
     refusals: Refusals<E>,
 ) -> (u64, Result<Summary, ProgramError>) {
     if !options.skips {
         let mut refused: RefusedRows<E> = RefusedRows::End;
-        let passed = run_watched(console, options, query, reader, &mut refused);
+        let passed = run_watched(console, options, query, rows, &mut refused);
         let mut refusals = refusals;
         return (0, ended(console, options, query, passed, &mut refusals));
     }
     let mut refused = RefusedRows::Skip(refusals);
-    let passed = run_watched(console, options, query, reader, &mut refused);
+    let passed = run_watched(console, options, query, rows, &mut refused);
     match &mut refused {
         RefusedRows::Skip(refusals) => {
             let skipped = refusals.count();
@@ -212,14 +249,14 @@ fn run_reported<R: Read + Drop, E: Write + Drop>(
 }
 
 /// Runs the stream, and prints its counts, where they are asked. Fails where rows were skipped.
-pub(crate) fn run_counted<R: Read + Drop, E: Write + Drop>(
+pub(crate) fn run_counted<R: Read + Drop, F: Read + Seek + Drop, E: Write + Drop>(
     console: &(impl Print + Eprint + AllocGlobal),
     options: &Options<'_>,
     query: &Query,
-    reader: R,
+    rows: Rows<'_, R, F>,
     refusals: Refusals<E>,
 ) -> Result<(), ProgramError> {
-    let (skipped, passed) = run_reported(console, options, query, reader, refusals);
+    let (skipped, passed) = run_reported(console, options, query, rows, refusals);
     match passed {
         Ok(
             Summary {

@@ -131,6 +131,33 @@ const ACTIONS: [Row; 7] = [
     },
 ];
 
+/// Indexes of files.
+const INDEXES: [Row; 3] = [
+    Row {
+        id: "write-index",
+        long: Some("write-index"),
+        value: "FILE",
+        help: "Write an index of the rows of --input to this file; write no rows",
+        ..TEXT
+    },
+    Row {
+        id: "index",
+        long: Some("index"),
+        value: "FILE",
+        help: "Skip, by this index, parts of --input in which --where is true nowhere",
+        ..TEXT
+    },
+    Row {
+        id: "chunk-rows",
+        long: Some("chunk-rows"),
+        takes: Takes::Number32,
+        value: "N",
+        default: Some("8192"),
+        help: "How many rows a part has that an index describes, at most",
+        ..TEXT
+    },
+];
+
 /// How rows are read.
 const READING: [Row; 8] = [
     Row {
@@ -329,7 +356,7 @@ fn with_sources<'a>(alloc: Global, command: Command<'a>) -> Result<Command<'a>, 
 
 /// What is done with rows.
 fn with_actions<'a>(alloc: Global, command: Command<'a>) -> Result<Command<'a>, Error> {
-    with_rows(alloc, command, &ACTIONS)
+    with_rows(alloc, with_rows(alloc, command, &ACTIONS)?, &INDEXES)
 }
 
 /// How rows are read.
@@ -349,6 +376,7 @@ fn expression<'a>(alloc: Global) -> Result<Arg<'a>, Error> {
             .value_name("EXPRESSION")
             .required_unless_present("file")?
             .required_unless_present("where")?
+            .required_unless_present("write-index")?
             .help("What is answered in each row; not there with -f"),
     )
 }

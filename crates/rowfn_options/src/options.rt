@@ -6,6 +6,7 @@ ghost use Rattle.rowfn_options.specs.Statuses.{status_of};
 
 use crate::command::command;
 use crate::fields::{Fields, fields_option};
+use crate::indexes::{Indexes, indexes_option};
 use crate::words::{is_second, refusal};
 use clap::error::ErrorKind;
 use clap::{ArgMatches, Command, Error};
@@ -82,6 +83,12 @@ pub struct Options<'a> {
     pub source: Source<'a>,
     /// The file of the rows, where they are not those of standard input.
     pub input: Option<&'a str>,
+    /// The file that an index of the rows is written to; no rows are written then.
+    pub write_index: Option<&'a str>,
+    /// The file of the index by which parts of the input are skipped.
+    pub index: Option<&'a str>,
+    /// How many rows a part has that an index describes, at most; at least 1.
+    pub chunk_rows: u32,
 }
 
 fn action_option(matches: &ArgMatches<'_>) -> Action {
@@ -169,6 +176,7 @@ fn options_of<'a>(
     fields: Fields<'a>,
     input: Option<&'a str>,
     refused: Refused<'a>,
+    indexes: Indexes<'a>,
 ) -> Options<'a>
     ensures bytes { (result.delimiter ≡ fields.entry.bytes.delimiter)
         × (result.output_delimiter ≡ fields.entry.bytes.output_delimiter)
@@ -202,6 +210,9 @@ fn options_of<'a>(
         condition: matches.get_str("where"),
         source: source_option(matches),
         input,
+        write_index: indexes.written,
+        index: indexes.used,
+        chunk_rows: indexes.chunk_rows,
     }
 }
 
@@ -217,7 +228,8 @@ pub fn read_options<'a>(alloc: Global, words: &'a [String]) -> Result<Options<'a
     let fields = fields_option(alloc, &matches, &mut command)?;
     let input = input_option(&matches, &mut command)?;
     let refused = refused_option(&matches, &mut command, input)?;
-    Ok(options_of(&matches, fields, input, refused))
+    let indexes = indexes_option(&matches, &mut command, input)?;
+    Ok(options_of(&matches, fields, input, refused, indexes))
 }
 
 /// The program's status where its words give no options: 0 where help or the version was asked for,

@@ -1,0 +1,7 @@
+pub mod Agreement
+pub mod Chunks
+pub mod Digests
+pub mod Ends
+pub mod Measured
+pub mod Steps
+pub mod Kept
