@@ -53,8 +53,8 @@
  *    call writes to (handles, `yk_error`, rooms, counts) overlaps nothing else that it is handed.
  *    Behind the call the library keeps no pointer to anything of the caller's.
  * 4. Calls that take a `const` handle only read it: any number of threads may make them at once over
- *    one handle. A call that fills or frees a handle is made by the thread that filled it first, and
- *    while no other call over it runs; a lock, a start or a join orders it with those of other threads.
+ *    one handle. A call that fills or frees a handle may be made by any thread, while no other call
+ *    over it runs; a lock, a start or a join orders it with the calls of other threads.
  * 5. No call is made from a signal handler, nor in the forked child of a process with threads.
  *    `malloc`, `realloc` and `free` are the C library's, or do what its do.
  *
@@ -69,7 +69,8 @@
  * - Calls read nothing outside of the slices that they are handed, whatever stands in them.
  *
  * A batch of which no column that is read and no answer is of texts or byte strings runs in parts of
- * 2,048 rows (with long lists up to 65,536), and may have any number of rows. With texts or byte strings batches of some 8,192 rows run fastest: for
+ * 2,048 rows (with long lists up to 65,536; one call over columns where they lie as a whole), and may
+ * have any number of rows. With texts or byte strings batches of some 8,192 rows run fastest: for
  * larger ones the C library may give memory back to the system and fetch it again at each call.
  */
 #ifndef YURKIJE_H
@@ -286,7 +287,8 @@ struct yk_statistics {
     struct yk_column low;        /* of the field's type: no row that is not null is below it. It need not
                                     be the value of a row: a text that was cut off is a low end */
     struct yk_column high;       /* of the field's type: no row that is not null is above it. A NaN is the
-                                    greatest float, so ends that leave out NaNs are no ends where there is one */
+                                    greatest float: of ends that leave NaN out pass the low one alone, unless
+                                    no row is NaN; an end that is NaN itself was made of no row */
     struct yk_column nulls;      /* YK_U64: how many rows are null */
 };
 

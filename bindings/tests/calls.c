@@ -2,6 +2,8 @@
  * places, and wrong use. */
 #include "check.h"
 
+#include <math.h>
+
 static const int8_t i8s[] = {1, -128, 127};
 static const int16_t i16s[] = {1, -32768, 32767};
 static const int32_t i32s[] = {1, INT32_MIN, INT32_MAX};
@@ -433,6 +435,53 @@ static void kinds(size_t rows) {
     yk_expression_free(&expression);
 }
 
+/* Whether the rows of truth values are as a word says: true, false or null. */
+static void rows_are(const char *text, const char *expected) {
+    static const double floats[] = {99, -0.0, 1.5, 2.5, -1, NAN, 0, 1e300}, bounds[] = {99, 0, 1, 3, -2, NAN, 0, 0};
+    static const int32_t whole[] = {99, 1, 3, 4, -5, 7, 3, 100};
+    static const uint8_t valid[] = {0xdb}, truths[] = {0x54};
+    const struct yk_field fields[] = {field("x", YK_F64, false), field("y", YK_F64, false), field("n", YK_F64, true),
+                                      field("p", YK_BOOL, false), field("i", YK_I32, false)};
+    struct yk_column in[COUNT(fields)];
+    for (size_t k = 0; k < COUNT(fields); k++)
+        in[k] = (struct yk_column){.kind = fields[k].kind, .nullable = fields[k].nullable, .rows = 7, .offset = 1};
+    in[0].f64 = in[2].f64 = (struct yk_f64s){floats, 8};
+    in[1].f64 = (struct yk_f64s){bounds, 8};
+    in[2].validity = (struct yk_bytes){valid, 1};
+    in[3].bools = (struct yk_bytes){truths, 1};
+    in[4].i32 = (struct yk_i32s){whole, 8};
+    struct yk_expression expression = read_expression(text, fields, COUNT(fields));
+    struct yk_answers answers = {0};
+    struct yk_error error = new_error();
+    uint8_t bits[1] = {0}, given[1] = {255};
+    char told[8] = "";
+    struct yk_room room = {.kind = YK_BOOL, .bools = {bits, 1}, .validity = {given, 1}};
+    SAME(yk_run(&expression, in, COUNT(fields), 7, &answers, &error), YK_OK);
+    SAME(yk_answer_copy(&answers, 0, &room), YK_OK);
+    for (size_t i = 0; i < 7; i++)
+        told[i] = !bit(given, i) ? 'n' : bit(bits, i) ? 't' : 'f';
+    if (strcmp(told, expected)) {
+        fprintf(stderr, "%s: %s, not %s\n", text, told, expected);
+        faults++;
+    }
+    yk_answers_free(&answers);
+    yk_expression_free(&expression);
+}
+
+/* Calls that read columns where they lie, from the item after the first on: BETWEEN of floats in their order, constants
+ * on the left, null tests, and comparisons of truth values. */
+static void where_they_lie(void) {
+    rows_are("x between 0.0 and 1.5", "ttffftf");
+    rows_are("x between 2.5 and y", "fftftff");
+    rows_are("n between 0.0 and 2.5", "tntfntf");
+    rows_are("1.5 < x", "fftftft");
+    rows_are("3 < i", "fftftft");
+    rows_are("4 >= i", "ttttftf");
+    rows_are("n is null", "ftfftff");
+    rows_are("n is not null", "tfttftt");
+    rows_are("p = (x < 1.5)", "ffttttt");
+}
+
 int main(void) {
     each_kind();
     told();
@@ -441,6 +490,7 @@ int main(void) {
     wrong_use();
     nothing();
     unread();
+    where_they_lie();
     pruned();
     kinds(3);
     kinds(10000);

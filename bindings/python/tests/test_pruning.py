@@ -140,6 +140,19 @@ class Groups(unittest.TestCase):
         told = both.prune(low={"a": [0]}, high={"a": [0]}, rows=[1])
         self.assertEqual((told.whole.tolist(), both.mask({"a": [0]}).tolist()), ([True], [True]))
 
+    def test_ends_that_leave_nan_out(self):
+        # the second group has a NaN, which is above its high end
+        above = Expression("x > 2.0, x < 1.0, x <= 5.0", {"x": "f64"})
+        given = {"low": {"x": [3.0, 1.0, float("nan")]}, "high": {"x": [4.0, 2.0, float("nan")]}, "rows": [9, 9, 9]}
+        rows = [3.0, 4.0], [1.0, 2.0, float("nan")], [float("nan")]
+        for answer, (tight, left_out) in enumerate((([2, 1, 2], [2, 0, 0]), ([1, 1, 1], [1, 1, 0]), ([2, 2, 1], [0, 0, 0]))):
+            self.assertEqual(above.prune(**given, answer=answer).verdicts.tolist(), tight)
+            told = above.prune(**given, answer=answer, nan_is_left_out=True)
+            self.assertEqual(told.verdicts.tolist(), left_out)
+            for verdict, values in zip(told.verdicts, rows):
+                mask = above.mask({"x": values}, answer)
+                self.assertTrue((verdict != 1 or not mask.any()) and (verdict != 2 or mask.all()))
+
     def test_refusals(self):
         def refused(kind, number, column, row, *, answer=0, rows=(8, 9, 10), **changed):
             with self.assertRaises(kind) as caught:

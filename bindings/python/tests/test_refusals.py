@@ -38,7 +38,7 @@ class Refusals(unittest.TestCase):
                 self.refused(ExpressionError, lambda: ask("a + 1 > 2 and b = 1", columns), number=11, byte=14)
                 self.refused(ExpressionError, lambda: ask("a is null or null = null", columns), number=115)
                 self.refused(ExpressionError, lambda: ask("a is null or 300::u8 = 1", columns), number=114)
-                self.refused(ExpressionError, lambda: ask("a is null or 3::float = 1", columns), number=113)
+                self.refused(ExpressionError, lambda: ask("a is null or 3::number = 1", columns), number=113)
         # if the text may be right, the column is reported
         self.refused(ColumnError, lambda: select("a + 1 > 2 and f = 'x'", {"f": floats, "a": floats}), number=140, column="f")
         self.refused(ColumnError, lambda: select("a = 1", {"f": floats, "a": [1.5j]}), number=140, column="a")

@@ -1,4 +1,4 @@
-"""Threads share an expression, each with its own handle."""
+"""Threads share an expression, and pass it on to one another."""
 import threading
 import unittest
 
@@ -26,6 +26,17 @@ class Threads(unittest.TestCase):
         for thread in threads:
             thread.join()
         self.assertEqual(faults, [])
+
+    def test_an_expression_goes_from_thread_to_thread(self):
+        made, texts = [], ["a + 1", "a * 7", "a - 1", "a * a"]
+
+        def read():
+            made.extend(Expression(text, {"a": "i64"}) for text in texts)
+
+        reader = threading.Thread(target=read)
+        reader.start()
+        reader.join()
+        self.assertEqual([one.run({"a": [3]}).column(0).tolist() for one in made], [[4], [21], [2], [9]])
 
     def test_an_expression_is_dropped_by_another_thread(self):
         held = [Expression("a + 1", {"a": "i64"})]

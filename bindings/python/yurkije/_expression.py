@@ -1,9 +1,8 @@
-"""Expressions: a text, read once for each thread, and run over batches of columns."""
+"""Expressions: a text, read once, and run over batches of columns."""
 from __future__ import annotations
 
 import ctypes as c
 import re
-import threading
 from collections.abc import Iterable, Iterator, Mapping
 from functools import cached_property
 from typing import Any, Callable, Optional, TypeVar, Union
@@ -32,47 +31,15 @@ STAND_INS = ("i64", "utf8", "bool")
 OF_TEXT_ALONE = (11, 110, 112, 113, 115, 116)
 
 
-class _Owner:
-    """What one thread still has to free: handles that it made, and that another dropped. Dropped
-    when the thread ends."""
-
-    def __init__(self) -> None:
-        self.left: list[Handle] = []
-
-    def free(self) -> None:
-        while self.left:
-            lib.yk_expression_free(self.left.pop())
-
-    __del__ = free
-
-
-class _Owners(threading.local):
-    def __init__(self) -> None:
-        self.owner = _Owner()
-
-
-_owners = _Owners()
-
-
 class _Program:
-    """A handle, which stays on its thread: if another drops it, its own thread frees it in its next
-    call."""
+    """A handle, freed with this object by whichever thread drops it. Calls over it only read it, so
+    threads share it."""
 
     def __init__(self) -> None:
-        _owners.owner.free()
-        self.raw, self.left, self.thread = Handle(), _owners.owner.left, threading.get_ident()
+        self.raw = Handle()
 
     def __del__(self) -> None:
-        if threading.get_ident() == self.thread:
-            lib.yk_expression_free(self.raw)
-        else:
-            self.left.append(self.raw)
-
-
-class _Programs(threading.local):
-    """A handle for each thread: two threads must not use one."""
-
-    program: Optional[_Program] = None
+        lib.yk_expression_free(self.raw)
 
 
 _Made = TypeVar("_Made")
@@ -160,8 +127,7 @@ class Expression:
     decimal?(12,2); or a type of numpy or pandas, as `np.dtype("i8")`. Columns
     that the text does not name may have any type. docs/EXPRESSIONS.md has the language.
 
-    Threads may share an Expression: the first call in each reads the text anew, since a handle of
-    the library belongs to one thread. Calls of the library release Python's lock.
+    Threads may share an Expression. Calls of the library release Python's lock.
     """
 
     def __init__(self, text: str, columns: Mapping[str, Any]) -> None:
@@ -172,11 +138,11 @@ class Expression:
         """Reads a text over the columns that it names, of their types, or None if a column is an
         error. Raises what is wrong with the text, else that error."""
         self.text = text
-        self._encoded, self._local = text.encode(), _Programs()
+        self._encoded = text.encode()
         if refused is None:
             self._read = [(name, kind) for name, kind in types.items() if kind]
             try:
-                self._begin()
+                self._program = self._begin()
                 return
             except ExpressionError as error:
                 refused = error
@@ -219,20 +185,17 @@ class Expression:
     @classmethod
     def _of_schema(cls, text: str, schema: Any) -> Expression:
         made = cls.__new__(cls)
-        made.text, made._encoded, made._local = text, text.encode(), _Programs()
-        program, told = _Program(), Told()
-        told.check(lib.yk_arrow_expression_new(made._encoded, len(made._encoded), schema, program.raw, told.raw))
-        made._local.program = program
+        made.text, made._encoded, made._program, told = text, text.encode(), _Program(), Told()
+        told.check(lib.yk_arrow_expression_new(made._encoded, len(made._encoded), schema, made._program.raw, told.raw))
         made._read = made._fields()
         return made
 
     def _begin(self) -> _Program:
-        """Reads the text in this thread."""
+        """Reads the text over the columns that are noted."""
         program, told = _Program(), Told()
         fields, _keeps = fields_of(self._read)
         status = lib.yk_expression_new(self._encoded, len(self._encoded), fields, len(self._read), program.raw, told.raw)
         told.check(status, [name for name, _ in self._read])
-        self._local.program = program
         return program
 
     @cached_property
@@ -241,8 +204,7 @@ class Expression:
         return tuple(Answer(*told) for told in self._typed(lib.yk_answer_count, lib.yk_answer_name, lib.yk_answer_type))
 
     def _handle(self) -> Handle:
-        program = self._local.program or self._begin()
-        return program.raw
+        return self._program.raw
 
     def _typed(self, count_of: Any, name_of: Any, type_of_it: Any) -> Iterator[tuple[str, str]]:
         handle, count = self._handle(), c.c_size_t()
@@ -353,7 +315,9 @@ class Expression:
         told.check(status, self._names())
         return mask
 
-    def prune(self, low: Any = (), high: Any = (), nulls: Any = (), rows: Any = (), answer: int = 0) -> Verdicts:
+    def prune(
+        self, low: Any = (), high: Any = (), nulls: Any = (), rows: Any = (), answer: int = 0, nan_is_left_out: bool = False
+    ) -> Verdicts:
         """Returns what is known of an answer, a truth value, in each group of rows, without a row.
 
         `low`, `high` and `nulls` are mappings of columns by field, or frames, with an item a group: ends between which
@@ -361,12 +325,15 @@ class Expression:
         that is null, say nothing. `rows` are the counts of rows. What is said has to be so; the verdicts are of all
         columns of which it is. Raises errors, with the field as `column` and the group as `row`.
 
+        A NaN is the greatest float. Parquet and Iceberg leave it out of the ends of a column that has it: pass their ends with
+        `nan_is_left_out`. Then ends of floats say nothing of NaN: high ends of floats, and ends that are NaN, are not looked at.
+
         >>> wanted = Expression("price > 100", {"price": "i64"})
         >>> wanted.prune(low={"price": [0, 101]}, high={"price": [9, 300]}, rows=[8, 9]).skip
         array([ True, False])
         """
         self._check_truth(answer)
-        return verdicts_of(self._handle(), answer, self._read, (low, high, nulls), rows)
+        return verdicts_of(self._handle(), answer, self._read, (low, high, nulls), rows, nan_is_left_out)
 
     def __reduce__(self) -> Any:
         """Pickles as its text, and is read again where it is unpickled."""

@@ -10,7 +10,7 @@ import numpy as np
 from ._columns import Borrowed, borrow, column_of, name_of
 from ._errors import ColumnError, Told
 from ._library import Handle, Rooms, Statistics, lib
-from ._types import bare
+from ._types import FLOAT_TYPES, bare
 
 UNEXPECTED_NULL = 124
 UNKNOWN, NONE_TRUE, ALL_TRUE = range(3)
@@ -64,12 +64,20 @@ def _has(columns: Any, name: str) -> bool:
     return hasattr(columns, "keys") and any(name_of(label) == name for label in columns.keys())
 
 
-def _statistics_of(fields: Sequence[tuple[str, str]], parts: tuple[Any, Any, Any]) -> tuple[Any, list[Any]]:
+def _ends_of(name: str, kind: str, low: Any, high: Any, nan_is_left_out: bool) -> list[tuple[str, Borrowed]]:
+    """Returns the ends of a field. Where ends leave NaN out, those of floats say nothing of NaN, the greatest float: a low
+    end is one of all rows, a high end is none, and an end that is NaN was made of no row."""
+    leaves = nan_is_left_out and kind in FLOAT_TYPES
+    parts = [("low", low)] if leaves else [("low", low), ("high", high)]
+    return [(part, borrow(name, column_of(ends, name), kind, leaves)) for part, ends in parts if _has(ends, name)]
+
+
+def _statistics_of(fields: Sequence[tuple[str, str]], parts: tuple[Any, Any, Any], nan_is_left_out: bool) -> tuple[Any, list[Any]]:
     """Returns the statistics of fields, and the objects that their addresses point into."""
     low, high, nulls = parts
     made, keeps = (Statistics * max(len(fields), 1))(), []
     for statistics, (name, kind) in zip(made, fields):
-        given = [(part, borrow(name, column_of(ends, name), bare(kind))) for part, ends in (("low", low), ("high", high)) if _has(ends, name)]
+        given = _ends_of(name, bare(kind), low, high, nan_is_left_out)
         if _has(nulls, name):
             given.append(("nulls", _counts_of(name, column_of(nulls, name))))
         for part, column in given:
@@ -79,10 +87,12 @@ def _statistics_of(fields: Sequence[tuple[str, str]], parts: tuple[Any, Any, Any
     return made, keeps
 
 
-def verdicts_of(handle: Handle, answer: int, fields: Sequence[tuple[str, str]], parts: tuple[Any, Any, Any], rows: Any) -> Verdicts:
+def verdicts_of(
+    handle: Handle, answer: int, fields: Sequence[tuple[str, str]], parts: tuple[Any, Any, Any], rows: Any, nan_is_left_out: bool
+) -> Verdicts:
     """Returns what is known of an answer of an expression over fields."""
     counts = _rows_of(rows)
-    statistics, _keeps = _statistics_of(fields, parts)
+    statistics, _keeps = _statistics_of(fields, parts, nan_is_left_out)
     told, made, rooms = Told(), Verdicts(len(counts)), Rooms()
     for slot in ("verdicts", "may_fault", "least", "most"):
         place, array = getattr(rooms, slot), getattr(made, slot)

@@ -3,17 +3,11 @@ use crate::column::{Float, Integer, Kind};
 use crate::error::{checked, Error, Status};
 use crate::raw::{self, Handle, Rooms, Size};
 
-/// The answers of an expression over a batch. Threads may share them; the one that ran the expression
-/// frees them.
+/// The answers of an expression over a batch. Threads may share them, and pass them on to one another.
 ///
 /// ```
-/// fn shares<T: Sync>() {}
-/// shares::<yurkije::Answers>();
-/// ```
-///
-/// ```compile_fail
-/// fn sends<T: Send>() {}
-/// sends::<yurkije::Answers>();
+/// fn shares_and_sends<T: Sync + Send>() {}
+/// shares_and_sends::<yurkije::Answers>();
 /// ```
 #[derive(Debug)]
 pub struct Answers {
@@ -24,6 +18,10 @@ pub struct Answers {
 // SAFETY: the calls through `&self` only read the handle, and the library lets threads make them at
 // once.
 unsafe impl Sync for Answers {}
+
+// SAFETY: a handle owns what it points to, alone, and the library lets another thread than the one that
+// filled it use and free it.
+unsafe impl Send for Answers {}
 
 /// An answer of whole numbers, floats, days or microseconds.
 #[derive(Clone, Debug, PartialEq, Eq)]

@@ -4,16 +4,11 @@ use crate::column::{Column, Field, Kind, Type};
 use crate::error::{checked, told, Error};
 use crate::raw::{self, Handle};
 
-/// An expression over the fields of a scope. Threads may share it; the one that read it frees it.
+/// An expression over the fields of a scope. Threads may share it, and pass it on to one another.
 ///
 /// ```
-/// fn shares<T: Sync>() {}
-/// shares::<yurkije::Expression>();
-/// ```
-///
-/// ```compile_fail
-/// fn sends<T: Send>() {}
-/// sends::<yurkije::Expression>();
+/// fn shares_and_sends<T: Sync + Send>() {}
+/// shares_and_sends::<yurkije::Expression>();
 /// ```
 #[derive(Debug)]
 pub struct Expression {
@@ -23,6 +18,10 @@ pub struct Expression {
 // SAFETY: the calls through `&self` only read the handle, and the library lets threads make them at
 // once.
 unsafe impl Sync for Expression {}
+
+// SAFETY: a handle owns what it points to, alone, and the library lets another thread than the one that
+// filled it use and free it.
+unsafe impl Send for Expression {}
 
 /// Takes a text that a call writes into a buffer, and whose length it returns.
 fn text_of(call: impl Fn(*mut u8, usize, &mut usize) -> u32) -> Result<String, Error> {

@@ -24,7 +24,7 @@
 //! ```
 //!
 //! Columns are borrowed for a call and read where they lie or, for other calls than
-//! docs/EMBEDDING.md lists, copied once; answers are copied out. Threads share an [`Expression`] and its [`Answers`], which are `Sync`; the thread that made them frees them: neither is `Send`. Batches with texts run fastest at some 8,192 rows.
+//! docs/EMBEDDING.md lists, copied once; answers are copied out. Threads share an [`Expression`] and its [`Answers`], and pass them on to one another: both are `Send` and `Sync`. Batches with texts run fastest at some 8,192 rows.
 #![allow(clippy::unit_arg)]
 
 mod answers;

@@ -65,7 +65,8 @@ fn verdict_of(byte: u8) -> Verdict {
 impl Expression {
     /// What is known of an answer, a truth value, in each group of rows without a row: by statistics of the fields, as many
     /// as there are fields, in their order, and by the number of rows of each group. It is said of the answer as it is run,
-    /// and of all columns that the statistics describe. Fails with the field, and the group, whose statistics are wrong.
+    /// and of all columns that the statistics describe. Of ends of floats that leave NaN out, the greatest float, pass the low
+    /// one alone, and none that is NaN. Fails with the field, and the group, whose statistics are wrong.
     pub fn prune(&self, answer: usize, statistics: &[Statistics<'_>], rows: &[u64]) -> Result<Vec<Pruned>, Error> {
         let raws: Vec<raw::Statistics<'_>> = statistics.iter().map(lend).collect();
         let (mut verdicts, mut may_fault) = (vec![0u8; rows.len()], vec![0u8; rows.len()]);

@@ -4,8 +4,8 @@ use std::marker::PhantomData;
 pub const ABI_VERSION: u32 = 1;
 pub const NONE: usize = usize::MAX;
 
-/// A handle of the library. Zeroed it is empty; it may be moved, never copied. The pointer makes
-/// it, and its owners, neither `Send` nor `Sync`: a handle belongs to one thread.
+/// A handle of the library. Zeroed it is empty; it may be moved, never copied. Its owners say
+/// themselves that threads may share it and pass it on.
 #[repr(C)]
 #[derive(Debug)]
 pub struct Handle {

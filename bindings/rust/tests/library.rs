@@ -263,6 +263,19 @@ fn wrong_use_is_told() -> Result<(), Error> {
 }
 
 #[test]
+fn expressions_and_answers_go_from_thread_to_thread() -> Result<(), Error> {
+    let expression = Expression::new("price + 1", &goods())?;
+    let run = std::thread::spawn(move || {
+        let prices = prices();
+        let columns = [Column::integers(&prices), Column::integers(&prices[..1]), Column::integers(&prices[..0])];
+        expression.run(&columns, 3)
+    });
+    let answers = run.join().expect("a thread")?;
+    assert_eq!(answers.integers::<i64>(0)?.iter().collect::<Vec<_>>(), prices().iter().map(|price| Some(price + 1)).collect::<Vec<_>>());
+    Ok(())
+}
+
+#[test]
 fn each_thread_reads_its_own() {
     let sums: Vec<Option<i64>> = std::thread::scope(|scope| {
         let runs: Vec<_> = (0..4i64)
