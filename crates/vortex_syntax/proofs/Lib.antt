@@ -38,6 +38,7 @@ pub mod Stops
 pub mod Placed
 pub mod Deep
 pub mod AnswerTokens
+pub mod AnswerTexts
 pub mod AnswerCommas
 pub mod AnswerNames
 pub mod AnswerSplits

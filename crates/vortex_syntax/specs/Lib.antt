@@ -17,3 +17,4 @@ pub mod AnswerLists
 pub mod AnswerParts
 pub mod Refusals
 pub mod Writing
+pub mod AnswerTexts

@@ -56,7 +56,7 @@ fn is_naming(word: Token<'_>, name: Token<'_>) -> bool
 }
 
 /// The tokens of a tree and the name after them, where the last two tokens are `as` and a name.
-fn split_name<'s, 'a>(tokens: &'s [Token<'a>]) -> Option<(&'s [Token<'a>], Token<'a>)>
+pub(crate) fn split_name<'s, 'a>(tokens: &'s [Token<'a>]) -> Option<(&'s [Token<'a>], Token<'a>)>
     ensures { option_map (λ x. (map token_in x.0.now, token_in x.1)) result
         ≡ specs.split_name (map token_in tokens.now) }
 {
@@ -125,7 +125,7 @@ fn depth_behind(depth: usize, token: Token<'_>) -> usize
 }
 
 /// The number of the first comma outside of brackets.
-fn first_comma(tokens: &[Token<'_>]) -> Option<usize>
+pub(crate) fn first_comma(tokens: &[Token<'_>]) -> Option<usize>
     ensures parts { MatchOption result
         (answer_parts (map token_in tokens.now) ≡ map token_in tokens.now ∷ [])
         (λ n. answer_parts (map token_in tokens.now) ≡ map token_in (take n tokens.now)

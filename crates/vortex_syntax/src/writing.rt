@@ -3,6 +3,7 @@ ghost use Rattle.std.specs.Prelude.{◌≡◌, ◌++◌, ◌<◌, List, [], OnOk
 ghost use Rattle.std.specs.List.{list_all};
 ghost use Rattle.vortex_syntax.specs.declared.pieces.Run.TheVariants.{Word};
 ghost use Rattle.vortex_syntax.specs.Tokens as seen;
+ghost use Rattle.vortex_syntax.specs.Tokens.{token_in};
 ghost use Rattle.vortex_syntax.specs.Pieces as pieces;
 ghost use Rattle.vortex_syntax.specs.Spelling.{type_token};
 ghost use Rattle.vortex_syntax.specs.Writing as specs;
@@ -10,7 +11,7 @@ ghost use Rattle.vortex_syntax.specs.Writing.{Holds, Adds, written, name_token, 
 ghost use Rattle.vortex_syntax.specs.Writing.{blank_unless, doubled, in_quotes};
 
 use crate::pieces::{Run, begins_word, is_in, keyword_of};
-use crate::token::Sign;
+use crate::token::{Sign, Token};
 use std::alloc::{AllocError, Global};
 
 /// What comes before the next token.
@@ -35,7 +36,7 @@ pub struct Writer {
     ending: Ending,
 }
 
-fn sign_text(sign: Sign) -> &'static str
+pub(crate) fn sign_text(sign: Sign) -> &'static str
     ensures { result.now ≡ specs.sign_text sign }
 {
     match sign {
@@ -165,6 +166,36 @@ fn sign_ending(ending: Ending, sign: Sign) -> Ending
         | Sign::IsNull
         | Sign::NotNull => Ending::Operand,
         _ => Ending::Loose,
+    }
+}
+
+/// Whether no blank comes before the token.
+pub(crate) fn joins(ending: Ending, token: Token<'_>) -> bool
+    ensures { result ≡ specs.joins ending (token_in token.entry) }
+{
+    match token {
+        Token::Sign(sign) => joins_sign(ending, sign),
+        Token::Number(_) => joins_number(ending),
+        Token::Name(_)
+        | Token::Nullable(_)
+        | Token::Function(_)
+        | Token::Quoted(_)
+        | Token::Text(_) => is_tight(ending),
+    }
+}
+
+/// What comes before the next token after the token.
+pub(crate) fn ending_after(ending: Ending, token: Token<'_>) -> Ending
+    ensures { result ≡ specs.ending_behind ending (token_in token.entry) }
+{
+    match token {
+        Token::Sign(sign) => sign_ending(ending, sign),
+        Token::Function(_) => Ending::Tight,
+        Token::Name(_)
+        | Token::Nullable(_)
+        | Token::Number(_)
+        | Token::Quoted(_)
+        | Token::Text(_) => Ending::Operand,
     }
 }
 
