@@ -31,7 +31,7 @@ use Rattle.vortex_expressions.proofs.Listing as listed
 use Rattle.vortex_program.specs.declared.form.Form.{Form}
 use Rattle.vortex_program.specs.declared.form.Form.TheVariants as form
 use Rattle.vortex_program.specs.declared.answer.Answer as bound
-use Rattle.vortex_program.specs.Naming.{IsNamedAnswer}
+use Rattle.vortex_program.specs.Naming.{IsNamedAnswer, AreWordsOf, worded}
 use Rattle.vortex_program.specs.Programs.{trees_of}
 use Rattle.vortex_program.specs.Texts.{IsParsed, ReadsOne, MeansOne, Means, IsRefusedOver, StopsAt}
 use Rattle.vortex_program.specs.Texts.{AreAnswersOf}
@@ -149,7 +149,9 @@ module _ (scope : Fields) (kinds : List Kind) (text : List ℕ) (ts : List Told)
     (parsed : IsParsed f text ts) (list : List Answer)
     (left : answers_left scope kinds ts ≡ answers list) where
   abbrev Named : Result (Vec bound.Answer Global) TextError → Type 0
-  Named r = ReadUnlessMemory r (λ v. AllMean (IsNamedAnswer scope) list v.items)
+  Named r =
+      ReadUnlessMemory r (λ v. (words : List (List ℕ)) × AreWordsOf text words
+      × AllMean (IsNamedAnswer scope) (worded list words) v.items)
 
   abbrev same : List Answer → List Answer
   same xs = xs
@@ -158,8 +160,10 @@ module _ (scope : Fields) (kinds : List Kind) (text : List ℕ) (ts : List Told)
       → IfOk r (λ v. AreAnswersOf f scope kinds text v.items)
   named_found (Ok v) h = record {
     list = list;
+    words = h.0;
     meant = found scope kinds text ts same f parsed (Ok list) left;
-    each = h;
+    written = h.1;
+    each = h.2;
   }
   named_found (Err e) h = tt
 
@@ -167,7 +171,7 @@ module _ (scope : Fields) (kinds : List Kind) (text : List ℕ) (ts : List Told)
       → (other : List Answer) → Means f scope kinds text other
       → ReadUnlessMemory r (λ v. trees_of v.items ≡ map (λ a. a.tree) other)
   named_only (Ok v) h other s =
-      named_trees scope list v.items h
+      named_trees scope list h.0 v.items h.2
       ∙ ap (map (λ (a : Answer). a.tree))
       (only scope kinds text ts same f parsed (Ok list) left other s)
   named_only (Err e) h other s = h

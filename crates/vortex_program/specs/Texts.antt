@@ -18,7 +18,7 @@ use Rattle.vortex_program.specs.declared.answer.Answer as bound
 use Rattle.vortex_program.specs.declared.parsed.Parsed.{Parsed}
 use Rattle.vortex_program.specs.declared.form.Form.{Form}
 use Rattle.vortex_program.specs.declared.form.Form.TheVariants as form
-use Rattle.vortex_program.specs.Naming.{IsNamedAnswer}
+use Rattle.vortex_program.specs.Naming.{IsNamedAnswer, AreWordsOf, worded}
 
 -- one tree, without a name
 abbrev pub unnamed : SyntaxTree → List Told
@@ -68,5 +68,7 @@ StopsAt form.Condition = TreeStopsAt
 pub record AreAnswersOf (f : Form) (scope : Fields) (kinds : List Kind) (text : List ℕ)
     (answers : List bound.Answer) : Type 0 where
   pub list : List Answer
+  pub words : List (List ℕ)
   pub meant : Means f scope kinds text list
-  pub each : AllMean (IsNamedAnswer scope) list answers
+  pub written : AreWordsOf text words
+  pub each : AllMean (IsNamedAnswer scope) (worded list words) answers

@@ -1,5 +1,5 @@
 //! Texts that were parsed once, before the columns that they name are known.
-ghost use Rattle.std.specs.Prelude.{◌≡◌, ◌∷◌, [], None, List, map, IfOk, IfErr};
+ghost use Rattle.std.specs.Prelude.{◌≡◌, ◌∷◌, [], None, ℕ, List, map, IfOk, IfErr};
 ghost use Rattle.vortex_types.specs.TypeOf.{struct_fields};
 ghost use Rattle.vortex_syntax.specs.Syntax.{Syntax};
 ghost use Rattle.vortex_syntax.specs.Grammar.{Reads};
@@ -12,7 +12,7 @@ ghost use Rattle.vortex_expressions.specs.Reading.{ReadUnlessMemory, RefusesAs, 
 ghost use Rattle.vortex_program.specs.declared.form.Form.TheVariants as form;
 ghost use Rattle.vortex_program.specs.Texts.{IsRead, unnamed, Means, IsRefusedOver, StopsAt};
 ghost use Rattle.vortex_program.specs.Texts.{AreAnswersOf};
-ghost use Rattle.vortex_program.specs.Naming.{IsNamedAnswer};
+ghost use Rattle.vortex_program.specs.Naming.{IsNamedAnswer, AreWordsOf, worded};
 ghost use Rattle.vortex_functions.specs.Walks.{AllMean};
 ghost use Rattle.vortex_program.specs.Programs.{trees_of};
 
@@ -23,7 +23,7 @@ use std::alloc::Global;
 use vortex_columns::StructFields;
 use vortex_expressions::{TextError, bind_answers};
 use vortex_logical::kind::Kind;
-use vortex_syntax::{SyntaxAnswer, SyntaxTree, read_answer_list, read_syntax};
+use vortex_syntax::{SyntaxAnswer, SyntaxTree, answer_texts, read_answer_list, read_syntax};
 
 /// A text that was parsed, with what it says: answers or a condition, whose columns are not yet
 /// known.
@@ -92,17 +92,21 @@ pub fn parse_condition(alloc: Global, text: &str) -> Result<Parsed<'_>, TextErro
     }
 }
 
-/// Each answer with its name; or that memory ran out.
+/// Each answer of a text with its name; or that memory ran out.
 fn name_all(
     alloc: Global,
     scope: &StructFields,
+    text: &str,
     list: &[vortex_expressions::Answer],
 ) -> Result<Vec<Answer>, TextError>
-    ensures { ReadUnlessMemory result (λ answers.
-        AllMean (IsNamedAnswer (struct_fields scope.now)) (map specs.answer_in list.now)
-        answers.items) }
+    ensures { ReadUnlessMemory result (λ answers. (words : List (List ℕ))
+        × AreWordsOf text.now words × AllMean (IsNamedAnswer (struct_fields scope.now))
+        (worded (map specs.answer_in list.now) words) answers.items) }
 {
-    match all_named(alloc, scope, list) {
+    let Ok(words) = answer_texts(alloc, text.as_bytes()) else {
+        return Err(TextError::out_of_memory(alloc));
+    };
+    match all_named(alloc, scope, &words, list) {
         Ok(answers) => Ok(answers),
         Err(_) => Err(TextError::out_of_memory(alloc)),
     }
@@ -111,9 +115,10 @@ fn name_all(
 impl Parsed<'_> {
     /// The answers over the columns of a scope whose values are of these kinds, by place; further
     /// columns are plain. Each has the kind of its values, and its name: the one after its `as`,
-    /// else that of the column which it is, else its text. Together with parsing it finds the
-    /// answers that the text means over the scope, and fails as the text is refused over it: that is
-    /// said of what was parsed, which each clause asks first.
+    /// else that of the column which it is, else its text, with one blank between tokens where
+    /// needed. Together with parsing it finds the answers that the text means over the scope, and
+    /// fails as the text is refused over it: that is said of what was parsed, which each clause asks
+    /// first.
     pub fn bind(
         &self,
         alloc: Global,
@@ -134,7 +139,7 @@ impl Parsed<'_> {
             self.now.text.now) }
     {
         match bind_answers(alloc, scope, kinds, self.text, &self.answers) {
-            Ok(list) => name_all(alloc, scope, &list),
+            Ok(list) => name_all(alloc, scope, self.text, &list),
             Err(error) => Err(error),
         }
     }

@@ -1,4 +1,4 @@
-use Rattle.std.proofs.Common.{◌≡◌, List, map, subst, Vec, Global, Err}
+use Rattle.std.proofs.Common.{◌≡◌, ℕ, List, map, subst, Vec, Global, Err}
 use Rattle.vortex_types.specs.TypeOf.{struct_fields}
 use Rattle.vortex_functions.specs.Walks.{AllMean}
 use Rattle.vortex_syntax.specs.declared.answer_list.SyntaxAnswer.{SyntaxAnswer}
@@ -7,7 +7,7 @@ use Rattle.vortex_expressions.specs.declared.answers.Answer as held
 use Rattle.vortex_expressions.specs.Outcomes.{answers}
 use Rattle.vortex_expressions.specs.Answers.{answer_in, answers_left}
 use Rattle.vortex_expressions.specs.Reading.{ReadUnlessMemory, ToldBy}
-use Rattle.vortex_program.specs.Naming.{IsNamedAnswer}
+use Rattle.vortex_program.specs.Naming.{IsNamedAnswer, AreWordsOf, worded}
 use Rattle.vortex_program.proofs.Parsing.{named_found, named_only, named_refused}
 use Rattle.vortex_program.proofs.Parsing.{only, refused, told_why}
 use Rattle.vortex_program.proofs.parsed.Parsed.bind.Goals as goal
@@ -25,8 +25,9 @@ returns-in-Ok-clause-found c = λ read.
     let named =
     subst
     (λ (xs : List held.Answer).
-    ReadUnlessMemory c.name_all.result
-    (λ v. AllMean (IsNamedAnswer scope) (map answer_in xs) v.items))
+    ReadUnlessMemory c.name_all.result (λ v. (words : List (List ℕ))
+    × AreWordsOf self.text.now words
+    × AllMean (IsNamedAnswer scope) (worded (map answer_in xs) words) v.items))
     c.deref-in-Ok.ensures.value c.name_all.ensures in
     named_found scope kinds self.text.now (map syntax.answer_in self.answers.items) self.form read
     (map answer_in c.in-Ok.list.items) left c.name_all.result named
@@ -44,8 +45,9 @@ returns-in-Ok-clause-only c = λ other read meant.
     let named =
     subst
     (λ (xs : List held.Answer).
-    ReadUnlessMemory c.name_all.result
-    (λ v. AllMean (IsNamedAnswer scope) (map answer_in xs) v.items))
+    ReadUnlessMemory c.name_all.result (λ v. (words : List (List ℕ))
+    × AreWordsOf self.text.now words
+    × AllMean (IsNamedAnswer scope) (worded (map answer_in xs) words) v.items))
     c.deref-in-Ok.ensures.value c.name_all.ensures in
     named_only scope kinds self.text.now (map syntax.answer_in self.answers.items) self.form read
     (map answer_in c.in-Ok.list.items) left c.name_all.result named other meant
