@@ -1,6 +1,7 @@
 //! SQL's functions: the list, and the names by which texts call them.
 #![tactic(auto)]
 
+mod dispatch;
 pub mod error_texts;
 pub mod names;
 pub mod scales;
