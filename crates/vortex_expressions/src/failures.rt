@@ -3,9 +3,12 @@ use crate::applied::common_value_type;
 use crate::binder::operands;
 use crate::calls::joined_item;
 use crate::casts::type_of_name;
-use crate::forms::{function_in, function_text, push_accepted, push_unnamed, takes_texts};
+use crate::forms::{
+    function_in, function_text, push_accepted, push_unnamed, takes_texts, text_hint,
+};
+use crate::hints::{CLOCKS, is_clock};
 use crate::item::{Item, common_type};
-use crate::item_texts::{push_literals, push_operand, push_types};
+use crate::item_texts::{push_literals, push_operands, push_types};
 use crate::meeting::met_next;
 use crate::quotes::unquoted;
 use crate::refusal::Refusal;
@@ -98,6 +101,9 @@ fn column_text(
     // A name without quotes has none within.
     let name = unquoted(alloc, b'"', written)?;
     let name = str::from_utf8(&name).unwrap_or("");
+    if !is_quoted && is_clock(written) {
+        return Ok(format!(in alloc; "no column {name:?}; {CLOCKS}")?);
+    }
     match nearest(alloc, scope, name)? {
         Some(other) => Ok(format!(in alloc; "no column {name:?}; is {other:?} meant?")?),
         None if is_quoted => Ok(format!(in alloc;
@@ -331,9 +337,7 @@ impl<'a> TextFailure<'a> {
     fn kind_text(&self, kind: Kind) -> VortexResult<String> {
         let found = found_at(self.text, self.byte);
         let mut out = format!(in self.alloc; "{found} takes no values of kind {kind}")?;
-        if takes_texts(self.failing_step()) && !matches!(kind, Kind::F64 | Kind::F32) {
-            out.push_str("; d::text is d as a text")?;
-        }
+        out.push_str(text_hint(self.alloc, self.failing_step(), kind))?;
         Ok(out)
     }
 
@@ -347,9 +351,7 @@ impl<'a> TextFailure<'a> {
         match refusal {
             calls::Refusal::NoCommonKind(left, right) | calls::Refusal::NotShipped(left, right) => {
                 let mut out = format!(in alloc; "{found} takes no ")?;
-                push_operand(&mut out, left)?;
-                out.push_str(" next to ")?;
-                push_operand(&mut out, right)?;
+                push_operands(&mut out, left, right)?;
                 Ok(out)
             }
             calls::Refusal::NotOfKind(kind) => {
@@ -370,6 +372,14 @@ impl<'a> TextFailure<'a> {
         }
     }
 
+    /// That there is no such function, or none of these types.
+    fn unknown_text(&self) -> VortexResult<String> {
+        let (items, are_cases) = self.failing_items()?;
+        let mut given = String::new(self.alloc);
+        self.push_given(&mut given, &items, are_cases)?;
+        function_text(self.alloc, self.failing_step(), given.as_str())
+    }
+
     pub(crate) fn told(&self, refusal: &Refusal) -> VortexResult<String> {
         let alloc = self.alloc;
         let text = match refusal {
@@ -378,7 +388,7 @@ impl<'a> TextFailure<'a> {
             Refusal::UnknownType => return self.type_text(),
             Refusal::OfKind(kind) => return self.kind_text(*kind),
             Refusal::Kinds(refusal) => return self.kinds_text(refusal),
-            Refusal::NoFunction => return function_text(alloc, self.failing_step()),
+            Refusal::NoFunction => return self.unknown_text(),
             Refusal::NotUtf8 => "a text is not UTF-8",
             Refusal::UntypedNull => "null has no type here; give it one, as null::i64?",
             Refusal::NoEscape => "an escape is one character, or none",

@@ -1,4 +1,5 @@
 //! Functions that there are not, and how what they mean is written.
+use crate::casts::type_of_name;
 use crate::hints::missing_function;
 use crate::item::Item;
 use crate::item_texts::push_literal;
@@ -7,7 +8,8 @@ use crate::words::LIKENED;
 use std::alloc::Global;
 use std::str;
 use strsim::osa_distance;
-use vortex_columns::VortexResult;
+use vortex_columns::{DType, VortexResult};
+use vortex_logical::kind::Kind as LogicalKind;
 use vortex_standard::{
     BitOperator, FUNCTIONS, FloatFunction, Kind, Shift, Standard, Takes, TruthTest, named,
 };
@@ -108,12 +110,17 @@ pub(crate) fn push_unnamed(
     Ok(true)
 }
 
-/// The function that there is not, and the one that may be meant, or how it is written.
-pub(crate) fn function_text(alloc: Global, step: Option<&Step<'_>>) -> VortexResult<String> {
+/// The function that there is not, or not of the given types, and the one that may be meant, or how
+/// it is written.
+pub(crate) fn function_text(
+    alloc: Global,
+    step: Option<&Step<'_>>,
+    given: &str,
+) -> VortexResult<String> {
     let written = str::from_utf8(called_name(step)).unwrap_or("");
     if let Some(name) = kind_word(called_name(step)) {
         let taken = taken_by(name);
-        return Ok(format!(in alloc; "no function {written:?} here; it takes {taken}")?);
+        return Ok(format!(in alloc; "{written:?} takes {taken}, not {given}")?);
     }
     let missing = missing_function(called_name(step));
     if !missing.is_empty() {
@@ -200,6 +207,23 @@ pub(crate) fn takes_texts(step: Option<&Step<'_>>) -> bool {
             Takes::Alike(Kind::Text) | Takes::Each(Kind::Text, _, _)
         ),
         None => false,
+    }
+}
+
+/// How a value of a kind is made a text, where the step takes texts or casts to one.
+pub(crate) fn text_hint(alloc: Global, step: Option<&Step<'_>>, kind: LogicalKind) -> &'static str {
+    let is_cast = match step {
+        Some(Step::Cast(_, name, _)) => {
+            matches!(&type_of_name(alloc, *name, false), Ok(DType::Utf8(_)))
+        }
+        _ => false,
+    };
+    match kind {
+        _ if !is_cast && !takes_texts(step) => "",
+        LogicalKind::F64 | LogicalKind::F32 => {
+            "; x::decimal(12,2)::text has two digits of x after the point"
+        }
+        _ => "; d::text is d as a text",
     }
 }
 

@@ -8,7 +8,7 @@ const QUERIES: &str = "no queries: this is an expression over the columns of one
 
 const SUBQUERIES: &str = "no subqueries: a in (1, 2) compares with a list of values";
 
-const CLOCKS: &str =
+pub(crate) const CLOCKS: &str =
     "no current time and no zones: compare with a date or a timestamp, as '2024-02-29'::date";
 
 const REGULAR: &str = "no operators for regular expressions: write regexp_like(s, 'a+')";
@@ -218,4 +218,20 @@ pub(crate) fn hint_at(text: &str, byte: usize) -> &'static str {
 /// What is missing where a function of that name is called; empty if it is not known.
 pub(crate) fn missing_function(name: &[u8]) -> &'static str {
     told_of(&FUNCTIONS, name)
+}
+
+/// Words for the current time, which other languages write without brackets.
+const CLOCK_WORDS: [&str; 5] = [
+    "current_date",
+    "current_time",
+    "current_timestamp",
+    "localtime",
+    "localtimestamp",
+];
+
+/// Whether a word is the current time elsewhere.
+pub(crate) fn is_clock(word: &[u8]) -> bool {
+    CLOCK_WORDS
+        .iter()
+        .any(|name| word.eq_ignore_ascii_case(name.as_bytes()))
 }

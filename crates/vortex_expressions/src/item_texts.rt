@@ -59,11 +59,23 @@ pub(crate) fn push_types(out: &mut String, items: &[Item]) -> VortexResult<()> {
 }
 
 /// What a value is.
-pub(crate) fn push_operand(out: &mut String, operand: &Operand) -> VortexResult<()> {
+fn push_operand(out: &mut String, operand: &Operand) -> VortexResult<()> {
     match operand {
         Operand::Whole(ptype) => out.push_str(ptype.text())?,
         Operand::Of(Kind::Plain) => out.push_str("value without a kind")?,
         Operand::Of(kind) => write!(out, "{kind}")?,
+    }
+    Ok(())
+}
+
+/// Two operands that do not go together, and what to write.
+pub(crate) fn push_operands(out: &mut String, left: &Operand, right: &Operand) -> VortexResult<()> {
+    push_operand(out, left)?;
+    out.push_str(" next to ")?;
+    push_operand(out, right)?;
+    let timestamp = Operand::Of(Kind::Timestamp);
+    if *left == timestamp && *right == timestamp {
+        out.push_str("; epoch(a) - epoch(b) is their distance in seconds")?;
     }
     Ok(())
 }
