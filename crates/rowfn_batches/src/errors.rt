@@ -188,8 +188,12 @@ impl StreamError {
             StreamError::Misfit {
                 kind: Kind::Plain,
                 dtype,
+                field,
                 ..
-            } => write!(f, "is no {dtype:?}"),
+            } => {
+                write!(f, "is no {dtype:?}")?;
+                write_encoding(f, dtype, field)
+            }
             StreamError::Misfit { kind, .. } => write!(f, "is no {kind}"),
             StreamError::Width { wanted, found, .. } => {
                 let ending = if *found == 1 { "" } else { "s" };
@@ -199,6 +203,18 @@ impl StreamError {
             StreamError::HeaderTooLong(limit) => write_too_long(f, *limit),
             _ => f.write_str("a quote is not closed"),
         }
+    }
+}
+
+/// Writes what helps where a field of a text is no UTF-8.
+fn write_encoding<W: fmt::Write>(
+    f: &mut fmt::Formatter<W>,
+    dtype: &DType,
+    field: &Option<Vec<u8>>,
+) -> fmt::Result {
+    match (dtype, field) {
+        (DType::Utf8(_), Some(_)) => f.write_str(" (iconv -f latin1 -t utf8)"),
+        _ => Ok(()),
     }
 }
 

@@ -75,6 +75,9 @@ fn write_field<W: fmt::Write>(f: &mut fmt::Formatter<W>, field: Option<&[u8]>) -
 fn write_reason<W: fmt::Write>(f: &mut fmt::Formatter<W>, error: &StreamError) -> fmt::Result {
     let quote = if error.has_comma() { "\"" } else { "" };
     f.write_str(quote)?;
+    if let StreamError::Misfit { field: None, .. } = error {
+        f.write_str("null ")?;
+    }
     error.write_reason(f)?;
     f.write_str(quote)
 }

@@ -46,7 +46,7 @@ fn print_query(console: &(impl Print + AllocGlobal), query: &Query) -> Result<()
 fn note_mixed(console: &impl Eprint, query: &Query) {
     for mixed in query.mixed.iter() {
         if mixed.is_meant {
-            let _ = eprintln!(console; "rowfn_stream: note: {mixed}");
+            let _ = eprintln!(console; "rowfn_stream: note: {mixed}; texts compare by their bytes");
         }
     }
 }

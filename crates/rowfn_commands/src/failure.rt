@@ -4,7 +4,7 @@ use rowfn_batches::{NoRefusals, StreamError};
 use rowfn_index::IndexError;
 use rowfn_queries::QueryError;
 use std::alloc::{AllocError, AllocFailed};
-use std::{fmt, io};
+use std::{fmt, io, str};
 use vortex_columns::VortexError;
 
 /// What goes wrong.
@@ -103,6 +103,17 @@ impl ProgramError {
     }
 }
 
+/// Whether a field is no UTF-8, of whatever type its column is.
+fn is_no_utf8(error: &StreamError) -> bool {
+    match error {
+        StreamError::Misfit {
+            field: Some(bytes),
+            ..
+        } => str::from_utf8(bytes).is_err(),
+        _ => false,
+    }
+}
+
 /// What went wrong, in one line.
 impl fmt::Display for ProgramError {
     fn fmt<W: fmt::Write>(&self, f: &mut fmt::Formatter<W>) -> fmt::Result {
@@ -117,6 +128,7 @@ impl fmt::Display for ProgramError {
                 write!(f, "{error}; there is no file {name}")
             }
             ProgramError::Stream(error) => write!(f, "{error}"),
+            ProgramError::Inferred(error) if is_no_utf8(error) => write!(f, "{error}"),
             ProgramError::Inferred(error) => {
                 write!(
                     f,

@@ -93,12 +93,11 @@ fn has_digit(text: &str) -> bool {
     text.bytes().any(|byte| byte.is_ascii_digit())
 }
 
-/// Whether a text begins as a number does, as `02134` or `+1`, or is empty, in quotes: so it is none
-/// for null.
-fn is_like_number(text: &str) -> bool {
-    match text.as_bytes().first() {
-        Some(first) => matches!(*first, b'0'..=b'9' | b'+' | b'-' | b'.'),
-        None => true,
+/// Whether a field is one where the column is declared, as `02134` and `+1` are numbers.
+fn is_declarable(shape: Shape, text: &str) -> bool {
+    match shape {
+        Shape::Number => read_cell(Kind::F64, text.as_bytes()).is_some(),
+        Shape::Date | Shape::Timestamp => false,
     }
 }
 
@@ -117,7 +116,7 @@ impl fmt::Display for MixedColumn {
         if is_null_text(text) || !has_digit(text) && !text.is_empty() {
             write!(f, "--null {text:?}, or ")?;
         }
-        match (is_like_number(text) && !is_null_text(text), is_word(name)) {
+        match (is_declarable(kind, text), is_word(name)) {
             (true, true) => write!(f, "--columns '{name} {kind}')"),
             (true, false) => write!(f, "--columns '{name:?} {kind}')"),
             (false, true) => write!(f, "try_cast({name} as {kind}))"),
