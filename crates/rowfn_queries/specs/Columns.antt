@@ -25,6 +25,14 @@ gathered_in g = record { fields = struct_fields g.fields; kinds = g.kinds.items 
 abbrev pub scope_in : Scope → Columns
 scope_in s = record { fields = struct_fields s.fields.now; kinds = s.kinds.now }
 
+-- where no column has a kind, a plain one: so a text without columns may have values of kinds
+abbrev pub kinds_or_plain : List Kind → List Kind
+kinds_or_plain [] = Plain ∷ []
+kinds_or_plain (k ∷ kinds) = k ∷ kinds
+
+abbrev pub of_kinds : Columns → Columns
+of_kinds cs = record { fields = cs.fields; kinds = kinds_or_plain cs.kinds }
+
 abbrev pub none : Columns
 none = record { fields = no_fields; kinds = [] }
 

@@ -9,7 +9,7 @@ use Rattle.rowfn_csv.specs.Truths.{truth_spelled}
 use Rattle.vortex_program.specs.declared.form.Form.{Form}
 use Rattle.vortex_program.specs.declared.form.Form.TheVariants as form
 use Rattle.rowfn_queries.specs.declared.query.Words.{Words}
-use Rattle.rowfn_queries.specs.Columns.{Columns, none, is_among, with_wanted, with_all, with_texts}
+use Rattle.rowfn_queries.specs.Columns.{Columns, none, is_among, with_wanted, with_all, with_texts, of_kinds}
 use Rattle.rowfn_queries.specs.Columns.{typed_columns}
 use Rattle.rowfn_queries.specs.DeclaredColumns.{DeclaredColumns, no_columns}
 use Rattle.rowfn_queries.specs.Inference.{Field, inferred_types}
@@ -48,10 +48,13 @@ module _ (declared inferred : Columns) where
       with_wanted (is_among names) inferred (with_wanted (is_among names) declared none)
 
   -- a condition reads all that are declared; so do answers, but for those next to a condition
-  abbrev pub columns_read : Words → Form → List (List ℕ) → Columns
-  columns_read words form.Condition names = all_read names
-  columns_read words form.Answers names =
+  abbrev pub columns_named : Words → Form → List (List ℕ) → Columns
+  columns_named words form.Condition names = all_read names
+  columns_named words form.Answers names =
       if is_some words.condition then named_read names else all_read names
+
+  abbrev pub columns_read : Words → Form → List (List ℕ) → Columns
+  columns_read words f names = of_kinds (columns_named words f names)
 
 -- columns as they are declared, or, where words are refused over those, with all others of a header
 pub data IsWidened (declared inferred wide : Columns) : Type 0 where

@@ -1,7 +1,7 @@
 //! Parsed texts, bound over the columns that they read.
 ghost use Rattle.std.specs.Prelude.{◌≡◌, MatchResult, map, string_bytes};
 ghost use Rattle.vortex_errors.specs.Answers.{AnswersUnlessMemory};
-ghost use Rattle.rowfn_queries.specs.Columns.{gathered_in};
+ghost use Rattle.rowfn_queries.specs.Columns.{gathered_in, kinds_or_plain};
 ghost use Rattle.vortex_program.specs.Programs.{trees_of};
 ghost use Rattle.rowfn_queries.specs.Bindings.{all_in, named_in, read_in, IsAskedIn, RefusesIn};
 ghost use Rattle.rowfn_queries.specs.Bindings.{IsBoundIn, AreBoundIn, RefusesWhere, RefusesBound};
@@ -22,6 +22,7 @@ use crate::scopes::{add_all, add_needed};
 use crate::texts::{Texts, place_of};
 use std::alloc::Global;
 use vortex_columns::VortexResult;
+use vortex_logical::kind::Kind;
 use vortex_program::{Answer, Form, Parsed, Program};
 
 /// The columns that texts may read: some are declared, others have the types of their fields.
@@ -69,6 +70,16 @@ fn check_truth(alloc: Global, form: Form, answers: &[Answer]) -> Result<(), Quer
     Ok(())
 }
 
+/// Adds a plain kind where there is no kind.
+fn add_plain(kinds: &mut Vec<Kind>) -> VortexResult<()>
+    ensures { AnswersUnlessMemory result (λ _. kinds.new.items ≡ kinds_or_plain kinds.old.items) }
+{
+    if kinds.is_empty() {
+        kinds.push(Kind::Plain)?;
+    }
+    Ok(())
+}
+
 impl Binding<'_> {
     /// The declared columns, and those of these names.
     fn all_columns(&self, names: &[String]) -> VortexResult<Gathered>
@@ -93,16 +104,19 @@ impl Binding<'_> {
     }
 
     /// The columns that a text of that form reads: answers next to a condition read those that they
-    /// name, else all that are declared are read too.
+    /// name, else all that are declared are read too. Where there are none, one kind is given, so
+    /// that literals may have kinds.
     fn columns_read(&self, form: Form, names: &[String]) -> VortexResult<Gathered>
         ensures { AnswersUnlessMemory result (λ columns. gathered_in columns
             ≡ read_in self.now form (map string_bytes names.now)) }
     {
-        if form == Form::Answers && self.words.condition.is_some() {
-            self.named_columns(names)
+        let mut columns = if form == Form::Answers && self.words.condition.is_some() {
+            self.named_columns(names)?
         } else {
-            self.all_columns(names)
-        }
+            self.all_columns(names)?
+        };
+        add_plain(&mut columns.kinds)?;
+        Ok(columns)
     }
 
     /// The question that a parsed text asks.
