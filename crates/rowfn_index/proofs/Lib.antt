@@ -1,5 +1,6 @@
 pub mod TextEnds
 pub mod Widened
 pub mod Actions
+pub mod ChunksBetween
 pub mod RowsKept
 pub mod SameWords

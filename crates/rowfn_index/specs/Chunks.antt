@@ -1,7 +1,12 @@
--- Chunks of a file that are read.
-use Rattle.std.specs.Prelude.{◌≡◌, ℕ, List, Some, slice_get}
+-- Chunks of a file: where they are, and those that are read.
+use Rattle.std.specs.Prelude.{◌≡◌, ℕ, ◌+◌, List, [], ◌∷◌, Some, slice_get}
 use Rattle.rowfn_index.specs.declared.chunk.Chunk.{Chunk}
 use Rattle.rowfn_index.specs.Digests.{digest}
+
+-- chunks follow one another from one byte of a file to another
+abbrev pub AreBetween : ℕ → List Chunk → ℕ → Type 0
+AreBetween start [] end = start ≡ end
+AreBetween start (c ∷ cs) end = (c.offset ≡ start) × AreBetween (start + c.bytes) cs end
 
 -- bytes have the digest of the chunk of that number
 pub record HasDigest (chunks : List Chunk) (k : ℕ) (bytes : List ℕ) : Type 0 where

@@ -1,4 +1,6 @@
 //! Why an index is not used.
+ghost use Rattle.std.specs.Prelude.{◌≡◌};
+ghost use Rattle.rowfn_index.specs.Errors.{status_of};
 
 use std::alloc::{AllocError, AllocFailed};
 use std::fmt;
@@ -71,7 +73,9 @@ impl From<VortexError> for IndexError {
 
 impl IndexError {
     /// 2 for an index that is not one of these rows, 3 where memory ran out.
-    pub fn status(&self) -> u8 {
+    pub fn status(&self) -> u8
+        ensures { result ≡ status_of self.now }
+    {
         match self {
             IndexError::OutOfMemory => 3,
             _ => 2,

@@ -1,5 +1,5 @@
 //! Chunks of a file, read one after the other.
-ghost use Rattle.std.specs.Prelude.{◌≡◌, ◌≤◌, IfOk, true, length};
+ghost use Rattle.std.specs.Prelude.{◌≡◌, ◌≤◌, [], IfOk, IfSome, true, length};
 ghost use Rattle.rowfn_index.specs.Chunks.{HasDigest};
 
 use crate::chunk::Chunk;
@@ -47,7 +47,10 @@ impl<'a, F: Read + Seek> ChunkFile<'a, F> {
         file: F,
         chunks: Vec<Chunk>,
         changed: &'a Cell<Option<usize>>,
-    ) -> ChunkFile<'a, F> {
+    ) -> ChunkFile<'a, F>
+        ensures chunks { result.chunks ≡ chunks }
+        ensures none { result.end ≡ 0 }
+    {
         ChunkFile {
             file,
             chunks,
@@ -73,7 +76,11 @@ impl<'a, F: Read + Seek> ChunkFile<'a, F> {
     }
 
     /// From here on, so many chunks from one on are read.
-    pub fn begin(&mut self, first: usize, count: usize) {
+    pub fn begin(&mut self, first: usize, count: usize)
+        ensures chunks { self.new.chunks ≡ self.old.chunks }
+        ensures first { self.new.next ≡ first }
+        ensures none { self.new.buffer.items ≡ [] }
+    {
         self.next = first;
         self.end = first.saturating_add(count);
         self.is_first = true;
@@ -115,8 +122,11 @@ impl<'a, F: Read + Seek> ChunkFile<'a, F> {
         Ok(true)
     }
 
-    /// The bytes of the next chunk; nothing after the last.
-    pub fn next_bytes(&mut self) -> io::Result<Option<&[u8]>> {
+    /// The bytes of the next chunk; nothing after the last. Fails where its digest is another.
+    pub fn next_bytes(&mut self) -> io::Result<Option<&[u8]>>
+        ensures { IfOk result (λ o. IfSome o
+            (λ bytes. HasDigest self.old.chunks.items self.old.next bytes.now)) }
+    {
         if self.read_next()? {
             Ok(Some(&self.buffer))
         } else {

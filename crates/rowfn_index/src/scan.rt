@@ -1,4 +1,5 @@
 //! The rows of a file, read once, chunk by chunk, to be described by an index.
+ghost use Rattle.std.specs.Prelude.{◌≡◌, IfOk};
 
 mod chunks;
 
@@ -123,7 +124,9 @@ impl<'a, R: Read + Drop> Scan<'a, R> {
         bytes: u64,
         chunk_rows: usize,
         reader: R,
-    ) -> Result<Scan<'a, R>, StreamError> {
+    ) -> Result<Scan<'a, R>, StreamError>
+        ensures { IfOk result (λ scan. scan.file.bytes ≡ bytes) }
+    {
         let mut records = Records::new(alloc, settings.format, settings.max_field, reader);
         let end = read_header(settings, &mut records)?;
         let header = records.bytes(Span { start: 0, end });
@@ -159,17 +162,23 @@ impl<'a, R: Read + Drop> Scan<'a, R> {
     }
 
     /// What is known of the file.
-    pub fn file(&self) -> FileFacts {
+    pub fn file(&self) -> FileFacts
+        ensures { result ≡ self.now.file }
+    {
         self.file
     }
 
     /// The places of the columns, of each one.
-    pub fn places(&self) -> &[Option<usize>] {
+    pub fn places(&self) -> &[Option<usize>]
+        ensures { result.now ≡ self.now.places.items }
+    {
         &self.places
     }
 
     /// The lines of the chunks that were read.
-    pub fn lines(&self) -> &[u8] {
+    pub fn lines(&self) -> &[u8]
+        ensures { result.now ≡ self.now.entries.bytes.items }
+    {
         &self.entries.bytes
     }
 

@@ -1,4 +1,6 @@
 //! The chunks of an index, with what it says of columns.
+ghost use Rattle.std.specs.Prelude.{IfOk};
+ghost use Rattle.rowfn_index.specs.Chunks.{AreBetween};
 
 use super::HEAD_LINES;
 use crate::chunk::Chunk;
@@ -140,7 +142,10 @@ fn chunks_in(
     columns: &[Column],
     count: usize,
     file: &FileFacts,
-) -> Result<Vec<Chunk>, IndexError> {
+) -> Result<Vec<Chunk>, IndexError>
+    ensures { IfOk result
+        (λ chunks. AreBetween file.now.header_bytes chunks.items file.now.bytes) }
+{
     let mut chunks = Vec::new(alloc);
     let mut end = file.header_bytes;
     for row in 0..count {
@@ -151,10 +156,14 @@ fn chunks_in(
             whole: truth_in(columns, 3, row),
             digest: number_in(columns, 4, row),
         };
+        let line = (row as u64).saturating_add(HEAD_LINES + 1);
         if chunk.offset != end {
-            return Err(IndexError::Line((row as u64).saturating_add(HEAD_LINES + 1)));
+            return Err(IndexError::Line(line));
         }
-        end = end.saturating_add(chunk.bytes);
+        let Some(next) = end.checked_add(chunk.bytes) else {
+            return Err(IndexError::Line(line));
+        };
+        end = next;
         chunks.push(chunk)?;
     }
     if end != file.bytes {
@@ -199,7 +208,10 @@ pub fn read_chunks<R: Read>(
     head: &IndexHead,
     scope: &StructFields,
     numbers: &[usize],
-) -> Result<ChunkTable, IndexError> {
+) -> Result<ChunkTable, IndexError>
+    ensures { IfOk result (λ table. AreBetween head.now.file.header_bytes table.chunks.items
+        head.now.file.bytes) }
+{
     let width = head
         .columns
         .len()
