@@ -18,7 +18,6 @@ ghost use Rattle.yurkije_columns.specs.Batches.{batch_column};
 ghost use Rattle.yurkije_core.specs.Chunks.{HasChunk, RunsFrom, AnswersFrom, AreRun, AreAnswered};
 ghost use Rattle.yurkije_core.specs.Chunks.{HasChunkIfRead, TakesRows, ArePut};
 
-use crate::faults::{look_through, may_fault_late};
 use crate::lent::{execute_parts, is_lent};
 use crate::parts::{chunk_of, parts_of};
 use std::alloc::Global;
@@ -316,7 +315,7 @@ fn chunk_rows(alloc: Global, program: &Program) -> usize
 }
 
 /// What `Program::run` answers over the columns that are lent, of so many rows, run chunk by chunk
-/// into one column for each answer. A fault that was met where the columns lie is looked for first.
+/// into one column for each answer.
 pub(crate) fn run_chunks(
     alloc: Global,
     program: &Program,
@@ -337,12 +336,6 @@ pub(crate) fn run_chunks(
         (RefusesTrees (map (batch_column rows) columns.now) rows
         (trees_of program.now.written.items) (trees_of program.now.optimized.items)) }
 {
-    if may_fault_late(program, columns) {
-        match look_through(alloc, program, columns, rows, 8192) {
-            Ok(()) => {}
-            Err(error) => return Err(error),
-        }
-    }
     let count = chunk_rows(alloc, program);
     let mut joined = begun;
     match add_chunks(alloc, program, columns, rows, count, &mut joined) {

@@ -30,7 +30,7 @@ fn never_faults(tree: &BoundExpression<Standard>) -> bool {
 
 /// Whether a program is one arithmetic call over columns where they lie. It is run over the whole
 /// batch first: where that returned nothing, a row is likely to fault.
-pub(crate) fn may_fault_late(program: &Program, columns: &[Option<ArrowColumn<'_>>]) -> bool {
+fn may_fault_late(program: &Program, columns: &[Option<ArrowColumn<'_>>]) -> bool {
     is_single(&program.optimized)
         && !program
             .optimized
@@ -40,7 +40,7 @@ pub(crate) fn may_fault_late(program: &Program, columns: &[Option<ArrowColumn<'_
 }
 
 /// Runs a batch so many rows at a time, and keeps no answer: fails as `run_chunks` does.
-pub(crate) fn look_through(
+fn look_through(
     alloc: Global,
     program: &Program,
     columns: &[Option<ArrowColumn<'_>>],
@@ -69,5 +69,28 @@ pub(crate) fn look_through(
     match run_chunk(alloc, program, columns, rows, first, rows - first, is_lent) {
         Ok(_) => Ok(()),
         Err(error) => Err(error),
+    }
+}
+
+/// Looks through a batch for the first fault, where a run over the whole of it is likely to have met
+/// one: fails as `run_chunks` does, before any answer is begun.
+pub(crate) fn check_faults(
+    alloc: Global,
+    program: &Program,
+    columns: &[Option<ArrowColumn<'_>>],
+    rows: usize,
+) -> Result<(), RunError>
+    requires chunk { All (HasChunkIfRead 0 rows) columns.now }
+    requires place { All (λ o. IfSome o (λ c. c.offset + rows < 2 ^ 64)) columns.now }
+    requires some { 0 < rows }
+    requires even { other_length rows (map (batch_column rows) columns.now) ≡ None }
+    ensures { AreRewrites program.now.written.items program.now.optimized.items
+        → IfErr result (RefusesTrees (map (batch_column rows) columns.now) rows
+        (trees_of program.now.written.items) (trees_of program.now.optimized.items)) }
+{
+    if may_fault_late(program, columns) {
+        look_through(alloc, program, columns, rows, 8192)
+    } else {
+        Ok(())
     }
 }

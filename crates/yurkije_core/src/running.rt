@@ -6,6 +6,7 @@ ghost use Rattle.vortex_program.specs.Programs.{trees_of, AreRewrites};
 ghost use Rattle.yurkije_core.specs.Running.{AnswersBatch, RefusesRun};
 
 use crate::chunks::{begun, learn_bound, run_chunks, whole_lent_rows, whole_rows};
+use crate::faults::check_faults;
 use crate::lent::{execute_parts, is_lent};
 use std::alloc::Global;
 use vortex_arrow::ArrowColumn;
@@ -88,6 +89,10 @@ fn run_flat(
     match check_batch(alloc, &program.scope, &program.kinds, columns, rows) {
         Ok(()) => {}
         Err(error) => return Err(BatchRunError::Batch(error)),
+    }
+    match check_faults(alloc, program, columns, rows) {
+        Ok(()) => {}
+        Err(error) => return Err(BatchRunError::Program(error)),
     }
     let begun = match begun(alloc, &program.optimized, rows) {
         Ok(Some(begun)) => begun,

@@ -14,6 +14,6 @@ returns-in-Ok-columns_of c rewrites =
     let us = trees_of c.args.program.now.optimized.items in
     subst (λ (os : List ColumnView). AnswersTrees cs n ts os) (sym c.in-Ok-columns_of.ensures)
     (all_answered cs n c.requires.even c.requires.some ts us c.add_chunks.new.joined.items rewrites
-    c.in-Ok-add_chunks.ensures.run
-    (c.in-Ok-add_chunks.ensures.answered rewrites
+    c.in-Ok.ensures.run
+    (c.in-Ok.ensures.answered rewrites
     (none_answered cs ts us c.args.begun.items rewrites c.requires.run)))
