@@ -376,7 +376,8 @@ uint32_t yk_fields_read(const struct yk_expression *expression, size_t *numbers,
 uint32_t yk_answer_count(const struct yk_expression *expression, size_t *count);
 
 /* The name of answer `answer`, as yk_version answers its text: the one behind its `as`, or that of
- * the field which it is, or its text. And its type. */
+ * the field which it is, or its text, with one blank between two words or signs where one is
+ * needed. And its type. */
 uint32_t yk_answer_name(const struct yk_expression *expression, size_t answer,
                         char *room, size_t room_length, size_t *length);
 uint32_t yk_answer_type(const struct yk_expression *expression, size_t answer, struct yk_type *type);
