@@ -56,7 +56,7 @@ fn refuses(rt: HostRuntime, text: &[u8], place: [usize; 4], words: &str) -> bool
 
 #[test]
 fn texts_are_read_and_refused_with_their_place(rt: HostRuntime) {
-    assert!(rt; reads(rt, b"(name)like'a%'", "name like 'a%'", "name like 'a%'"));
+    assert!(rt; reads(rt, b"(name)like'a%'", "(name) like 'a%'", "name like 'a%'"));
     let words = "line 2, column 8: 300000000000 is no i32";
     let text = b"number as n,\nnumber = 300000000000";
     assert!(rt; refuses(rt, text, [114, 20, 2, 8], words));
