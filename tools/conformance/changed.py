@@ -18,7 +18,6 @@ CLASSES = [{"=", "<>", "<", "<=", ">", ">="}, {"+", "-", "*", "/", "%"}, {"and",
 # What PostgreSQL reads and we refuse, by how the refusal begins behind its place. Whatever else only PostgreSQL reads is told.
 REFUSED_HERE = {
     "operands of two types": r"E3 (TypeMismatch\.|Scalars)",
-    "null without a type": r"null has no type here",
     "a number that its type does not hold": r"\S+ is no (bool|utf8|[iu]\d+)",
     "another type": r"no type ",
     "another cast": r"no cast leads from",

@@ -23,25 +23,27 @@ use Rattle.vortex_interface.specs.Functions.{ours}
 use Rattle.vortex_interface.specs.Shipped.{Binary}
 use Rattle.vortex_expressions.specs.Literals as literal
 use Rattle.vortex_expressions.specs.Literals.{Literal, own_type, number_type, type_beside}
+use Rattle.vortex_expressions.specs.Literals.{text_type_beside}
 use Rattle.vortex_expressions.specs.Outcomes.{answers, and_then, or_refuses}
 use Rattle.vortex_expressions.specs.declared.refusal.Refusal.TheVariants.{UntypedNull}
 use Rattle.vortex_expressions.specs.Items.{Item, literal, bound, kinded, Tree, meaning}
 use Rattle.vortex_expressions.specs.Items.{fraction, interval}
 use Rattle.vortex_expressions.specs.Items.{bound_type}
 use Rattle.vortex_expressions.specs.Kinded.{is_kinded, stored_item}
-use Rattle.vortex_expressions.specs.Items.{literal_type, first_some, common_type, constant_at}
+use Rattle.vortex_expressions.specs.Items.{literal_type, common_type, constant_at}
+use Rattle.vortex_expressions.specs.Items.{is_numeral, next_literal, literals_type}
 use Rattle.vortex_expressions.specs.Items.{settled, widened, meeting}
 use Rattle.vortex_expressions.specs.Meeting.{meeting_type}
 use Rattle.vortex_expressions.specs.Calls.{truth_type, written_function, joined_type}
 use Rattle.vortex_expressions.specs.Writing.{written_operator}
 use Rattle.vortex_expressions.proofs.Options.{some_is}
 use Rattle.vortex_expressions.proofs.LiteralsBack.{Stands}
-use Rattle.vortex_expressions.proofs.MetTypes.{alike, AllAlike, meeting_alike, stays}
+use Rattle.vortex_expressions.proofs.MetTypes.{alike, AllAlike, IsAlike, meeting_alike, stays}
 
--- an item next to a literal leaves it its default type: only a number takes another
+-- an item next to a literal leaves it its default type: a number and a text take another one next to
+-- an integer alone
 abbrev pub Beside : Option LogicalType → LogicalType → Type 0
-Beside o t =
-    (u : LogicalType) → o ≡ Some u → is_integer_type u ≡ true → is_integer_type t ≡ true → alike u t
+Beside o t = (u : LogicalType) → o ≡ Some u → is_integer_type u ≡ true → alike u t
 
 number_takes : (u : LogicalType) → (is_integer_type u ≡ true → alike u (integer_type I64 false))
     → number_type u ≡ integer_type I64 false
@@ -55,23 +57,44 @@ number_takes (list_type t n) h = refl
 number_takes (fixed_size_list_type t k n) h = refl
 number_takes (map_type k v n) h = refl
 
+no_text : (p : PType) (n : Bool) → alike (integer_type p n) (text_type false) → ⊥
+no_text p n e = cc
+
+text_takes : (u : LogicalType) → (is_integer_type u ≡ true → alike u (text_type false))
+    → text_type_beside u ≡ text_type false
+text_takes (integer_type p n) h = absurd (no_text p n (h refl))
+text_takes null_type h = refl
+text_takes (bool_type n) h = refl
+text_takes (text_type n) h = refl
+text_takes (bytes_type n) h = refl
+text_takes (struct_type fs n) h = refl
+text_takes (list_type t n) h = refl
+text_takes (fixed_size_list_type t k n) h = refl
+text_takes (map_type k v n) h = refl
+
 takes_own : (o : Option LogicalType) (l : Literal) (t : LogicalType) → own_type l ≡ Some t
     → Beside o t → type_beside o l ≡ Some t
-takes_own None l t e h = e
+takes_own None (literal.number w) t e h = e
+takes_own None (literal.text bs) t e h = e
+takes_own None (literal.truth b) t e h = e
+takes_own None literal.null t e h = absurd cc
 takes_own (Some u) (literal.number w) t e h =
     let is : integer_type I64 false ≡ t = some_is (integer_type I64 false) t e in
     ap (λ v. Some v)
-    (number_takes u
-    (λ i. subst (λ (v : LogicalType). alike u v) (sym is) (h u refl i (ap is_integer_type (sym is)))))
+    (number_takes u (λ i. subst (λ (v : LogicalType). alike u v) (sym is) (h u refl i)))
     ∙ e
-takes_own (Some u) (literal.text bs) t e h = e
+takes_own (Some u) (literal.text bs) t e h =
+    let is : text_type false ≡ t = some_is (text_type false) t e in
+    ap (λ v. Some v)
+    (text_takes u (λ i. subst (λ (v : LogicalType). alike u v) (sym is) (h u refl i)))
+    ∙ e
 takes_own (Some u) (literal.truth b) t e h = e
 takes_own (Some u) literal.null t e h = absurd cc
 
 stays_there : (o : Option LogicalType) (t : Tree) (ty : LogicalType) → Beside o ty
     → meeting o (Some ty) t ≡ answers t
 stays_there None t ty h = refl
-stays_there (Some u) t ty h = ap (λ p. widened p t) (stays u ty (h u refl))
+stays_there (Some u) t ty h = ap (λ p. widened p t) (stays u ty (λ i n. h u refl i))
 
 pub settles : (o : Option LogicalType) (i : Item) (t : Tree) (ty : LogicalType) → Stands i t
     → tree_type meaning t ≡ Some ty → Beside o ty → settled o i ≡ answers t
@@ -151,6 +174,16 @@ EachAlike v (u ∷ us) = alike u v × EachAlike v us
 pub along : (u t v : LogicalType) → u ≡ t → alike t v → alike u v
 along u t v e h = ap without_nullability e ∙ h
 
+numeral_type : (i : Item) → is_numeral i ≡ true → literal_type i ≡ Some (integer_type I64 false)
+numeral_type (literal (literal.number w)) e = refl
+numeral_type (literal (literal.text bs)) e = absurd (false≢true e)
+numeral_type (literal (literal.truth b)) e = absurd (false≢true e)
+numeral_type (literal literal.null) e = absurd (false≢true e)
+numeral_type (bound t) e = absurd (false≢true e)
+numeral_type (kinded k t) e = absurd (false≢true e)
+numeral_type (fraction w) e = absurd (false≢true e)
+numeral_type (interval z) e = absurd (false≢true e)
+
 -- the common type of items is alike, where all of their types are
 module _ (v : LogicalType) where
   bound_alike : (is : List Item) (us : List LogicalType) → AreOfTypes is us → EachAlike v us
@@ -160,21 +193,33 @@ module _ (v : LogicalType) where
   bound_alike (i ∷ is) (u ∷ us) h k =
       ((λ w b. along w u v (bound_is i h.0.0 u w h.0.1 h.0.2 b) k.0), bound_alike is us h.1 k.1)
 
-  literal_alike : (w : LogicalType) (is : List Item) (us : List LogicalType) → AreOfTypes is us
-      → EachAlike v us → first_some (map literal_type is) ≡ Some w → alike w v
-  literal_alike w [] us h k e = absurd cc
-  literal_alike w (i ∷ is) [] h k e = absurd h
-  literal_alike w (i ∷ is) (u ∷ us) h k e =
-      pick (or_is (literal_type i) (first_some (map literal_type is)) w e)
-      (λ b. along w u v (literal_type_is i h.0.0 u w h.0.1 h.0.2 b) k.0)
-      (λ b. literal_alike w is us h.1 k.1 b)
+  either_alike : (o p : Option LogicalType) → IsAlike v o → IsAlike v p → IsAlike v (option_or o p)
+  either_alike None p f g = g
+  either_alike (Some t) p f g = f
+
+  next_alike : (o : Option LogicalType) (i : Item) → IsAlike v o → IsAlike v (literal_type i)
+      → IsAlike v (next_literal o i)
+  next_alike o i f g = by (is_numeral i) refl
+    where
+      by : (b : Bool) → is_numeral i ≡ b
+          → IsAlike v (if b then Some (integer_type I64 false) else option_or o (literal_type i))
+      by true e = λ w q. g w (numeral_type i e ∙ q)
+      by false e = either_alike o (literal_type i) f g
+
+  literals_alike : (o : Option LogicalType) (is : List Item) (us : List LogicalType)
+      → AreOfTypes is us → EachAlike v us → IsAlike v o → IsAlike v (literals_type o is)
+  literals_alike o [] us h k f = f
+  literals_alike o (i ∷ is) [] h k f = absurd h
+  literals_alike o (i ∷ is) (u ∷ us) h k f =
+      literals_alike (next_literal o i) is us h.1 k.1
+      (next_alike o i f (λ w b. along w u v (literal_type_is i h.0.0 u w h.0.1 h.0.2 b) k.0))
 
   pub common_alike : (w : LogicalType) (is : List Item) (us : List LogicalType) → AreOfTypes is us
       → EachAlike v us → common_type is ≡ Some w → alike w v
   common_alike w is us h k e =
-      pick (or_is (meeting_type None (map bound_type is)) (first_some (map literal_type is)) w e)
+      pick (or_is (meeting_type None (map bound_type is)) (literals_type None is) w e)
       (meeting_alike v (map bound_type is) (bound_alike is us h k) w)
-      (literal_alike w is us h k)
+      (literals_alike None is us h k (λ t q. absurd (no_option t q)) w)
 
 -- an item with its tree, and that tree's type
 pub record Operand (t : Tree) : Type 0 where
@@ -188,22 +233,22 @@ of_type {t} x = (t, x.stands, x.typed)
 
 two_beside : {s t : Tree} (x : Operand s) (y : Operand t) (v : LogicalType) → alike x.dtype v
     → alike y.dtype v → Beside (common_type (x.item ∷ y.item ∷ [])) v
-two_beside x y v h k = λ u e i n.
+two_beside x y v h k = λ u e i.
     common_alike v u (x.item ∷ y.item ∷ []) (x.dtype ∷ y.dtype ∷ [])
     (of_type x, (of_type y, tt)) (h, (k, tt)) e
 
 pub three_beside : {s t r : Tree} (x : Operand s) (y : Operand t) (z : Operand r) (v : LogicalType)
     → alike x.dtype v → alike y.dtype v → alike z.dtype v
     → Beside (common_type (x.item ∷ y.item ∷ z.item ∷ [])) v
-three_beside x y z v h k j = λ u e i n.
+three_beside x y z v h k j = λ u e i.
     common_alike v u (x.item ∷ y.item ∷ z.item ∷ []) (x.dtype ∷ y.dtype ∷ z.dtype ∷ [])
     (of_type x, (of_type y, (of_type z, tt))) (h, (k, (j, tt))) e
 
 pub none_beside : (v : LogicalType) → Beside None v
-none_beside v = λ u e i n. absurd cc
+none_beside v = λ u e i. absurd cc
 
 pub other_beside : (w v : LogicalType) → is_integer_type w ≡ false → Beside (Some w) v
-other_beside w v h = λ u e i n.
+other_beside w v h = λ u e i.
     absurd (false≢true (sym h ∙ ap is_integer_type (some_is w u e) ∙ i))
 
 pub settled_operand : {t : Tree} (o : Option LogicalType) (x : Operand t) → Beside o x.dtype

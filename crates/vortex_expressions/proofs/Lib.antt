@@ -2,7 +2,6 @@ pub mod Chains
 pub mod Lasts
 pub mod Whole
 pub mod Stopping
-pub mod Firsts
 pub mod Settling
 pub mod Quoting
 pub mod Walking

@@ -134,4 +134,6 @@ value_typed t (literal.number w) s u e = absurd cc
 value_typed (bool_type n) (literal.truth b) s u e = truth_typed n b s e
 value_typed t (literal.truth b) s u e = absurd cc
 value_typed (text_type n) (literal.text bs) s u e = text_typed n bs s u e
+value_typed (integer_type p n) (literal.text bs) s u e =
+    number_typed p n bs s (number_of p bs) refl e
 value_typed t (literal.text bs) s u e = absurd cc

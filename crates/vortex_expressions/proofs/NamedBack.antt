@@ -60,7 +60,7 @@ none_each (u ∷ us) = (none_beside u, none_each us)
 alike_each : (v : LogicalType) (o : Option LogicalType) (us : List LogicalType)
     → ((w : LogicalType) → o ≡ Some w → alike w v) → EachAlike v us → EachBeside o us
 alike_each v o [] f h = tt
-alike_each v o (u ∷ us) f h = ((λ w e i n. f w e ∙ sym h.0), alike_each v o us f h.1)
+alike_each v o (u ∷ us) f h = ((λ w e i. f w e ∙ sym h.0), alike_each v o us f h.1)
 
 all_alike_each : (v : LogicalType) (us : List LogicalType) → all_alike v us ≡ true → EachAlike v us
 all_alike_each v [] e = tt

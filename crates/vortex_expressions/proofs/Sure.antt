@@ -53,7 +53,9 @@ use Rattle.vortex_expressions.specs.Functions.{values_in, call_kind, met_values,
 use Rattle.vortex_expressions.specs.Functions.{kinded_call, function_item, applied_item}
 use Rattle.vortex_expressions.specs.Functions.{standard_item, meant_item, made_date, applied_by}
 use Rattle.vortex_expressions.specs.Functions.{takes_whole, whole_item, kinds_item, kinded_item}
-use Rattle.vortex_expressions.specs.Functions.{joined_call, joining_item}
+use Rattle.vortex_expressions.specs.Functions.{joined_call, joining_item, located, named_item}
+use Rattle.vortex_syntax.specs.SizeDigits.{text_size_of}
+use Rattle.vortex_sql_texts.specs.declared.parts.Side.TheVariants.{Left}
 use Rattle.vortex_expressions.specs.Joining.{as_text, as_texts, joins}
 use Rattle.vortex_expressions.proofs.SureTexts.{sure_as_text, sure_as_texts}
 use Rattle.vortex_expressions.specs.Kinded.{first_kind}
@@ -89,7 +91,9 @@ use Rattle.vortex_expressions.specs.KindCasts.{interval_told, interval_item}
 use Rattle.vortex_expressions.specs.Kinded.{text_literal}
 use Rattle.vortex_expressions.specs.Literals.{has_fraction}
 use Rattle.vortex_logical_calls.specs.Intervals.{interval_of}
+use Rattle.vortex_types.specs.declared.dtype.PType.TheVariants.{I64}
 use Rattle.vortex_types.specs.LogicalTypes.{integer_type}
+use Rattle.vortex_expressions.specs.Items.{constant_at}
 
 module _ (columns : Names) (sure_columns : (w : List ℕ) → Sure IsItem (columns.column w)) where
   sure_sign : (s : Sign) → is_operand (sign s) ≡ true → Sure IsItem (calls.sign_item s)
@@ -228,13 +232,6 @@ module _ (columns : Names) (sure_columns : (w : List ℕ) → Sure IsItem (colum
   sure_typed_named w n (bound t) (Some k) h = absurd h
   sure_typed_named w n (kinded j t) (Some k) h = absurd h
 
-  sure_typed_by : (b : Bool) (w : List ℕ) (n : Bool) (i : Item) → IsLiteral i
-      → Sure IsItem (calls.typed_by b w n i)
-  sure_typed_by false w n i h = sure_typed w n i h
-  sure_typed_by true w n i h =
-      sure_then {A = Option Kind} (λ k. Unit {0}) IsItem (calls.kind_of_name w n) _ (sure_kind_name w n)
-      (λ k j. sure_typed_named w n i k h)
-
   -- calls of SQL's functions
   sure_function : (f : Standard) (o : Option LogicalType) (is : List Item) → AllItems is
       → Sure IsTyped (called (callable f) o is)
@@ -325,12 +322,51 @@ module _ (columns : Names) (sure_columns : (w : List ℕ) → Sure IsItem (colum
   sure_cast_named p w n i None h = sure_cast_of_kind p w n i h
   sure_cast_named p w n i (Some k) h = sure_cast_to_kind p k i h
 
+  sure_cut : (ds : List ℕ) (i : Item) → IsItem i → Sure IsItem (calls.cut_item ds i)
+  sure_cut ds i h =
+      sure_then IsTyped IsItem (settled None i) _ (sure_settled None i h)
+      (λ t j. sure_then (λ v. Unit {0}) IsItem (calls.text_of ds) _ (sure_text ds)
+      (λ v k. sure_then IsTyped IsItem
+      (constant_at (literals.number v) (integer_type I64 false)) _
+      (sure_constant (literals.number v) (integer_type I64 false))
+      (λ c l. sure_item _ (sure_named_call (standard.Side Left) (t ∷ c ∷ [])))))
+
+  sure_cut_cast : (p : Bool) (ds : List ℕ) (i : Item) → IsItem i
+      → Sure IsItem (calls.cut_cast p ds i)
+  sure_cut_cast p ds i h =
+      sure_then IsItem IsItem (calls.cast_of_kind p (codes "varchar") false i) _
+      (sure_cast_of_kind p (codes "varchar") false i h) (λ j k. sure_cut ds j k)
+
+  sure_cast_sized : (o : Option (List ℕ)) (p : Bool) (w : List ℕ) (n : Bool) (i : Item) → IsItem i
+      → Sure IsItem (calls.cast_sized o p w n i)
+  sure_cast_sized (Some ds) p w n i h = sure_cut_cast p ds i h
+  sure_cast_sized None p w n i h =
+      sure_then {A = Option Kind} (λ k. Unit {0}) IsItem (calls.kind_of_name w n) _ (sure_kind_name w n)
+      (λ k j. sure_cast_named p w n i k h)
+
   sure_cast_with : (b p : Bool) (w : List ℕ) (n : Bool) (i : Item) → IsItem i
       → Sure IsItem (calls.cast_by b p w n i)
   sure_cast_with false p w n i h = sure_cast p w n i h
-  sure_cast_with true p w n i h =
+  sure_cast_with true p w n i h = sure_cast_sized (text_size_of w) p w n i h
+
+  literal_item : (i : Item) → IsLiteral i → IsItem i
+  literal_item (literal l) h = tt
+  literal_item (fraction v) h = tt
+  literal_item (interval z) h = absurd h
+  literal_item (bound t) h = absurd h
+  literal_item (kinded k t) h = absurd h
+
+  sure_typed_sized : (o : Option (List ℕ)) (w : List ℕ) (n : Bool) (i : Item) → IsLiteral i
+      → Sure IsItem (calls.typed_sized o w n i)
+  sure_typed_sized (Some ds) w n i h = sure_cut_cast false ds i (literal_item i h)
+  sure_typed_sized None w n i h =
       sure_then {A = Option Kind} (λ k. Unit {0}) IsItem (calls.kind_of_name w n) _ (sure_kind_name w n)
-      (λ k j. sure_cast_named p w n i k h)
+      (λ k j. sure_typed_named w n i k h)
+
+  sure_typed_by : (b : Bool) (w : List ℕ) (n : Bool) (i : Item) → IsLiteral i
+      → Sure IsItem (calls.typed_by b w n i)
+  sure_typed_by false w n i h = sure_typed w n i h
+  sure_typed_by true w n i h = sure_typed_sized (text_size_of w) w n i h
 
   sure_operator : (o : Operator) (u : Option LogicalType) (is : List Item) → length is ≡ 2
       → AllItems is → Sure IsTyped (called (ours (Binary o)) u is)
@@ -536,11 +572,20 @@ module _ (columns : Names) (sure_columns : (w : List ℕ) → Sure IsItem (colum
       (λ js k. sure_item (function_call f js) (sure_call_on f js k)))
       (sure_item_call f is h)
 
+  sure_located : (is : List Item) → AllItems is → Sure IsItem (located is)
+  sure_located [] h = sure_item_call standard.StrPos [] h
+  sure_located (i ∷ []) h = sure_item_call standard.StrPos (i ∷ []) h
+  sure_located (i ∷ j ∷ []) h = sure_item_call standard.StrPos (j ∷ i ∷ []) (h.1.0, (h.0, tt))
+  sure_located (i ∷ j ∷ k ∷ is) h = sure_item_call standard.StrPos (i ∷ j ∷ k ∷ is) h
+
+  sure_named_item : (o : Option Standard) (w : List ℕ) (is : List Item) → AllItems is
+      → Sure IsItem (named_item o w is)
+  sure_named_item (Some f) w is h = sure_joined_call f is h
+  sure_named_item None w is h =
+      sure_if IsItem (same_word w (codes "locate")) _ _ (sure_located is h) tt
+
   sure_joining : (w : List ℕ) (is : List Item) → AllItems is → Sure IsItem (joining_item w is)
-  sure_joining w is h =
-      sure_then _ IsItem (or_refuses NoFunction (standard_named w)) _
-      (sure_or NoFunction (standard_named w))
-      (λ f k. sure_joined_call f is h)
+  sure_joining w is h = sure_named_item (standard_named w) w is h
 
   sure_kinded_item : (o : Option KindName) (w : List ℕ) (is : List Item) → AllItems is
       → Sure IsItem (kinded_item o w is)

@@ -65,6 +65,7 @@ use Rattle.vortex_expressions.specs.KindCasts.{fraction_cast, float_digits, deci
 use Rattle.vortex_expressions.specs.KindCasts.{float_cast}
 use Rattle.std.specs.Prelude.{◌++◌, codes}
 use Rattle.std.specs.Fmt.{decimal}
+use Rattle.vortex_sql_kind_texts.specs.TextKinds.{overflows}
 use Rattle.vortex_logical.specs.Digits.{Digits}
 use Rattle.vortex_logical_casts.specs.Casts.{scaled_float_steps}
 use Rattle.vortex_sql_floats.specs.declared.floats.FloatOperator.TheVariants.{Multiply}
@@ -181,7 +182,8 @@ sure_whole p l =
     (sure_constant l (integer_type p false)) (λ t h. tt)
 
 pub sure_text_literal : (k : Kind) (bs : List ℕ) → Sure Any (text_literal k bs)
-sure_text_literal k bs = sure_told Any (literal_of k bs) (any_made (literal_of k bs))
+sure_text_literal k bs =
+    sure_if Any (overflows k bs) _ _ tt (sure_told Any (literal_of k bs) (any_made (literal_of k bs)))
 
 sure_number : (k : Kind) (o : Option Kind) (w : List ℕ) → Sure Any (number_literal k o w)
 sure_number k None w = sure_whole (whole_ptype k) (number w)
@@ -326,7 +328,9 @@ constant_made k (Some z) (Some p) = refl
 
 sure_text_value : (k : Kind) (bs : List ℕ) → Sure IsValue (text_literal k bs)
 sure_text_value k bs =
-    sure_told IsValue (literal_of k bs) (constant_made k (number_of_text k bs) (stored_ptype k))
+    sure_if IsValue (overflows k bs) _ _ tt
+    (sure_told IsValue (literal_of k bs)
+    (constant_made k (number_of_text k bs) (stored_ptype k)))
 
 sure_null_value : (k : Kind) (o : Option PType) → Sure IsValue (null_of k o)
 sure_null_value k None = tt

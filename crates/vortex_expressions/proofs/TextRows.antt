@@ -39,6 +39,7 @@ use Rattle.vortex_expressions.specs.KindWords.{kind_word}
 use Rattle.vortex_expressions.specs.Functions.{call_kind, function_item, standard_item, meant_item}
 use Rattle.vortex_expressions.specs.Functions.{applied_item, made_date, whole_item, kinds_item}
 use Rattle.vortex_expressions.specs.Functions.{applied_by, joined_call, joining_item, kinded_item}
+use Rattle.vortex_expressions.specs.Functions.{named_item}
 use Rattle.vortex_expressions.specs.Joining.{joins, joined_texts}
 use Rattle.vortex_expressions.specs.Calls.{is_concat, concat_item}
 use Rattle.vortex_expressions.specs.Binding.{LogicalTree, item_by, items_by, branches_by, with_item}
@@ -316,7 +317,7 @@ module _ (scope : Fields) (kinds : List Kind) where
     named_kinds w f is r k n e =
         let one : joining_item w is ≡ answers r = by (is_plain (first_kind is)) e in
         let two : joined_call f is ≡ answers r =
-        ap (λ o. and_then (or_refuses NoFunction o) (λ g. joined_call g is)) (sym n) ∙ one in
+        ap (λ o. named_item o w is) (sym n) ∙ one in
         choose (joins f) refl two
       where
         by : (b : Bool)

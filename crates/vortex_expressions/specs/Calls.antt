@@ -3,7 +3,8 @@ use Rattle.std.specs.Prelude.{ℕ, List, [], ◌∷◌, Bool, true, false, Optio
 use Rattle.std.specs.Prelude.{zero, suc, ◌||◌, ◌&&◌, codes, if◌then◌else◌}
 use Rattle.std.specs.Str.{is_utf8, chars}
 use Rattle.vortex_errors.specs.declared.error.VortexError.TheVariants.{ScopeMismatch}
-use Rattle.vortex_types.specs.LogicalTypes.{LogicalType, Fields, text_type, find_field}
+use Rattle.vortex_types.specs.declared.dtype.PType.TheVariants.{I64}
+use Rattle.vortex_types.specs.LogicalTypes.{LogicalType, Fields, integer_type, text_type, find_field}
 use Rattle.vortex_operators.specs.declared.operators.Operator.TheVariants as operator
 use Rattle.vortex_like.specs.declared.options.LikeOptions.{LikeOptions}
 use Rattle.vortex_like.specs.Tokens.{backslash}
@@ -25,8 +26,10 @@ use Rattle.vortex_sql_choices.specs.declared.truth_tests.TruthTest.TheVariants.{
 use Rattle.vortex_sql_choices.specs.declared.truth_tests.TruthTest.TheVariants.{IsUnknown}
 use Rattle.vortex_sql_numbers.specs.declared.bits.BitOperator.TheVariants as bits
 use Rattle.vortex_sql_numbers.specs.declared.bits.Shift.TheVariants as shift
+use Rattle.vortex_sql_texts.specs.declared.parts.Side.TheVariants.{Left}
 use Rattle.vortex_standard.specs.declared.standard.Standard.{Standard}
 use Rattle.vortex_standard.specs.declared.standard.Standard.TheVariants as standard
+use Rattle.vortex_syntax.specs.SizeDigits.{text_size_of}
 use Rattle.vortex_syntax.specs.declared.token.Sign.{Sign}
 use Rattle.vortex_syntax.specs.declared.token.Sign.TheVariants as sign
 use Rattle.vortex_syntax.specs.Tokens.{Token, name, nullable, function, quoted, number, text, sign}
@@ -41,7 +44,7 @@ use Rattle.vortex_expressions.specs.Items.{meaning, Callable, called, common_typ
 use Rattle.vortex_expressions.specs.Applied.{callable, function_call}
 use Rattle.vortex_expressions.specs.Functions.{function_item}
 use Rattle.vortex_expressions.specs.Joining.{as_text}
-use Rattle.vortex_expressions.specs.Items.{constant_at}
+use Rattle.vortex_expressions.specs.Items.{constant_at, settled, call_of}
 pub use Rattle.vortex_expressions.specs.Items.{as_item, truth_type}
 use Rattle.vortex_expressions.specs.TypeNames.{named_type}
 pub use Rattle.vortex_expressions.specs.Casts.{cast_to}
@@ -171,10 +174,6 @@ typed_named w n (literal l) (Some k) = kind_item k l
 typed_named w n (fraction v) (Some k) = kind_item k (literal.number v)
 typed_named w n i (Some k) = missing
 
-abbrev pub typed_by : Bool → List ℕ → Bool → Item → Outcome Item
-typed_by false w n i = typed_item w n i
-typed_by true w n i = and_then (kind_of_name w n) (typed_named w n i)
-
 -- a cast to the type of that name; values of kinds are rounded and written, but by `try_cast`
 abbrev pub cast_of_kind : Bool → List ℕ → Bool → Item → Outcome Item
 cast_of_kind false w n (kinded k t) = and_then (type_of_name w n) (λ u. stored_cast k u t)
@@ -186,9 +185,33 @@ abbrev pub cast_named : Bool → List ℕ → Bool → Item → Option Kind → 
 cast_named p w n i None = cast_of_kind p w n i
 cast_named p w n i (Some k) = cast_to_kind p k i
 
+-- the first characters of a text, as many as the digits say
+abbrev pub cut_item : List ℕ → Item → Outcome Item
+cut_item ds i =
+    and_then (settled None i) (λ t. and_then (text_of ds) (λ v.
+    and_then (constant_at (literal.number v) (integer_type I64 false)) (λ c.
+    as_item (call_of (callable (standard.Side Left)) (t ∷ c ∷ [])))))
+
+-- a cast to a text of a size
+abbrev pub cut_cast : Bool → List ℕ → Item → Outcome Item
+cut_cast p ds i = and_then (cast_of_kind p (codes "varchar") false i) (cut_item ds)
+
+abbrev pub cast_sized : Option (List ℕ) → Bool → List ℕ → Bool → Item → Outcome Item
+cast_sized (Some ds) p w n i = cut_cast p ds i
+cast_sized None p w n i = and_then (kind_of_name w n) (cast_named p w n i)
+
 abbrev pub cast_by : Bool → Bool → List ℕ → Bool → Item → Outcome Item
 cast_by false p w n i = cast_item p w n i
-cast_by true p w n i = and_then (kind_of_name w n) (cast_named p w n i)
+cast_by true p w n i = cast_sized (text_size_of w) p w n i
+
+-- a literal of the type of that name
+abbrev pub typed_sized : Option (List ℕ) → List ℕ → Bool → Item → Outcome Item
+typed_sized (Some ds) w n i = cut_cast false ds i
+typed_sized None w n i = and_then (kind_of_name w n) (typed_named w n i)
+
+abbrev pub typed_by : Bool → List ℕ → Bool → Item → Outcome Item
+typed_by false w n i = typed_item w n i
+typed_by true w n i = typed_sized (text_size_of w) w n i
 
 -- the function that an operator is
 abbrev pub written_function : syntax.WrittenOperator → Callable

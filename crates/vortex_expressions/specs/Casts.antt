@@ -60,9 +60,10 @@ cast_from p (Some t) u a =
 abbrev pub cast_tree : Bool → LogicalType → Tree → Outcome Tree
 cast_tree p u a = cast_from p (tree_type meaning a) u a
 
--- the type that a literal takes: the one to which it is cast, but by `try_cast`, where a number or
--- a text that the type does not hold is null, only null takes it
+-- the type that a literal takes: the one to which it is cast, but a text, which is cast in each row, and
+-- by `try_cast`, where a number that the type does not hold is null, only null
 abbrev pub cast_hint : Bool → Item → LogicalType → Option LogicalType
+cast_hint p (literal (literals.text bs)) u = None
 cast_hint false i u = Some u
 cast_hint true (literal literals.null) u = Some u
 cast_hint true i u = None

@@ -20,7 +20,7 @@ use Rattle.vortex_sql_float_functions.specs.declared.functions.FloatFunction.The
 use Rattle.vortex_expressions.specs.declared.kind_words.KindFunction.TheVariants.{OfFloat}
 use Rattle.vortex_expressions.specs.declared.kind_words.KindName.{KindName}
 use Rattle.vortex_expressions.specs.declared.kind_words.KindName.TheVariants.{Single}
-use Rattle.vortex_expressions.specs.Outcomes.{Outcome, answers, and_then, or_refuses}
+use Rattle.vortex_expressions.specs.Outcomes.{Outcome, answers, refuses, and_then, or_refuses}
 use Rattle.vortex_expressions.specs.Items.{Item, bound, kinded, Tree, as_item}
 use Rattle.vortex_expressions.specs.Applied.{values_of, function_call}
 use Rattle.vortex_expressions.specs.Kinded.{told, first_kind, is_plain, item_operand, value_item}
@@ -129,8 +129,21 @@ takes_whole f = true
 abbrev pub joined_call : Standard → List Item → Outcome Item
 joined_call f is = if joins f then joined_texts f is else function_item f is
 
+-- the place of a text in another, which comes behind it
+abbrev pub located : List Item → Outcome Item
+located (i ∷ j ∷ []) = function_item standard.StrPos (j ∷ i ∷ [])
+located is = function_item standard.StrPos is
+
+-- of names that no function has, over columns with kinds
+abbrev pub unnamed_item : List ℕ → List Item → Outcome Item
+unnamed_item w is = if same_word w (codes "locate") then located is else refuses NoFunction
+
+abbrev pub named_item : Option Standard → List ℕ → List Item → Outcome Item
+named_item None w is = unnamed_item w is
+named_item (Some f) w is = joined_call f is
+
 abbrev pub joining_item : List ℕ → List Item → Outcome Item
-joining_item w is = and_then (or_refuses NoFunction (standard_named w)) (λ f. joined_call f is)
+joining_item w is = named_item (standard_named w) w is
 
 -- what a name means without a value of a kind, over columns with kinds
 abbrev pub whole_item : Option KindName → List ℕ → List Item → Outcome Item

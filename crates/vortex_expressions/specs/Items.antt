@@ -1,12 +1,13 @@
 -- Literals without a type yet, and trees; and calls of them.
 use Rattle.std.specs.Prelude.{ℕ, ℤ, List, [], ◌∷◌, length, map, Option, Some, None, is_some}
-use Rattle.std.specs.Prelude.{false, if◌then◌else◌, string_bytes}
+use Rattle.std.specs.Prelude.{Bool, true, false, if◌then◌else◌, string_bytes}
 use Rattle.std.specs.Option.{option_or}
 use Rattle.vortex_errors.specs.declared.error.MismatchPlace.{MismatchPlace}
 use Rattle.vortex_errors.specs.declared.error.MismatchPlace.TheVariants.{Scalars}
 use Rattle.vortex_errors.specs.declared.error.VortexError.TheVariants.{ArityMismatch, TypeMismatch}
 use Rattle.vortex_types.specs.declared.dtype.PType.{PType}
-use Rattle.vortex_types.specs.LogicalTypes.{LogicalType, bool_type}
+use Rattle.vortex_types.specs.declared.dtype.PType.TheVariants.{I64}
+use Rattle.vortex_types.specs.LogicalTypes.{LogicalType, bool_type, integer_type}
 use Rattle.vortex_interface.specs.Meaning.{Meaning, fits}
 use Rattle.vortex_interface.specs.Shipped.{shipped_place}
 use Rattle.vortex_interface.specs.Functions.{Function, ours, custom, function_arity}
@@ -24,6 +25,7 @@ use Rattle.vortex_expressions.specs.declared.item.Item.TheVariants as variant
 use Rattle.vortex_expressions.specs.declared.refusal.Refusal.TheVariants.{UntypedNull, NotHeld}
 use Rattle.vortex_expressions.specs.declared.refusal.Refusal.TheVariants.{Binding, OfKind}
 use Rattle.vortex_expressions.specs.Literals.{Literal, literal_in, own_type, type_beside, value_at}
+use Rattle.vortex_expressions.specs.Literals.{number}
 use Rattle.vortex_expressions.specs.Meeting.{meeting_type, widened_to}
 use Rattle.vortex_expressions.specs.Outcomes.{Outcome, answers, refuses, missing, and_then}
 use Rattle.vortex_expressions.specs.Outcomes.{or_refuses}
@@ -76,15 +78,23 @@ literal_type (kinded k t) = None
 literal_type (fraction w) = None
 literal_type (interval z) = None
 
-abbrev pub first_some : {A : Type 0} → List (Option A) → Option A
-first_some [] = None
-first_some (o ∷ os) = option_or o (first_some os)
+abbrev pub is_numeral : Item → Bool
+is_numeral (literal (number w)) = true
+is_numeral i = false
 
--- the type of items next to each other: that in which the trees meet, or without a tree that of the
--- first literal with a default type
+-- the default type of a literal number, or else the one before, or else that of a literal
+abbrev pub next_literal : Option LogicalType → Item → Option LogicalType
+next_literal o i =
+    if is_numeral i then Some (integer_type I64 false) else option_or o (literal_type i)
+
+abbrev pub literals_type : Option LogicalType → List Item → Option LogicalType
+literals_type o [] = o
+literals_type o (i ∷ is) = literals_type (next_literal o i) is
+
+-- the type of items next to each other: that in which the trees meet, or without a tree that of a
+-- literal number, or else of the first literal with a default type
 abbrev pub common_type : List Item → Option LogicalType
-common_type is =
-    option_or (meeting_type None (map bound_type is)) (first_some (map literal_type is))
+common_type is = option_or (meeting_type None (map bound_type is)) (literals_type None is)
 
 -- with And, Or and Not, and as a condition, null is a truth value
 abbrev pub truth_type : Option LogicalType

@@ -31,6 +31,7 @@ use Rattle.vortex_logical_calls.specs.Bounds as bounds
 use Rattle.vortex_logical_calls.specs.Computation.{computed}
 use Rattle.vortex_logical_calls.specs.Literals.{kind_beside, literal_of}
 use Rattle.vortex_logical_calls.specs.Intervals.{shifted}
+use Rattle.vortex_sql_kind_texts.specs.TextKinds.{overflows}
 use Rattle.vortex_expressions.specs.declared.refusal.Refusal.TheVariants.{NotHeld, UntypedNull}
 use Rattle.vortex_expressions.specs.declared.refusal.Refusal.TheVariants.{OfKind, Kinds, Binding}
 use Rattle.vortex_expressions.specs.declared.refusal.BindStop.{BindStop}
@@ -105,8 +106,10 @@ whole_ptype k = I64
 abbrev pub whole_literal : PType → Literal → Outcome Lowered
 whole_literal p l = and_then (constant_at l (integer_type p false)) (λ t. answers (lowered t (Whole p)))
 
+-- a number that is past all floats is none
 abbrev pub text_literal : Kind → List ℕ → Outcome Lowered
-text_literal k bs = told (literal_of k bs)
+text_literal k bs =
+    if overflows k bs then refuses (Kinds (unlowered.NotOfKind k)) else told (literal_of k bs)
 
 abbrev pub number_literal : Kind → Option Kind → List ℕ → Outcome Lowered
 number_literal k None w = whole_literal (whole_ptype k) (number w)

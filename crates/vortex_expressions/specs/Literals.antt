@@ -44,11 +44,17 @@ own_type null = None
 abbrev pub number_type : LogicalType → LogicalType
 number_type t = if is_integer_type t then with_nullability t false else integer_type I64 false
 
--- the type of a literal next to a value of a type: a number takes an integer type, and null takes
--- any
+-- a text takes an integer type, too
+abbrev pub text_type_beside : LogicalType → LogicalType
+text_type_beside t = if is_integer_type t then with_nullability t false else text_type false
+
+-- the type of a literal next to a value of a type: a number and a text take an integer type, and null
+-- takes any; null alone is a text
 abbrev pub type_beside : Option LogicalType → Literal → Option LogicalType
 type_beside (Some t) (number w) = Some (number_type t)
+type_beside (Some t) (text bs) = Some (text_type_beside t)
 type_beside (Some t) null = Some t
+type_beside None null = Some (text_type false)
 type_beside o l = own_type l
 
 abbrev pub truth_word : Bool → List ℕ
@@ -57,6 +63,7 @@ truth_word b = if b then codes "true" else codes "false"
 -- the value of a literal in a type, if it has one; null makes the type nullable
 abbrev pub value_at : LogicalType → Literal → Option ScalarView
 value_at t (number w) = if is_integer_type t then literal_of_cell t (Some w) else None
-value_at t (text bs) = if is_text_type t then literal_of_cell t (Some bs) else None
+value_at t (text bs) =
+    if is_text_type t || is_integer_type t then literal_of_cell t (Some bs) else None
 value_at t (truth b) = if is_bool_type t then literal_of_cell t (Some (truth_word b)) else None
 value_at t null = Some (record { dtype = with_nullability t true; value = value.null })

@@ -4,12 +4,12 @@ ghost use Rattle.vortex_errors.specs.Answers.{AnswersUnlessMemory};
 ghost use Rattle.vortex_types.specs.TypeOf.{type_of};
 ghost use Rattle.vortex_expressions.specs.Applied as specs;
 ghost use Rattle.vortex_expressions.specs.Meeting as meetings;
-ghost use Rattle.vortex_expressions.specs.Items.{item_in, bound_type, literal_type, first_some};
+ghost use Rattle.vortex_expressions.specs.Items.{item_in, bound_type, literals_type};
 ghost use Rattle.vortex_expressions.specs.Items.{common_type, settled, truth_type};
 ghost use Rattle.vortex_expressions.specs.Answering.{Gives};
 
 use crate::item::{
-    Item, call_of, callable, common_type, first_literal_type, meeting_type, settle_all,
+    Item, call_of, callable, common_type, literals_type, meeting_type, next_literal, settle_all,
 };
 use crate::meeting::met_next;
 use crate::refusal::BindStop;
@@ -32,19 +32,18 @@ fn value_type(alloc: Global, items: &[Item]) -> VortexResult<Option<DType>>
     meeting_type(alloc, met, rest)
 }
 
-/// The default type of the first literal with one among the values of cases.
-fn first_literal_value(items: &[Item]) -> Option<DType>
+/// The type of the literals among the values of cases.
+fn literal_value_type(items: &[Item]) -> Option<DType>
     ensures { option_map (λ t. type_of t) result
-        ≡ first_some (map literal_type (specs.values_of (map item_in items.now))) }
+        ≡ literals_type None (specs.values_of (map item_in items.now)) }
 {
+    let mut taken = None;
     let mut rest = items;
     while let [_condition, value, more @ ..] = rest {
-        if let Some(dtype) = value.literal_type() {
-            return Some(dtype);
-        }
+        taken = next_literal(taken, value);
         rest = more;
     }
-    first_literal_type(rest)
+    literals_type(taken, rest)
 }
 
 /// The type of the values of cases.
@@ -54,7 +53,7 @@ pub(crate) fn common_value_type(alloc: Global, items: &[Item]) -> VortexResult<O
 {
     match value_type(alloc, items)? {
         Some(dtype) => Ok(Some(dtype)),
-        None => Ok(first_literal_value(items)),
+        None => Ok(literal_value_type(items)),
     }
 }
 

@@ -169,13 +169,15 @@ fn cast_tree(
     }
 }
 
-/// The type that a literal takes: by `try_cast` only null takes the one to which it is cast.
+/// The type that a literal takes: a text takes none, and by `try_cast` only null takes the one to
+/// which it is cast.
 fn cast_hint<'a>(is_tried: bool, item: &Item, dtype: &'a DType) -> Option<&'a DType>
     ensures { option_map (λ t. type_of t.now) result
         ≡ specs.cast_hint is_tried (item_in item.now) (type_of dtype.now) }
 {
     match item {
         Item::Literal(Literal::Null) => Some(dtype),
+        Item::Literal(Literal::Text(_)) => None,
         _ => if is_tried { None } else { Some(dtype) },
     }
 }

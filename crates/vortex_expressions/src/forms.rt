@@ -4,6 +4,7 @@ use crate::hints::missing_function;
 use crate::item::Item;
 use crate::item_texts::push_literal;
 use crate::kind_words::{KindFunction, KindName, kind_word};
+use crate::located::is_locate;
 use crate::words::LIKENED;
 use std::alloc::Global;
 use std::str;
@@ -186,6 +187,7 @@ fn bits_of(operator: WrittenOperator) -> Option<Standard> {
 /// The function of SQL that a step calls.
 pub(crate) fn function_in(step: Option<&Step<'_>>) -> Option<Standard> {
     match step {
+        Some(Step::Apply(name, _)) if is_locate(*name) => Some(Standard::StrPos),
         Some(Step::Apply(name, _)) => named(*name),
         Some(Step::Call(Call::Is(_, _))) => Some(Standard::TruthTest(TruthTest::IsTrue)),
         Some(Step::Call(Call::Distinct(_))) => Some(Standard::IsDistinct),

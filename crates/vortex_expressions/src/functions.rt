@@ -13,6 +13,7 @@ use crate::joining::{joined_texts, joins};
 use crate::kind_functions::{kind_call, single_call};
 use crate::kind_words::{KindFunction, KindName, is_word, kind_word};
 use crate::kinded::{fraction_kind, is_plain, item_operand, value_item};
+use crate::located::unnamed_item;
 use crate::refusal::{BindStop, Refusal};
 use std::alloc::Global;
 use vortex_functions::BoundExpression;
@@ -327,7 +328,7 @@ fn joining_item(alloc: Global, name: &[u8], items: Vec<Item>) -> Result<Item, Bi
     match named(name) {
         Some(function) if joins(function) => joined_texts(alloc, function, items),
         Some(function) => function_item(alloc, function, items),
-        None => Err(BindStop::Refused(Refusal::NoFunction)),
+        None => unnamed_item(alloc, name, items),
     }
 }
 

@@ -5,7 +5,7 @@ ghost use Rattle.vortex_types.specs.TypeOf.{type_of};
 ghost use Rattle.vortex_functions.specs.FunctionOf.{function_of, instance_in};
 ghost use Rattle.vortex_expressions.specs.Meeting as meetings;
 ghost use Rattle.vortex_expressions.specs.Items as specs;
-ghost use Rattle.vortex_expressions.specs.Items.{item_in, bound_type, literal_type, first_some};
+ghost use Rattle.vortex_expressions.specs.Items.{item_in, bound_type, literal_type};
 ghost use Rattle.vortex_expressions.specs.Items.{common_type, constant_at, settled, all_settled};
 ghost use Rattle.vortex_expressions.specs.Items.{call_of, called, bound};
 ghost use Rattle.vortex_expressions.specs.Literals.{literal_in};
@@ -17,7 +17,7 @@ use crate::literal::Literal;
 use crate::meeting::{met_next, widened_to};
 use crate::refusal::{BindStop, Refusal};
 use std::alloc::Global;
-use vortex_columns::{DType, MismatchPlace, PType, VortexError, VortexResult};
+use vortex_columns::{DType, MismatchPlace, Nullability, PType, VortexError, VortexResult};
 use vortex_functions::{BoundExpression, EmptyOptions, ScalarFnRef};
 use vortex_logical::kind::Kind;
 use vortex_standard::{Standard, Widen};
@@ -155,17 +155,36 @@ pub(crate) fn meeting_type(
     Ok(met)
 }
 
-/// The type of the first literal with a default type.
-pub(crate) fn first_literal_type(items: &[Item]) -> Option<DType>
-    ensures { option_map (λ t. type_of t) result
-        ≡ first_some (map literal_type (map item_in items.now)) }
+fn is_numeral(item: &Item) -> bool
+    ensures { result ≡ specs.is_numeral (item_in item.now) }
 {
-    for item in items {
-        if let Some(dtype) = item.literal_type() {
-            return Some(dtype);
-        }
+    matches!(item, Item::Literal(Literal::Number(_)))
+}
+
+/// The default type of a literal number, or else the one before, or else that of a literal.
+pub(crate) fn next_literal(found: Option<DType>, item: &Item) -> Option<DType>
+    ensures { option_map (λ t. type_of t) result
+        ≡ specs.next_literal (option_map (λ t. type_of t) found) (item_in item.now) }
+{
+    if is_numeral(item) {
+        return Some(DType::Primitive(PType::I64, Nullability::NonNullable));
     }
-    None
+    match found {
+        Some(dtype) => Some(dtype),
+        None => item.literal_type(),
+    }
+}
+
+/// The type of literals, after the one before: that of a number, or of the first with a default type.
+pub(crate) fn literals_type(found: Option<DType>, items: &[Item]) -> Option<DType>
+    ensures { option_map (λ t. type_of t) result
+        ≡ specs.literals_type (option_map (λ t. type_of t) found) (map item_in items.now) }
+{
+    let mut taken = found;
+    for item in items {
+        taken = next_literal(taken, item);
+    }
+    taken
 }
 
 /// The type of items next to each other. E9 where an allocation fails.
@@ -175,7 +194,7 @@ pub(crate) fn common_type(alloc: Global, items: &[Item]) -> VortexResult<Option<
 {
     match meeting_type(alloc, None, items)? {
         Some(dtype) => Ok(Some(dtype)),
-        None => Ok(first_literal_type(items)),
+        None => Ok(literals_type(None, items)),
     }
 }
 

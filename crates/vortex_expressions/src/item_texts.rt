@@ -43,7 +43,12 @@ fn push_type(out: &mut String, item: &Item) -> VortexResult<()> {
     }
 }
 
-/// The types of items, with commas and an `and`.
+/// Whether the item is null without a type.
+fn is_null(item: &Item) -> bool {
+    matches!(item, Item::Literal(Literal::Null))
+}
+
+/// The types of items, with commas and an `and`, and how null is given one.
 pub(crate) fn push_types(out: &mut String, items: &[Item]) -> VortexResult<()> {
     for (place, item) in items.iter().enumerate() {
         if place > 0 {
@@ -54,6 +59,9 @@ pub(crate) fn push_types(out: &mut String, items: &[Item]) -> VortexResult<()> {
             })?;
         }
         push_type(out, item)?;
+    }
+    if items.iter().any(is_null) {
+        out.push_str("; give null a type, as null::i64?")?;
     }
     Ok(())
 }

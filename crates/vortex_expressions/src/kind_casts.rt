@@ -16,16 +16,18 @@ use crate::kind_names::{kind_item, kind_of_name};
 use crate::kind_steps::stepped;
 use crate::kinded::{plain_operand, text_literal, value_item};
 use crate::literal::Literal;
+use crate::quotes::text_of;
 use crate::refusal::{BindStop, Refusal};
 use std::alloc::Global;
-use vortex_columns::{DType, Nullability};
+use vortex_columns::{DType, Nullability, PType};
 use vortex_functions::BoundExpression;
 use vortex_logical::kind::Kind;
 use vortex_logical::operand::Operand;
 use vortex_logical_calls::Lowered;
 use vortex_logical_calls::conversions::as_float;
 use vortex_logical_casts::{Steps, decimal_steps, integer_steps, text_steps, written_steps};
-use vortex_standard::Standard;
+use vortex_standard::{Side, Standard};
+use vortex_syntax::text_size_of;
 
 /// Whether it is a number, but no float of 64 bits.
 fn becomes_float(operand: &Operand) -> bool
@@ -310,7 +312,33 @@ fn cast_named(
     }
 }
 
-/// A cast to the type of that name, and where kinds have names to the kind.
+/// The first characters of a text, as many as the digits say.
+fn cut_item(alloc: Global, digits: &[u8], item: Item) -> Result<Item, BindStop>
+    ensures { Gives item_in result (calls.cut_item digits.now (item_in item)) }
+{
+    let text = item.settle(alloc, None)?;
+    let digits = text_of(alloc, digits)?;
+    let dtype = DType::Primitive(PType::I64, Nullability::NonNullable);
+    let count = constant_at(alloc, &Literal::Number(digits), dtype)?;
+    let left = callable(Standard::Side(Side::Left));
+    let tree = call_of(alloc, left, vec![in alloc; text, count]?)?;
+    Ok(Item::Bound(tree))
+}
+
+/// A cast to a text of a size.
+pub(crate) fn cut_cast(
+    alloc: Global,
+    is_tried: bool,
+    digits: &[u8],
+    item: Item,
+) -> Result<Item, BindStop>
+    ensures { Gives item_in result (calls.cut_cast is_tried digits.now (item_in item)) }
+{
+    let text = cast_of_kind(alloc, is_tried, b"varchar", false, item)?;
+    cut_item(alloc, digits, text)
+}
+
+/// A cast to the type of that name, and where kinds have names to the kind; a text of a size is cut.
 pub(crate) fn cast_by(
     alloc: Global,
     has_kinds: bool,
@@ -324,6 +352,9 @@ pub(crate) fn cast_by(
 {
     if !has_kinds {
         return cast_item(alloc, is_tried, name, is_nullable, item);
+    }
+    if let Some(digits) = text_size_of(name) {
+        return cut_cast(alloc, is_tried, digits, item);
     }
     let kind = kind_of_name(alloc, name, is_nullable)?;
     cast_named(alloc, is_tried, name, is_nullable, item, kind)

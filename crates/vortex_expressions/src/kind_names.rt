@@ -12,6 +12,7 @@ ghost use Rattle.vortex_expressions.specs.Answering.{Gives};
 use crate::calls::typed_item;
 use crate::casts::is_same_word;
 use crate::item::Item;
+use crate::kind_casts::cut_cast;
 use crate::kinded::{null_literal, text_literal, value_item};
 use crate::literal::Literal;
 use crate::quotes::text_of;
@@ -21,7 +22,7 @@ use vortex_logical::digits::DecimalDigits;
 use vortex_logical::kind::Kind;
 use vortex_logical_calls::{Lowered, interval_of};
 use vortex_standard::Standard;
-use vortex_syntax::sizes_of;
+use vortex_syntax::{sizes_of, text_size_of};
 
 /// Whether a list of kinds is given.
 pub(crate) fn are_given(kinds: &[Kind]) -> bool
@@ -196,7 +197,8 @@ fn typed_named(
     }
 }
 
-/// A literal of the type of that name, and where kinds have names of the kind.
+/// A literal of the type of that name, and where kinds have names of the kind; a text of a size is
+/// cut.
 pub(crate) fn typed_by(
     alloc: Global,
     has_kinds: bool,
@@ -209,6 +211,9 @@ pub(crate) fn typed_by(
 {
     if !has_kinds {
         return typed_item(alloc, name, is_nullable, item);
+    }
+    if let Some(digits) = text_size_of(name) {
+        return cut_cast(alloc, false, digits, item);
     }
     let kind = kind_of_name(alloc, name, is_nullable)?;
     typed_named(alloc, name, is_nullable, item, kind)

@@ -19,6 +19,7 @@ use vortex_logical::operand::Operand;
 use vortex_logical_calls as calls;
 use vortex_logical_calls::{Lowered, kind_beside};
 use vortex_operators::{BetweenOptions, CompareOperator, StrictComparison};
+use vortex_sql_kind_texts::from_texts::overflows;
 use vortex_standard::Standard;
 use vortex_syntax::WrittenOperator as Written;
 use vortex_types::NumericOperator;
@@ -135,7 +136,7 @@ fn whole_literal(
     Ok(Lowered { tree, operand })
 }
 
-/// The value of a text of a kind.
+/// The value of a text of a kind; a number that is past all floats is none.
 pub(crate) fn text_literal(
     alloc: Global,
     kind: Kind,
@@ -143,6 +144,9 @@ pub(crate) fn text_literal(
 ) -> Result<Lowered<Standard>, BindStop>
     ensures { Gives (λ x. lowered x.tree x.operand) result (specs.text_literal kind text.now) }
 {
+    if overflows(kind, text) {
+        return Err(BindStop::Refused(Refusal::Kinds(calls::Refusal::NotOfKind(kind))));
+    }
     Ok(calls::literal(alloc, kind, text)?)
 }
 

@@ -26,6 +26,7 @@ mod kinded;
 pub mod laws;
 mod like_tasks;
 mod literal;
+mod located;
 mod meeting;
 mod messages;
 mod number_functions;

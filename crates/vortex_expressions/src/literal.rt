@@ -1,8 +1,9 @@
 //! Literals, and the types that they take.
-ghost use Rattle.std.specs.Prelude.{◌≡◌, option_map};
+ghost use Rattle.std.specs.Prelude.{◌≡◌, option_map, None};
 ghost use Rattle.vortex_errors.specs.Answers.{AnswersUnlessMemory};
 ghost use Rattle.vortex_types.specs.TypeOf.{type_of};
 ghost use Rattle.vortex_expressions.specs.Literals.{literal_in, own_type, number_type};
+ghost use Rattle.vortex_expressions.specs.Literals.{text_type_beside};
 ghost use Rattle.vortex_expressions.specs.Literals.{type_beside, value_at, truth_word};
 ghost use Rattle.vortex_expressions.specs.Literals.{is_fractional, has_fraction};
 
@@ -28,6 +29,17 @@ fn number_type(alloc: Global, beside: &DType) -> VortexResult<DType>
         Ok(beside.try_clone(alloc)?.as_nonnullable())
     } else {
         Ok(DType::Primitive(PType::I64, Nullability::NonNullable))
+    }
+}
+
+/// The type that a text takes next to a value of that type. E9 where an allocation fails.
+fn text_type_beside(alloc: Global, beside: &DType) -> VortexResult<DType>
+    ensures { AnswersUnlessMemory result (λ t. type_of t ≡ text_type_beside (type_of beside.now)) }
+{
+    if beside.is_primitive() {
+        Ok(beside.try_clone(alloc)?.as_nonnullable())
+    } else {
+        Ok(DType::Utf8(Nullability::NonNullable))
     }
 }
 
@@ -75,6 +87,16 @@ impl Literal {
         }
     }
 
+    /// The type that it has alone: null is a text.
+    fn type_alone(&self) -> Option<DType>
+        ensures { option_map (λ t. type_of t) result ≡ type_beside None (literal_in self.now) }
+    {
+        match self {
+            Literal::Null => Some(DType::Utf8(Nullability::NonNullable)),
+            _ => self.own_type(),
+        }
+    }
+
     /// The type that it takes next to a value of that type. E9 where an allocation fails.
     pub(crate) fn type_beside(
         &self,
@@ -85,10 +107,11 @@ impl Literal {
             ≡ type_beside (option_map (λ t. type_of t.now) beside.entry) (literal_in self.now)) }
     {
         let Some(beside) = beside else {
-            return Ok(self.own_type());
+            return Ok(self.type_alone());
         };
         match self {
             Literal::Number(_) => Ok(Some(number_type(alloc, beside)?)),
+            Literal::Text(_) => Ok(Some(text_type_beside(alloc, beside)?)),
             Literal::Null => Ok(Some(beside.try_clone(alloc)?)),
             _ => Ok(self.own_type()),
         }
@@ -104,7 +127,7 @@ impl Literal {
             Literal::Number(word) if dtype.is_primitive() => {
                 literal_of_cell(alloc, &dtype, Some(word.as_str()))
             }
-            Literal::Text(text) if dtype.is_utf8() => {
+            Literal::Text(text) if dtype.is_utf8() || dtype.is_primitive() => {
                 literal_of_cell(alloc, &dtype, Some(text.as_str()))
             }
             Literal::Truth(truth) if dtype.is_boolean() => {

@@ -8,6 +8,7 @@ use Rattle.std.specs.Str.{bytes_eq}
 use Rattle.vortex_standard.specs.declared.names.TheConstants.{FUNCTIONS, KEY_FUNCTIONS}
 use Rattle.vortex_standard.specs.declared.standard.Standard.{Standard}
 use Rattle.vortex_standard.specs.declared.standard.Standard.TheVariants as standard
+use Rattle.vortex_sql_texts.specs.declared.letters.Letters.TheVariants.{Lower, Upper}
 use Rattle.vortex_sql_texts.specs.declared.texts.Measure.TheVariants.{Characters}
 use Rattle.vortex_sql_texts.specs.declared.trims.Trim.TheVariants.{Both}
 use Rattle.vortex_standard.specs.Standard.{row_of}
@@ -27,7 +28,12 @@ has_name w f = same_word w (name_of f)
 abbrev pub alias_of : List ℕ → Option Standard
 alias_of w =
     if same_word w (codes "ifnull") then Some standard.Coalesce
+    else if same_word w (codes "nvl") then Some standard.Coalesce
     else if same_word w (codes "if") then Some standard.Case
+    else if same_word w (codes "iif") then Some standard.Case
+    else if same_word w (codes "lcase") then Some (standard.Letters Lower)
+    else if same_word w (codes "ucase") then Some (standard.Letters Upper)
+    else if same_word w (codes "instr") then Some standard.StrPos
     else if same_word w (codes "substring") then Some standard.Substr
     else if same_word w (codes "trim") then Some (standard.Trim Both)
     else if same_word w (codes "char_length") then Some (standard.Measure Characters)

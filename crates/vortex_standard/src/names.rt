@@ -310,8 +310,18 @@ fn alias_of(word: &[u8]) -> Option<Standard>
 {
     if is_same_word(word, b"ifnull") {
         Some(Standard::Coalesce)
+    } else if is_same_word(word, b"nvl") {
+        Some(Standard::Coalesce)
     } else if is_same_word(word, b"if") {
         Some(Standard::Case)
+    } else if is_same_word(word, b"iif") {
+        Some(Standard::Case)
+    } else if is_same_word(word, b"lcase") {
+        Some(Standard::Letters(Letters::Lower))
+    } else if is_same_word(word, b"ucase") {
+        Some(Standard::Letters(Letters::Upper))
+    } else if is_same_word(word, b"instr") {
+        Some(Standard::StrPos)
     } else if is_same_word(word, b"substring") {
         Some(Standard::Substr)
     } else if is_same_word(word, b"trim") {

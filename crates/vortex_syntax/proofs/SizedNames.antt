@@ -251,19 +251,26 @@ begins_low c h = grind (arith, nat_tests)
 begins_numeric : (c : ℕ) → to_ascii_lowercase c ≡ 110 → begins_word c ≡ true
 begins_numeric c h = grind (arith, nat_tests)
 
+begins_text : (c : ℕ) → to_ascii_lowercase c ≡ 118 → begins_word c ≡ true
+begins_text c h = grind (arith, nat_tests)
+
 sized_first : (c : ℕ) (cs : List ℕ) → is_sized_word (c ∷ cs) ≡ true → begins_word c ≡ true
 sized_first c cs h =
-    by (to_ascii_lowercase c == 100) (to_ascii_lowercase c == 110) refl refl h
+    by (to_ascii_lowercase c == 100) (to_ascii_lowercase c == 110) (to_ascii_lowercase c == 118)
+    refl refl refl h
   where
     low : List ℕ
     low = map to_ascii_lowercase cs
 
-    by : (v w : Bool) → (to_ascii_lowercase c == 100) ≡ v → (to_ascii_lowercase c == 110) ≡ w
-        → ((v && bytes_eq low (codes "ecimal")) || (w && bytes_eq low (codes "umeric"))) ≡ true
+    by : (v w u : Bool) → (to_ascii_lowercase c == 100) ≡ v → (to_ascii_lowercase c == 110) ≡ w
+        → (to_ascii_lowercase c == 118) ≡ u
+        → (((v && bytes_eq low (codes "ecimal")) || (w && bytes_eq low (codes "umeric")))
+        || (u && bytes_eq low (codes "archar"))) ≡ true
         → begins_word c ≡ true
-    by true w e k j = begins_low c (eqb-true (to_ascii_lowercase c) 100 e)
-    by false true e k j = begins_numeric c (eqb-true (to_ascii_lowercase c) 110 k)
-    by false false e k j = absurd (false≢true j)
+    by true w u e k m j = begins_low c (eqb-true (to_ascii_lowercase c) 100 e)
+    by false true u e k m j = begins_numeric c (eqb-true (to_ascii_lowercase c) 110 k)
+    by false false true e k m j = begins_text c (eqb-true (to_ascii_lowercase c) 118 m)
+    by false false false e k m j = absurd (false≢true j)
 
 abbrev pub BeginsWord : List ℕ → Type 0
 BeginsWord [] = ⊥

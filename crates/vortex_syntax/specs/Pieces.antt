@@ -82,9 +82,15 @@ behind_number bs = behind_exponent (behind_fraction (behind Digits bs))
 abbrev pub front_number : List ℕ → List ℕ
 front_number bs = take (length bs - length (behind_number bs)) bs
 
--- the types whose names have sizes, as in `decimal(12, 2)`
+-- the types whose names have sizes, as in `decimal(12, 2)` and `varchar(12)`
+abbrev pub is_decimal_word : List ℕ → Bool
+is_decimal_word w = same_word w (codes "decimal") || same_word w (codes "numeric")
+
+abbrev pub is_text_word : List ℕ → Bool
+is_text_word w = same_word w (codes "varchar")
+
 abbrev pub is_sized_word : List ℕ → Bool
-is_sized_word w = same_word w (codes "decimal") || same_word w (codes "numeric")
+is_sized_word w = is_decimal_word w || is_text_word w
 
 -- what follows digits, with blanks round them
 abbrev pub behind_blanks : List ℕ → Option (List ℕ)

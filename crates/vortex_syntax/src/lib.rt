@@ -34,7 +34,7 @@ pub use error::SyntaxError;
 pub use expected::Expected;
 pub use lexing::{Tokens, read_tokens};
 pub use nesting::DEPTH;
-pub use sizes::sizes_of;
+pub use sizes::{sizes_of, text_size_of};
 pub use step::{BetweenKind, Call, LikeKind, Step, Test, WrittenOperator};
 pub use syntax::read_syntax;
 pub use texts::answer_texts;

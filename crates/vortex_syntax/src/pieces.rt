@@ -8,7 +8,8 @@ ghost use Rattle.vortex_syntax.specs.Pieces.{quoted_by, sign_of_two, sign_of_one
 ghost use Rattle.vortex_syntax.specs.Pieces.{first_piece, behind_fraction};
 ghost use Rattle.vortex_syntax.specs.Pieces.{behind_sign, begins_digits, begins_exponent};
 ghost use Rattle.vortex_syntax.specs.Pieces.{behind_exponent, begins_number, behind_number};
-ghost use Rattle.vortex_syntax.specs.Pieces.{front_number, is_sized_word};
+ghost use Rattle.vortex_syntax.specs.Pieces.{front_number, is_decimal_word, is_text_word};
+ghost use Rattle.vortex_syntax.specs.Pieces.{is_sized_word};
 
 use crate::gaps::{divide_or_comment, minus_or_comment};
 use crate::sizes::sized_or_word;
@@ -145,11 +146,23 @@ pub(crate) fn keyword_of(word: &[u8]) -> Option<Sign>
     }
 }
 
+fn is_decimal_word(word: &[u8]) -> bool
+    ensures { result ≡ is_decimal_word word.now }
+{
+    is_same_word(word, b"decimal") || is_same_word(word, b"numeric")
+}
+
+pub(crate) fn is_text_word(word: &[u8]) -> bool
+    ensures { result ≡ is_text_word word.now }
+{
+    is_same_word(word, b"varchar")
+}
+
 /// Whether the word is a type's whose name has sizes.
 pub(crate) fn is_sized_word(word: &[u8]) -> bool
     ensures { result ≡ is_sized_word word.now }
 {
-    is_same_word(word, b"decimal") || is_same_word(word, b"numeric")
+    is_decimal_word(word) || is_text_word(word)
 }
 
 /// The piece of a name, with an opening bracket if one follows directly that is not one of sizes.

@@ -1,12 +1,16 @@
-//! Names of types with sizes: `decimal(12, 2)`.
+//! Names of types with sizes: `decimal(12, 2)`, `varchar(12)`.
 ghost use Rattle.std.specs.Prelude.{◌≡◌, ◌<◌, ◌≤◌, length, option_map, IfSome};
 ghost use Rattle.vortex_syntax.specs.declared.pieces.Run.TheVariants.{Word};
 ghost use Rattle.vortex_syntax.specs.Pieces.{piece_in, front, behind, behind_size, behind_close};
 ghost use Rattle.vortex_syntax.specs.Pieces.{behind_last, behind_sizes, sizes_at, behind_sized};
 ghost use Rattle.vortex_syntax.specs.Pieces.{sized_or_word};
-ghost use Rattle.vortex_syntax.specs.SizeDigits.{size_digits, scale_digits, digits_in, sizes_of};
+ghost use Rattle.std.specs.List.{list_any};
+ghost use Rattle.vortex_syntax.specs.SizeDigits.{size_digits, scale_digits, digits_in, all_sizes};
+ghost use Rattle.vortex_syntax.specs.SizeDigits.{is_text_name, is_comma, sizes_of, text_size_of};
 
-use crate::pieces::{Piece, Run, begins_digits, is_sized_word, split_run, word_before};
+use crate::pieces::{
+    Piece, Run, begins_digits, is_sized_word, is_text_word, split_run, word_before,
+};
 use crate::token::Token;
 
 /// What follows digits, with blanks round them.
@@ -111,14 +115,51 @@ fn digits_in(text: &[u8]) -> Option<(&[u8], &[u8])>
     }
 }
 
-/// The digits of precision and scale in the name of a type, as written: `NUMERIC( 12, 2 )` has 12
-/// and 2, `decimal(5)` has 5 and 0. None in other names.
-pub fn sizes_of(name: &[u8]) -> Option<(&[u8], &[u8])>
-    ensures { option_map (λ x. (x.0.now, x.1.now)) result ≡ sizes_of name.now }
+/// The digits of the sizes in the name of a type, as written.
+fn all_sizes(name: &[u8]) -> Option<(&[u8], &[u8])>
+    ensures { option_map (λ x. (x.0.now, x.1.now)) result ≡ all_sizes name.now }
 {
     let (word, behind) = split_run(Run::Word, name);
     match sizes_at(word, behind) {
         Some([]) => digits_in(behind),
         _ => None,
+    }
+}
+
+fn is_text_name(name: &[u8]) -> bool
+    ensures { result ≡ is_text_name name.now }
+{
+    is_text_word(split_run(Run::Word, name).0)
+}
+
+/// The digits of precision and scale in the name of a type, as written: `NUMERIC( 12, 2 )` has 12
+/// and 2, `decimal(5)` has 5 and 0. None in other names.
+pub fn sizes_of(name: &[u8]) -> Option<(&[u8], &[u8])>
+    ensures { option_map (λ x. (x.0.now, x.1.now)) result ≡ sizes_of name.now }
+{
+    if is_text_name(name) {
+        None
+    } else {
+        all_sizes(name)
+    }
+}
+
+fn has_comma(name: &[u8]) -> bool
+    ensures { result ≡ list_any is_comma name.now }
+{
+    name.iter().any(|byte| *byte == b',')
+}
+
+/// The digits of the only size in the name of a type of texts: `VARCHAR( 12 )` has 12. None in other
+/// names.
+pub fn text_size_of(name: &[u8]) -> Option<&[u8]>
+    ensures { option_map (λ digits. digits.now) result ≡ text_size_of name.now }
+{
+    if !is_text_name(name) || has_comma(name) {
+        return None;
+    }
+    match all_sizes(name) {
+        Some((digits, _)) => Some(digits),
+        None => None,
     }
 }

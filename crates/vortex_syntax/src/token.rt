@@ -60,7 +60,7 @@ pub enum Sign {
 /// A token, by its bytes in the text.
 #[derive(Clone, Copy, Debug, PartialEq, Eq)]
 pub enum Token<'a> {
-    /// A word that is no keyword; after `decimal` and `numeric` with sizes, as in `decimal(12, 2)`.
+    /// A word that is no keyword; after `decimal`, `numeric` and `varchar` with sizes, as in `decimal(12, 2)`.
     Name(&'a [u8]),
     /// A word with a question mark after it, which the bytes leave out.
     Nullable(&'a [u8]),

@@ -1,0 +1,46 @@
+//! Names that no function has, and that mean a call of one.
+ghost use Rattle.std.specs.Prelude.{◌≡◌, map, codes};
+ghost use Rattle.vortex_syntax.specs.Keywords.{same_word};
+ghost use Rattle.vortex_expressions.specs.Functions as specs;
+ghost use Rattle.vortex_expressions.specs.Items.{item_in};
+ghost use Rattle.vortex_expressions.specs.Answering.{Gives};
+
+use crate::functions::function_item;
+use crate::item::Item;
+use crate::kind_words::is_word;
+use crate::refusal::{BindStop, Refusal};
+use std::alloc::Global;
+use vortex_standard::Standard;
+
+/// The place of a text in another, which comes behind it.
+fn located(alloc: Global, items: Vec<Item>) -> Result<Item, BindStop>
+    ensures { Gives item_in result (specs.located (map item_in items.items)) }
+{
+    match items.as_slice() {
+        [part, text] => {
+            let turned = vec![in alloc; text.try_clone(alloc)?, part.try_clone(alloc)?]?;
+            function_item(alloc, Standard::StrPos, turned)
+        }
+        [] => function_item(alloc, Standard::StrPos, items),
+        [_] => function_item(alloc, Standard::StrPos, items),
+        [_, _, _, ..] => function_item(alloc, Standard::StrPos, items),
+    }
+}
+
+/// Whether the name is that of `strpos` with its arguments turned.
+pub(crate) fn is_locate(name: &[u8]) -> bool
+    ensures { result ≡ same_word name.now (codes "locate") }
+{
+    is_word(name, b"locate")
+}
+
+/// What a name means that no function has.
+pub(crate) fn unnamed_item(alloc: Global, name: &[u8], items: Vec<Item>) -> Result<Item, BindStop>
+    ensures { Gives item_in result (specs.unnamed_item name.now (map item_in items.items)) }
+{
+    if is_locate(name) {
+        located(alloc, items)
+    } else {
+        Err(BindStop::Refused(Refusal::NoFunction))
+    }
+}
