@@ -1,6 +1,7 @@
 -- The integers of the sides of a comparison of floats, and their orders.
 use Rattle.std.proofs.Common.{◌≡◌, ℕ, ◌+◌, ◌-◌, ◌<◌, ◌≤◌, ℤ, pos, Bool, List, length, map, take}
-use Rattle.std.proofs.Common.{drop, set, get_or, Option, Ok, Err, refl, subst, sym, ap, ◌∙◌, arith}
+use Rattle.std.proofs.Common.{drop, set, get_or, Option, Some, None, Ok, Err, refl, subst, sym, ap}
+use Rattle.std.proofs.Common.{◌∙◌, arith}
 use Rattle.std.proofs.Common.{below_more}
 use Rattle.std.specs.Bool.{⊤}
 use Rattle.std.specs.Ordering.{int_cmp}
@@ -15,6 +16,8 @@ use Rattle.vortex_types.specs.declared.dtype.PType.{PType}
 use Rattle.vortex_types.specs.Order.{compare_values}
 use Rattle.vortex_types.specs.Values.{number}
 use Rattle.vortex_columns.specs.ColumnView.{ColumnView, AreInts}
+use Rattle.vortex_bits.specs.Bits.{bit}
+use Rattle.vortex_operators.specs.OperatorValues.{holds}
 use Rattle.vortex_operators.specs.declared.operators.CompareOperator.{CompareOperator}
 use Rattle.vortex_kernels.specs.Comparison.{IsOrderAt, IsConstantOf, AreHeld, AreComparisons}
 use Rattle.vortex_kernels.specs.Numeric.{AreNumbers}
@@ -23,6 +26,7 @@ use Rattle.vortex_kernels.proofs.LaneWords.{row_of_part}
 use Rattle.vortex_arrow.specs.declared.column.ArrowColumn.{ArrowColumn}
 use Rattle.vortex_arrow.specs.Columns.{arrow_column}
 use Rattle.vortex_arrow.specs.Layouts.{numbers, layout_of}
+use Rattle.vortex_float_bits.specs.FloatBits.{wide_key}
 use Rattle.yurkije_lent.proofs.LentRows.{lent_numbers}
 
 -- one more integer is in its place
@@ -92,6 +96,31 @@ pub ok_holds : {A : Type 0} (r : Result A VortexError) (P : A → Type 0) (o : O
     → o ≡ result_ok r → AnswersUnlessMemory r P → IfSome o P
 ok_holds (Ok x) P o is h = subst (λ q. IfSome q P) (sym is) h
 ok_holds (Err e) P o is h = subst (λ q. IfSome q P) (sym is) tt
+
+-- the rows of two sides where the left one is patterns
+pub patterns_told : (op : CompareOperator) (o : Option ℕ) (xs : List ℤ) (at : ℕ)
+    (left right keys : ℕ → ℤ) → length xs ≡ 64
+    → ((j : ℕ) → j < 64 → get_or (map wide_key xs) j (pos 0) ≡ left (at + j))
+    → ((j : ℕ) → j < 64 → keys j ≡ right (at + j))
+    → IfSome o (λ word. (j : ℕ) → j < 64
+    → bit word j ≡ holds op (int_cmp (wide_key (get_or xs j (pos 0))) (keys j)))
+    → IfSome o (λ word. (j : ℕ) → j < 64
+    → bit word j ≡ holds op (int_cmp (left (at + j)) (right (at + j))))
+patterns_told op None xs at left right keys e lefts rights h = tt
+patterns_told op (Some word) xs at left right keys e lefts rights h = λ j lt.
+    h j lt
+    ∙ (λ i.
+    holds op
+    (int_cmp
+    ((sym (get_or-map wide_key xs j (pos 0) (pos 0) (omega (arith, e, lt))) ∙ lefts j lt) i)
+    (rights j lt i)))
+
+-- and the right one too
+pub pattern_keys : (ys : List ℤ) (at : ℕ) (right : ℕ → ℤ) → length ys ≡ 64
+    → ((j : ℕ) → j < 64 → get_or (map wide_key ys) j (pos 0) ≡ right (at + j))
+    → (j : ℕ) → j < 64 → wide_key (get_or ys j (pos 0)) ≡ right (at + j)
+pattern_keys ys at right e rights j lt =
+    sym (get_or-map wide_key ys j (pos 0) (pos 0) (omega (arith, e, lt))) ∙ rights j lt
 
 module _ {X : Type 0} (f : X → ℤ) (c : ArrowColumn) (p : PType) (xs : List X)
     (is : layout_of c.values ≡ numbers p (map f xs)) where

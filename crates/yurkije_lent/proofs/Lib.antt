@@ -3,7 +3,9 @@ pub mod Calculated
 pub mod CallRows
 pub mod Dropped
 pub mod FloatArithmetic
+pub mod FloatOrders
 pub mod FloatSides
+pub mod FloatWords
 pub mod Leaves
 pub mod LentRows
 pub mod NullTests

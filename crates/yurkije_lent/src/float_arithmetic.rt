@@ -5,7 +5,8 @@ ghost use Rattle.vortex_kernels.specs.Words.{AreNumbers};
 ghost use Rattle.vortex_sql_float_columns.specs.KeyedRows.{HasFloatRows};
 ghost use Rattle.yurkije_lent.specs.Operands.{operand_column};
 
-use crate::floats::{ListedPatterns, keys_that_lie, made_keys, one_key};
+use crate::float_lanes::ListedPatterns;
+use crate::floats::{keys_that_lie, made_keys, one_key};
 use crate::operand::Operand;
 use crate::validity::both_valid_in;
 use std::alloc::Global;

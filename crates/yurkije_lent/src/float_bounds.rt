@@ -4,9 +4,8 @@ ghost use Rattle.std.specs.Prelude.{◌≡◌, ◌<◌, IfSome, length, map, pos
 ghost use Rattle.vortex_kernels.specs.Words.{AreBounded, AreNumbers};
 ghost use Rattle.yurkije_lent.specs.Operands.{operand_column};
 
-use crate::floats::{
-    FloatLane, Lanes, ListedPatterns, SidePairs, keys_that_lie, made_keys, one_key,
-};
+use crate::float_lanes::{ComparedLane, Lanes, ListedPatterns};
+use crate::floats::{SidePairs, keys_that_lie, made_keys, one_key};
 use crate::operand::Operand;
 use std::alloc::Global;
 use std::marker::PhantomData;
@@ -17,7 +16,14 @@ use vortex_kernels::numbers::{ListedNumbers, OneNumber};
 
 /// Whether both comparisons are true in each row in which all three sides have a value. None where
 /// memory is refused.
-fn hold_in_keys<P: Comparison, Q: Comparison, T: FloatLane, X: Lanes<T>, L: Lanes<T>, U: Lanes<T>>(
+fn hold_in_keys<
+    P: Comparison,
+    Q: Comparison,
+    T: ComparedLane,
+    X: Lanes<T>,
+    L: Lanes<T>,
+    U: Lanes<T>,
+>(
     alloc: Global,
     left: X,
     low: L,
@@ -53,7 +59,7 @@ fn hold_in_keys<P: Comparison, Q: Comparison, T: FloatLane, X: Lanes<T>, L: Lane
 }
 
 /// The same; the form of the upper bounds is chosen before the rows. None for other forms too.
-fn hold_below<P: Comparison, Q: Comparison, T: FloatLane, X: Lanes<T>, L: Lanes<T>>(
+fn hold_below<P: Comparison, Q: Comparison, T: ComparedLane, X: Lanes<T>, L: Lanes<T>>(
     alloc: Global,
     left: X,
     low: L,
@@ -85,7 +91,7 @@ fn hold_below<P: Comparison, Q: Comparison, T: FloatLane, X: Lanes<T>, L: Lanes<
 }
 
 /// The same of floats of one width that are lent; the form of the lower bounds is chosen first.
-fn hold_in_width<P: Comparison, Q: Comparison, T: FloatLane>(
+fn hold_in_width<P: Comparison, Q: Comparison, T: ComparedLane>(
     alloc: Global,
     array: &Operand<'_>,
     lower: &Operand<'_>,

@@ -8,6 +8,8 @@ mod compare;
 mod execute;
 mod float_arithmetic;
 mod float_bounds;
+mod float_lanes;
+mod float_words;
 mod floats;
 mod integer_types;
 mod integers;
