@@ -1,6 +1,6 @@
 -- A walk whose next child is done at once, without a frame of its own.
-use Rattle.std.proofs.Common.{◌≡◌, ℕ, List, [], ◌∷◌, ◌++◌, length, take, Some, refl, arith}
-use Rattle.std.specs.Prelude.{slice_get}
+use Rattle.std.proofs.Common.{◌≡◌, ℕ, ◌<◌, ◌≤◌, List, [], ◌∷◌, ◌++◌, length, take, Some, refl, sym, arith}
+use Rattle.std.specs.Prelude.{get_or, slice_get}
 use Rattle.vortex_functions.specs.declared.walk.WalkFrame.{WalkFrame}
 use Rattle.vortex_functions.specs.Walks.{AllMean}
 use Rattle.vortex_functions.proofs.Chains.{Walking, chain_refuses, descended, risen}
@@ -30,3 +30,11 @@ pub no_children : {A P : Type 0} (means : A → P → Type 0) (ts : List A) → 
     → AllMean means ts []
 no_children means [] e = tt
 no_children means (t ∷ ts) e = absurd (omega (arith, e))
+
+-- a list of two items
+pub two_children : {A : Type 0} (ts : List A) (l r : A) → 2 ≤ length ts → length ts < 3
+    → l ≡ get_or ts 0 l → r ≡ get_or ts 1 r → ts ≡ l ∷ r ∷ []
+two_children [] l r two few e f = absurd (omega (arith, two))
+two_children (a ∷ []) l r two few e f = absurd (omega (arith, two))
+two_children (a ∷ b ∷ []) l r two few e f = λ i. sym e i ∷ sym f i ∷ []
+two_children (a ∷ b ∷ c ∷ ts) l r two few e f = absurd (omega (arith, few))

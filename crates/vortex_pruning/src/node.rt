@@ -72,30 +72,30 @@ fn called_range<'a, C: ScalarFnRanges>(
     alloc: Global,
     node: &BoundExpression<C>,
     function: &ScalarFnRef<C>,
-    inputs: Vec<Range<'a>>,
+    inputs: &[Range<'a>],
     statistics: &[Statistics],
     rows: u64,
 ) -> VortexResult<Range<'a>>
     requires called { called node.now ≡ Some (function_of function.now) }
     requires inputs { AllMean (λ t r. Knows C.meaning rows statistics.now t (range_of r))
-        (children_of node.now) inputs.items }
+        (children_of node.now) inputs.now }
     ensures { AnswersUnlessMemory result
         (λ r. Knows C.meaning rows statistics.now node.now (range_of r)) }
 {
-    let own = call_range(alloc, function, node.dtype(), &inputs)?;
-    Ok(with_faults(own, any_may_fault(&inputs)))
+    let own = call_range(alloc, function, node.dtype(), inputs)?;
+    Ok(with_faults(own, any_may_fault(inputs)))
 }
 
 /// The range of a node.
 pub(crate) fn node_range<'a, C: ScalarFnRanges>(
     alloc: Global,
     node: &'a BoundExpression<C>,
-    inputs: Vec<Range<'a>>,
+    inputs: &[Range<'a>],
     statistics: &'a [Statistics],
     rows: u64,
 ) -> VortexResult<Range<'a>>
     requires { AllMean (λ t r. Knows C.meaning rows statistics.now t (range_of r))
-        (children_of node.now) inputs.items }
+        (children_of node.now) inputs.now }
     ensures { AnswersRange C.meaning rows statistics.now node.now result }
 {
     match node.as_scalar() {

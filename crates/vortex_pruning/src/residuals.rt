@@ -173,7 +173,7 @@ fn node_residual<'a, C: ScalarFnRanges>(
 {
     let _typed = node.dtype();
     let ranges = ranges_in(alloc, &inputs)?;
-    let range = node_range(alloc, node, ranges, statistics, rows)?;
+    let range = node_range(alloc, node, &ranges, statistics, rows)?;
     if let Some(scalar) = sole_scalar(alloc, &range, node.dtype())? {
         let tree = BoundExpression::lit(alloc, scalar);
         return Ok(ResidualTree { tree, range });

@@ -1,17 +1,42 @@
 //! Trees over every row that statistics describe.
-ghost use Rattle.std.specs.Prelude.{◌≡◌};
+ghost use Rattle.std.specs.Prelude.{◌≡◌, IfSome};
 ghost use Rattle.vortex_errors.specs.Answers.{Answers};
-ghost use Rattle.vortex_pruning.specs.Knowing.{AnswersRange};
+ghost use Rattle.vortex_ranges.specs.BoundViews.{range_of};
+ghost use Rattle.vortex_pruning.specs.Knowing.{AnswersRange, Knows, RefusesLeaves};
 ghost use Rattle.vortex_pruning.specs.Pruning.{Prunes, RefusesPruning};
 
 use crate::functions::ScalarFnRanges;
 use crate::node::node_range;
 use crate::pruned::Pruned;
+use std::alloc::Global;
 use vortex_columns::{ExecutionCtx, MismatchPlace, VortexError, VortexResult};
 use vortex_functions::BoundExpression;
 use vortex_functions::walk::WalkFrame;
 use vortex_ranges::Range;
 use vortex_statistics::Statistics;
+
+/// The range of a leaf, or of a call of two leaves, which needs no frame, and no list on the heap.
+/// None for other nodes.
+fn near_range<'a, C: ScalarFnRanges>(
+    alloc: Global,
+    node: &'a BoundExpression<C>,
+    statistics: &'a [Statistics],
+    rows: u64,
+) -> VortexResult<Option<Range<'a>>>
+    ensures { Answers result
+        (λ o. IfSome o (λ r. Knows C.meaning rows statistics.now node.now (range_of r)))
+        (RefusesLeaves statistics.now node.now) }
+{
+    match node.children() {
+        [] => Ok(Some(node_range(alloc, node, &[], statistics, rows)?)),
+        [left, right] if left.children().is_empty() && right.children().is_empty() => {
+            let left = node_range(alloc, left, &[], statistics, rows)?;
+            let right = node_range(alloc, right, &[], statistics, rows)?;
+            Ok(Some(node_range(alloc, node, &[left, right], statistics, rows)?))
+        }
+        _ => Ok(None),
+    }
+}
 
 /// What is known of a tree of any type in each of so many rows, whatever columns the statistics
 /// describe, which stand in the places of the scope. E11 exactly where a leaf has no statistics in
@@ -35,9 +60,7 @@ pub fn ranges<'a, C: ScalarFnRanges>(
         let _ = step;
         if inputs.len() < node.children().len() {
             let child = node.child(inputs.len());
-            // a leaf needs no frame, and no list of its own
-            if child.children().len() == 0 {
-                let output = node_range(alloc, child, Vec::new(alloc), statistics, rows)?;
+            if let Some(output) = near_range(alloc, child, statistics, rows)? {
                 inputs.push(output)?;
                 continue;
             }
@@ -49,7 +72,7 @@ pub fn ranges<'a, C: ScalarFnRanges>(
             inputs = Vec::new(alloc);
             continue;
         }
-        let output = node_range(alloc, node, inputs, statistics, rows)?;
+        let output = node_range(alloc, node, &inputs, statistics, rows)?;
         let Some(parent) = above.pop() else {
             return Ok(output);
         };

@@ -1,6 +1,9 @@
 -- Casts of texts to dates, timestamps, floats and decimals. Spaces at their ends are passed over.
 use Rattle.std.specs.Prelude.{◌≡◌, ◌∷◌, ◌*ℤ◌, ℕ, ℤ, pos, [], List, Option, Some, None, codes, false}
-use Rattle.std.specs.Prelude.{get_or, option_and_then, refl}
+use Rattle.std.specs.Prelude.{Bool, ◌&&◌, if◌then◌else◌, get_or, nat_eq, option_and_then, refl}
+use Rattle.std.specs.Prelude.{unsigned_abs}
+use Rattle.std.specs.Char.{is_ascii_digit}
+use Rattle.std.specs.List.{list_any}
 use Rattle.std.specs.Option.{option_or}
 use Rattle.vortex_errors.specs.declared.arity.Arity.TheVariants.{Exact}
 use Rattle.vortex_types.specs.declared.dtype.PType.{PType}
@@ -8,6 +11,7 @@ use Rattle.vortex_types.specs.declared.dtype.PType.TheVariants.{I64}
 use Rattle.vortex_types.specs.LogicalTypes.{integer_type}
 use Rattle.vortex_types.specs.Values.{Value}
 use Rattle.vortex_interface.specs.Outcomes.{Outcome, GivesType}
+use Rattle.vortex_logical.specs.declared.kind.Kind.{Kind}
 use Rattle.vortex_logical.specs.declared.kind.Kind.TheVariants as kind
 use Rattle.vortex_logical.specs.Cells.{stored_of_text}
 use Rattle.vortex_logical.specs.Digits.{Digits}
@@ -25,19 +29,46 @@ use Rattle.vortex_sql_texts.specs.TextCasts.{in_type, within_spaces}
 use Rattle.vortex_sql_kind_texts.specs.declared.kinds.StoredKind.{StoredKind}
 use Rattle.vortex_sql_kind_texts.specs.declared.kinds.StoredKind.TheVariants.{Date, Timestamp, F64}
 use Rattle.vortex_sql_kind_texts.specs.declared.kinds.StoredKind.TheVariants.{F32}
-use Rattle.vortex_sql_kind_texts.specs.StoredKinds.{kind_of, ptype_of, fault_of}
+use Rattle.vortex_sql_kind_texts.specs.StoredKinds.{ptype_of, fault_of}
 use Rattle.vortex_sql_kind_texts.specs.StoredRows.{on_taken, digits_in}
 
 -- the microseconds of a day's midnight, if 64 bits hold them
 abbrev pub midnight : ℤ → Option ℤ
 midnight z = checked I64 (z *ℤ pos 86_400_000_000)
 
--- the stored integer of a text; a date alone is the timestamp of its midnight
+-- an infinity of a text with digits: no float holds that number
+abbrev pub is_past : ℕ → List ℕ → ℤ → Bool
+is_past infinity bs z = nat_eq (unsigned_abs z) infinity && list_any is_ascii_digit bs
+
+-- the stored float, unless no float holds the number
+abbrev pub held : ℕ → List ℕ → ℤ → Option ℤ
+held infinity bs z = if is_past infinity bs z then None else Some z
+
+abbrev pub past_if : ℕ → List ℕ → Option ℤ → Bool
+past_if infinity bs None = false
+past_if infinity bs (Some z) = is_past infinity bs z
+
+abbrev pub is_read_past : Kind → ℕ → List ℕ → Bool
+is_read_past k infinity bs = past_if infinity bs (stored_of_text k bs)
+
+-- the text is a number so large that it would be rounded to an infinity of the kind
+abbrev pub overflows : Kind → List ℕ → Bool
+overflows kind.F64 bs = is_read_past kind.F64 9_218_868_437_227_405_312 bs
+overflows kind.F32 bs = is_read_past kind.F32 2_139_095_040 bs
+overflows k bs = false
+
+abbrev pub float_of : Kind → ℕ → List ℕ → Option ℤ
+float_of k infinity bs = option_and_then (held infinity bs) (stored_of_text k bs)
+
+-- the stored integer of a text; a date alone is the timestamp of its midnight, and the infinities of
+-- floats are stored as their patterns and these negated
 abbrev pub stored_of : StoredKind → List ℕ → Option ℤ
 stored_of Timestamp bs =
     option_or (option_and_then midnight (stored_of_text kind.Date bs))
     (stored_of_text kind.Timestamp bs)
-stored_of k bs = stored_of_text (kind_of k) bs
+stored_of Date bs = stored_of_text kind.Date bs
+stored_of F64 bs = float_of kind.F64 9_218_868_437_227_405_312 bs
+stored_of F32 bs = float_of kind.F32 2_139_095_040 bs
 
 -- the number that the type has, or the fault
 abbrev pub stored_or_fault : RowFault → PType → Option ℤ → Outcome

@@ -1,5 +1,7 @@
 //! Casts of texts to dates, timestamps, floats and decimals. Spaces at their ends are passed over.
 ghost use Rattle.std.specs.Prelude.{◌≡◌, option_and_then};
+ghost use Rattle.std.specs.Char.{is_ascii_digit};
+ghost use Rattle.std.specs.List.{list_any};
 ghost use Rattle.vortex_columns.specs.Cells.{cell_value};
 ghost use Rattle.vortex_logical.specs.Cells.{stored_of_text};
 ghost use Rattle.vortex_logical.specs.declared.kind.Kind.TheVariants as kind;
@@ -23,7 +25,8 @@ use vortex_sql_texts::text_casts::within_spaces;
 
 /// A cast of a text to the integer that stands for a date, a timestamp or a float, with a fault
 /// where it is none: a date is `YYYY-MM-DD`, a timestamp as `vortex_logical` reads it or a date
-/// alone, which is its midnight, a float a decimal number, rounded once.
+/// alone, which is its midnight, a float a decimal number, rounded once, or `nan`, `inf` or
+/// `infinity`; a number so large that it would be rounded to an infinity is no float.
 #[derive(Clone, Copy, Debug, PartialEq, Eq)]
 pub struct TextToKind {
     pub kind: StoredKind,
@@ -46,6 +49,56 @@ fn midnight_of(text: &[u8]) -> Option<i64>
     midnight(read_cell(Kind::Date, text)?)
 }
 
+fn has_digit(text: &[u8]) -> bool
+    ensures { result ≡ list_any is_ascii_digit text.now }
+{
+    text.iter().any(|byte| byte.is_ascii_digit())
+}
+
+/// Whether an infinity was read of a text with digits, whose number no float holds.
+fn is_past(infinity: u64, text: &[u8], number: i64) -> bool
+    ensures { result ≡ specs.is_past infinity text.now number }
+{
+    number.unsigned_abs() == infinity && has_digit(text)
+}
+
+/// The stored float, unless no float holds the number.
+fn held(infinity: u64, text: &[u8], number: i64) -> Option<i64>
+    ensures { result ≡ specs.held infinity text.now number }
+{
+    if is_past(infinity, text, number) {
+        None
+    } else {
+        Some(number)
+    }
+}
+
+fn is_read_past(kind: Kind, infinity: u64, text: &[u8]) -> bool
+    ensures { result ≡ specs.is_read_past kind infinity text.now }
+{
+    match read_cell(kind, text) {
+        Some(number) => is_past(infinity, text, number),
+        None => false,
+    }
+}
+
+/// Whether the text is a number so large that it would be rounded to an infinity of the kind.
+pub fn overflows(kind: Kind, text: &[u8]) -> bool
+    ensures { result ≡ specs.overflows kind text.now }
+{
+    match kind {
+        Kind::F64 => is_read_past(Kind::F64, 9_218_868_437_227_405_312, text),
+        Kind::F32 => is_read_past(Kind::F32, 2_139_095_040, text),
+        _ => false,
+    }
+}
+
+fn float_of(kind: Kind, infinity: u64, text: &[u8]) -> Option<i64>
+    ensures { result ≡ specs.float_of kind infinity text.now }
+{
+    held(infinity, text, read_cell(kind, text)?)
+}
+
 fn stored_of(stored: StoredKind, text: &[u8]) -> Option<i64>
     ensures { result ≡ specs.stored_of stored text.now }
 {
@@ -55,8 +108,8 @@ fn stored_of(stored: StoredKind, text: &[u8]) -> Option<i64>
             None => read_cell(Kind::Timestamp, text),
         },
         StoredKind::Date => read_cell(Kind::Date, text),
-        StoredKind::F64 => read_cell(Kind::F64, text),
-        StoredKind::F32 => read_cell(Kind::F32, text),
+        StoredKind::F64 => float_of(Kind::F64, 9_218_868_437_227_405_312, text),
+        StoredKind::F32 => float_of(Kind::F32, 2_139_095_040, text),
     }
 }
 

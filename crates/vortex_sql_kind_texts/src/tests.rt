@@ -29,7 +29,7 @@ fn is_text(answer: VortexResult<Option<String>>, expected: &str) -> bool {
 
 #[test]
 fn texts_are_values_of_kinds(rt: HostRuntime) {
-    let rows: [(StoredKind, &str, i128); 12] = [
+    let rows: [(StoredKind, &str, i128); 15] = [
         (StoredKind::Date, "2024-02-29", 19782),
         (StoredKind::Date, "\t 1969-12-31\n", -1),
         (StoredKind::Date, "0001-01-01", -719162),
@@ -46,6 +46,13 @@ fn texts_are_values_of_kinds(rt: HostRuntime) {
         (StoredKind::F64, "0.1", 4591870180066957722),
         (StoredKind::F32, "0.1", 1036831949),
         (StoredKind::F32, "-0.25 ", -1048576000),
+        (StoredKind::F64, " -Infinity", -9218868437227405312),
+        (
+            StoredKind::F64,
+            "1.7976931348623157e308",
+            9218868437227405311,
+        ),
+        (StoredKind::F32, "inf", 2139095040),
     ];
     for (kind, text, expected) in rows {
         let answer = TextToKind { kind }.answer(PType::I64, &[Cell::Text(text)]);
@@ -55,13 +62,16 @@ fn texts_are_values_of_kinds(rt: HostRuntime) {
 
 #[test]
 fn other_texts_are_faults_or_null(rt: HostRuntime) {
-    let rows: [(StoredKind, &str); 6] = [
+    let rows: [(StoredKind, &str); 9] = [
         (StoredKind::Date, "2023-02-29"),
         (StoredKind::Date, "2024-02-29 12:34:56"),
         (StoredKind::Date, "2024-2-9"),
         (StoredKind::Timestamp, "2024-02-29 25:00:00"),
         (StoredKind::F64, "1.5x"),
         (StoredKind::F32, ""),
+        (StoredKind::F64, "1e400"),
+        (StoredKind::F64, "-1.8e308"),
+        (StoredKind::F32, "1e39"),
     ];
     for (kind, text) in rows {
         let function = TextToKind { kind };

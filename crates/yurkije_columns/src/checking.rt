@@ -1,7 +1,9 @@
 //! The columns of a batch, checked where they lie.
-ghost use Rattle.std.specs.Prelude.{◌≡◌, ◌<◌, ◌+◌, ◌^◌, ◌↔◌, ℕ, IsTrue, MatchResult};
+ghost use Rattle.std.specs.Prelude.{◌≡◌, ◌<◌, ◌≤◌, ◌+◌, ◌*◌, ◌^◌, ◌↔◌, ℕ, IsTrue, MatchResult};
+ghost use Rattle.std.specs.Prelude.{length};
 ghost use Rattle.vortex_types.specs.TypeOf.{type_of, struct_fields};
-ghost use Rattle.vortex_arrow.specs.Columns.{IsWellFormed};
+ghost use Rattle.vortex_arrow.specs.Columns.{HasBitsFor, IsWellFormed};
+ghost use Rattle.vortex_arrow.specs.Layouts.{HasItems, layout_of};
 ghost use Rattle.vortex_arrow.specs.Refusals.{AreLongEnough, MayBeNulls, RefusesNull, TellsOf};
 ghost use Rattle.yurkije_columns.specs.Batches.{Serves, RefusesColumn, AllServe, RefusesBatch};
 ghost use Rattle.yurkije_columns.specs.Batches.{ServesIfRead, RefusesIfRead};
@@ -62,15 +64,64 @@ fn check_nulls(alloc: Global, column: &ArrowColumn<'_>) -> Result<(), ArrowError
     }
 }
 
-/// Refuses buffers that are too short: no row of them is read.
+/// Whether so many bits lie in the bytes.
+fn are_bits(bytes: &[u8], count: usize) -> bool
+    ensures { IsTrue result → count ≤ 8 * length bytes.now }
+{
+    if count % 8 == 0 {
+        count / 8 <= bytes.len()
+    } else {
+        count / 8 < bytes.len()
+    }
+}
+
+/// Whether the validity has a bit for each item before that one.
+fn has_bits(validity: Option<&[u8]>, end: usize) -> bool
+    ensures { IsTrue result → HasBitsFor validity.entry 0 end }
+{
+    match validity {
+        Some(bits) => are_bits(bits, end),
+        None => true,
+    }
+}
+
+/// Whether truth values or integers have each item before that one.
+fn has_items(values: &ArrowValues<'_>, end: usize) -> bool
+    ensures { IsTrue result → HasItems (layout_of values.now) 0 end }
+{
+    match values {
+        ArrowValues::Bool(bits) => are_bits(bits, end),
+        ArrowValues::Int8(items) => end <= items.len(),
+        ArrowValues::Int16(items) => end <= items.len(),
+        ArrowValues::Int32(items) => end <= items.len(),
+        ArrowValues::Int64(items) => end <= items.len(),
+        ArrowValues::UInt8(items) => end <= items.len(),
+        ArrowValues::UInt16(items) => end <= items.len(),
+        ArrowValues::UInt32(items) => end <= items.len(),
+        ArrowValues::UInt64(items) => end <= items.len(),
+        ArrowValues::Date(items) => end <= items.len(),
+        ArrowValues::Timestamp(items) => end <= items.len(),
+        ArrowValues::Decimal { values, .. } => end <= values.len(),
+        ArrowValues::Float64(patterns) => end <= patterns.len(),
+        ArrowValues::Float32(patterns) => end <= patterns.len(),
+        _ => false,
+    }
+}
+
+/// Refuses buffers that are too short: no row of them is read. Where they are long enough, no column
+/// of no rows is made to say so.
 fn check_end(alloc: Global, column: &ArrowColumn<'_>) -> Result<(), ArrowError>
     requires { IsFlat column.now }
     ensures { MatchResult result (λ _. AreLongEnough column.now) (TellsOf column.now) }
 {
+    let end = column.offset + column.length;
+    if has_bits(column.validity, end) && has_items(&column.values, end) {
+        return Ok(());
+    }
     let end = ArrowColumn {
         nullable: column.nullable,
         length: 0,
-        offset: column.offset + column.length,
+        offset: end,
         validity: column.validity,
         values: column.values,
     };

@@ -19,14 +19,8 @@ returns g c =
     let f = function_of c.args.function.now in
     let k = type_of c.dtype.result.now in
     let own = range_of c.in_ok-own.own in
-    let faulty = c.any_may_fault.ensures
-    ∙ ap (λ (rs : List Range). list_any (λ (r : Range). r.may_fault) rs) c.deref-2.ensures.value in
-    let admits = subst (λ (rs : List Range).
-    AdmitsCalls (function_type m f) (function_means m f) k (map range_of rs) own)
-    c.deref.ensures.value c.in_ok-own.ensures.admits in
-    let shape = subst (λ (rs : List Range). IsCallRange f k (map range_of rs) own)
-    c.deref.ensures.value c.in_ok-own.ensures.shape in
     subst (λ r. Knows m n ss t r)
-    (sym (c.with_faults.ensures ∙ ap (λ b. with_faults b own) faulty))
-    (called_known m n ss g.met.C.ScalarFnVTable.lawful f k c.args.inputs.items own admits shape t
+    (sym (c.with_faults.ensures ∙ ap (λ b. with_faults b own) c.any_may_fault.ensures))
+    (called_known m n ss g.met.C.ScalarFnVTable.lawful f k c.args.inputs.now own
+    c.in_ok-own.ensures.admits c.in_ok-own.ensures.shape t
     c.requires.called c.dtype.ensures.dtype c.dtype.ensures.typed c.requires.inputs)

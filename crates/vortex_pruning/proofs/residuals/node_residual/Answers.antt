@@ -22,7 +22,8 @@ node_range-requires g c =
     let n = c.args.rows in
     let t = c.args.node.now in
     subst (λ (rs : List Range). AllMean (λ t r. Knows m n ss t (range_of r)) (children_of t) rs)
-    (sym (c.in_ok-ranges.ensures ∙ ap (map (λ r. r.range)) c.deref.ensures.value))
+    (sym (c.deref-2.ensures.value ∙ c.in_ok-ranges.ensures
+    ∙ ap (map (λ r. r.range)) c.deref.ensures.value))
     (ranges_known m n ss (children_of t) c.args.inputs.items c.requires)
 
 pub returns-in-Some : goal.returns-in-Some
@@ -48,7 +49,7 @@ over_children-requires g c =
     let n = c.args.rows in
     let t = c.args.node.now in
     subst (λ us. IsSome (tree_type m (with_children t us)))
-    (sym (c.in_ok-children.ensures ∙ ap (map (λ r. r.tree)) c.deref-2.ensures.value))
+    (sym (c.in_ok-children.ensures ∙ ap (map (λ r. r.tree)) c.deref-3.ensures.value))
     (still_typed m n ss t c.args.inputs.items (type_of c.dtype-typed.result.now) c.requires
     c.dtype-typed.ensures.dtype)
 
@@ -64,7 +65,7 @@ returns g c =
     subst (λ (o : Option ScalarView). MatchOption o ((v : Value) → ¬ IsSettledTo k r v)
     (λ s. (s.dtype ≡ k) × (sole_value r ≡ Some s.value))) c.in_default.is c.in_ok-scalar.ensures in
     let made = c.in_ok-tree.ensures ∙ ap (with_children t)
-    (c.in_ok-children.ensures ∙ ap (map (λ r. r.tree)) c.deref-2.ensures.value) in
+    (c.in_ok-children.ensures ∙ ap (map (λ r. r.tree)) c.deref-3.ensures.value) in
     subst (λ u. Leaves m n ss t u r) (sym made)
     (over_left m n ss t c.args.inputs.items r c.requires c.in_ok-range.ensures
     (leaves_more m n ss t r k c.dtype.ensures.dtype none))
