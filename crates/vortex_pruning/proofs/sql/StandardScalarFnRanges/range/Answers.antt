@@ -8,6 +8,7 @@ use Rattle.vortex_sql_choices.specs.Coalesce.{coalesce_row}
 use Rattle.vortex_sql_choices.specs.Distinct.{distinct_row}
 use Rattle.vortex_sql_choices.specs.InList.{in_list_row}
 use Rattle.vortex_sql_choices.specs.TruthTests.{test_row}
+use Rattle.vortex_sql_dates.specs.Parts.{date_part_row, timestamp_part_row}
 use Rattle.vortex_sql_numbers.specs.Casts.{widen_row}
 use Rattle.vortex_sql_dates.specs.Casts.{beginning_row, day_row}
 use Rattle.vortex_sql_dates.specs.Truncations.{date_trunc_row, timestamp_trunc_row}
@@ -96,3 +97,21 @@ returns-in-TimestampTrunc c =
     let u = c.in-TimestampTrunc.function.unit in
     subst (λ (f : Standard). Fits (row_of f) t rs r) (sym c.in-TimestampTrunc.is)
     (subst (λ (x : RangeView). Fits (timestamp_trunc_row u) t rs x) (sym c.monotone_range-in-TimestampTrunc.ensures) (dates_admitted.timestamp_truncations u t rs))
+
+pub returns-in-DatePart : goal.returns-in-DatePart
+returns-in-DatePart c =
+    let t = type_of c.args.dtype.now in
+    let rs = map range_of c.args.inputs.now in
+    let r = range_of c.monotone_range-in-DatePart.result in
+    let p = c.in-DatePart.function.part in
+    subst (λ (f : Standard). Fits (row_of f) t rs r) (sym c.in-DatePart.is)
+    (subst (λ (x : RangeView). Fits (date_part_row p) t rs x) (sym c.monotone_range-in-DatePart.ensures) (dates_admitted.date_parts p (sym c.if-is_monotone.ensures) t rs))
+
+pub returns-in-TimestampPart : goal.returns-in-TimestampPart
+returns-in-TimestampPart c =
+    let t = type_of c.args.dtype.now in
+    let rs = map range_of c.args.inputs.now in
+    let r = range_of c.monotone_range-in-TimestampPart.result in
+    let p = c.in-TimestampPart.function.part in
+    subst (λ (f : Standard). Fits (row_of f) t rs r) (sym c.in-TimestampPart.is)
+    (subst (λ (x : RangeView). Fits (timestamp_part_row p) t rs x) (sym c.monotone_range-in-TimestampPart.ensures) (dates_admitted.timestamp_parts p (sym c.if-is_monotone-2.ensures) t rs))
