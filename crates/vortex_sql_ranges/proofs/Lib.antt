@@ -3,4 +3,10 @@ pub mod DistinctAdmits
 pub mod TestsAdmit
 pub mod EitherEnds
 pub mod ChoicesAdmit
+pub mod Steps
+pub mod NextDays
+pub mod PartsRise
+pub mod TruncationsRise
+pub mod MonotoneAdmits
+pub mod DatesAdmitted
 pub mod Admitted

@@ -1,4 +1,5 @@
-//! The laws of the ranges. The function is empty: its contract is the laws, proved.
+//! The laws of the ranges. The functions are empty: their contracts are the laws, proved.
+ghost use Rattle.vortex_sql_ranges.specs.DatesSound.{AdmitDates};
 ghost use Rattle.vortex_sql_ranges.specs.Sound.{AdmitSql};
 
 /// The range of a call admits its outcome, whatever arguments the ranges of these admit: of IN, IS
@@ -7,4 +8,11 @@ ghost use Rattle.vortex_sql_ranges.specs.Sound.{AdmitSql};
 #[tactic(auto, using(crate::proofs::Admitted::sql_admitted))]
 pub fn calls_are_admitted()
     ensures { AdmitSql }
+{}
+
+/// So do the ranges of years and seconds of dates and timestamps, of their truncations, and of casts
+/// between them.
+#[tactic(auto, using(crate::proofs::DatesAdmitted::dates_admitted))]
+pub fn dates_are_admitted()
+    ensures { AdmitDates }
 {}
