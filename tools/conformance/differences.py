@@ -28,7 +28,6 @@ ASKED = [
     "yes + 1",
     "one + 2.5",
     "abs(null)",
-    ("'abc'::varchar(0)", "'abc'::varchar(0)", "cast('abc' as varchar(0))"),
     "One = 1",
     "yes = not yes",
     "one < 2 = yes",
