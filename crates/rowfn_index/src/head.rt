@@ -1,4 +1,5 @@
 //! What an index says of its file as a whole.
+ghost use Rattle.rowfn_index.specs.Heads.{IsIndexFormat};
 
 use rowfn_csv::Format;
 use std::alloc::{AllocError, Global};
@@ -34,7 +35,9 @@ pub struct IndexHead {
 }
 
 /// How the fields of an index are written.
-pub(crate) fn index_format() -> Format<'static> {
+pub(crate) fn index_format() -> Format<'static>
+    ensures { IsIndexFormat result }
+{
     Format {
         delimiter: b',',
         output_delimiter: b',',
