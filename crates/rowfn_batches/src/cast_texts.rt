@@ -79,7 +79,14 @@ impl BatchTask<'_> {
         let start = row.checked_mul(program.scope.len())?;
         let end = start.checked_add(program.scope.len())?;
         let fields = fields.get(start..end)?;
-        read_columns(self.alloc, &program.scope, program.kinds.as_slice(), fields, 1).ok()
+        read_columns(
+            self.alloc,
+            &program.scope,
+            program.kinds.as_slice(),
+            fields,
+            1,
+        )
+        .ok()
     }
 
     /// The text that a cast cannot read, if the fault of an answer in that row is one of a cast of a

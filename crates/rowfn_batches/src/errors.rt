@@ -3,8 +3,7 @@
 use crate::messages::{message_bytes, message_text, write_bytes, write_cast, write_error};
 use rowfn_csv::RecordError;
 use std::alloc::{AllocError, AllocFailed};
-use std::fmt;
-use std::{io, str};
+use std::{fmt, io, str};
 use vortex_columns::{DType, VortexError};
 use vortex_logical::kind::Kind;
 

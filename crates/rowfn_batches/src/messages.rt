@@ -5,7 +5,10 @@ use vortex_columns::VortexError;
 use vortex_standard::ErrorText;
 
 /// Writes an error's number and its name, and what the fault of a function of SQL is.
-pub(crate) fn write_error<W: fmt::Write>(f: &mut fmt::Formatter<W>, error: &VortexError) -> fmt::Result {
+pub(crate) fn write_error<W: fmt::Write>(
+    f: &mut fmt::Formatter<W>,
+    error: &VortexError,
+) -> fmt::Result {
     let (number, name) = (error.number(), error.name());
     write!(f, "E{number} {name}")?;
     match ErrorText::new(error).text() {
@@ -30,7 +33,10 @@ pub(crate) fn write_cast<W: fmt::Write>(
     let (reported, is_cut) = message_text(text);
     let cut = if is_cut { ".." } else { "" };
     let reason = cast_reason(error).unwrap_or("is not read");
-    write!(f, "E{number} {name}: {reported:?}{cut} {reason} (try_cast is null there)")
+    write!(
+        f,
+        "E{number} {name}: {reported:?}{cut} {reason} (try_cast is null there)"
+    )
 }
 
 /// Writes bytes that are no UTF-8, those beyond plain ASCII by their numbers.

@@ -52,8 +52,8 @@ pub struct MixedColumn {
     pub text: String,
     /// Whether that field is a text for null, which is none in its quotes.
     pub is_quoted_null: bool,
-    /// Whether the column is probably not meant to be text: that field is one for null, or is what
-    /// other programs write for it, or more fields than not are of the kind.
+    /// Whether the column is probably not meant to be text: that field is what other programs write
+    /// for null, or more fields than not are of the kind, without quoted texts for null.
     pub is_meant: bool,
 }
 
@@ -158,12 +158,13 @@ struct OtherField<'b> {
     /// Its row, counted from 0.
     row: usize,
     text: &'b [u8],
-    /// Whether more fields than not are of the kind.
+    /// Whether more fields than not are of the kind, without quoted texts for null.
     is_mostly: bool,
 }
 
 /// The first field of a column that is none of the kind; none where no field is one.
 fn first_text<'b>(
+    format: &Format<'_>,
     shape: Shape,
     fields: &[Option<&'b [u8]>],
     width: usize,
@@ -174,7 +175,7 @@ fn first_text<'b>(
     requires even { length fields.now ≡ width * row_count }
 {
     let mut first = None;
-    let (mut values, mut others) = (0usize, 0usize);
+    let (mut values, mut others) = (0u64, 0u64);
     for row in 0..row_count {
         let Some(text) = fields[row * width + column] else {
             continue;
@@ -183,7 +184,9 @@ fn first_text<'b>(
             values = values.saturating_add(1);
             continue;
         }
-        others = others.saturating_add(1);
+        if !format.is_null_text(text) {
+            others = others.saturating_add(1);
+        }
         if first.is_none() {
             first = Some((row, text));
         }
@@ -202,6 +205,7 @@ fn first_text<'b>(
 
 /// That of the first kind of which some field of the column is.
 fn mixed_field<'b>(
+    format: &Format<'_>,
     fields: &[Option<&'b [u8]>],
     width: usize,
     row_count: usize,
@@ -211,7 +215,7 @@ fn mixed_field<'b>(
     requires even { length fields.now ≡ width * row_count }
 {
     for shape in [Shape::Number, Shape::Date, Shape::Timestamp] {
-        if let Some(found) = first_text(shape, fields, width, row_count, column) {
+        if let Some(found) = first_text(format, shape, fields, width, row_count, column) {
             return Some((shape, found));
         }
     }
@@ -253,7 +257,7 @@ pub(crate) fn mixed_columns(
         if !is_text(types, names[column].as_str()) {
             continue;
         }
-        let found = mixed_field(fields, names.len(), numbers.len(), column);
+        let found = mixed_field(format, fields, names.len(), numbers.len(), column);
         let Some((shape, found)) = found else {
             continue;
         };
@@ -263,10 +267,8 @@ pub(crate) fn mixed_columns(
         let (name, text) = (names[column].as_str(), reported(text));
         let row = numbers.get(found.row).copied().unwrap_or(0);
         let is_quoted = format.is_null_text(found.text);
-        let is_meant = found.is_mostly || is_quoted || is_null_text(text);
-        columns.push(MixedColumn::new(
-            alloc, name, shape, row, text, is_quoted, is_meant,
-        )?)?;
+        let is_meant = found.is_mostly || is_null_text(text);
+        columns.push(MixedColumn::new(alloc, name, shape, row, text, is_quoted, is_meant)?)?;
     }
     Ok(columns)
 }
