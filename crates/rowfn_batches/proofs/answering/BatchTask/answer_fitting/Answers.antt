@@ -30,7 +30,7 @@ returns-in-Err-Fault-clause-ends c =
       found.row,
       _,
       at_fault c.args.columns.now found.answer found.error
-          (end.Fault c.number_of.result found.error c.cast_text.result) refl c.requires faulty (c.number_of.ensures, refl),
+          (end.Fault c.number_of.result found.error c.cast_text-text.result) refl c.requires faulty (c.number_of.ensures, refl),
       h,
     ))
     c.answer_faultless.ensures.ends
