@@ -18,7 +18,7 @@ use vortex_columns::{Column, NumericOperator, PType};
 use vortex_kernels::arithmetic_integer::ArithmeticInteger;
 use vortex_kernels::constant_operand::bounded_products;
 use vortex_kernels::numbers::{ListedNumbers, Numbers, OneNumber};
-use vortex_kernels::numeric::checked_rows;
+use vortex_kernels::checked_loops::faultless_rows;
 use vortex_kernels::products::VectorMul;
 use vortex_kernels::row_operation::{RowOperation, WideMul};
 
@@ -41,10 +41,9 @@ fn numeric_rows<T: ArithmeticInteger, O: RowOperation<T>, L: Numbers<T>, R: Numb
     ensures { IfSome result
         (HasExactRows O.exact (operand_column lhs.now) (operand_column rhs.now)) }
 {
-    let (values, may_fault) = checked_rows::<T, O, L, R>(alloc, left, right, lhs.len()).ok()?;
-    if may_fault {
+    let Ok(Some(values)) = faultless_rows::<T, O, L, R>(alloc, left, right, lhs.len()) else {
         return None;
-    }
+    };
     let validity = both_valid_in(alloc, lhs, rhs)?;
     Column::try_primitive(alloc, values, validity).ok()
 }
