@@ -113,8 +113,10 @@ fn replace_field(
     ensures { MatchResult result (λ _. statistics.new ≡ field_in group rows field.now)
         (RefusesField field.now number group rows) }
 {
-    let (Ok(low), Ok(high)) = (end_at(alloc, &field.low, group), end_at(alloc, &field.high, group))
-    else {
+    let Ok(low) = end_at(alloc, &field.low, group) else {
+        return Err(GroupError::Refused(VortexError::OutOfMemory));
+    };
+    let Ok(high) = end_at(alloc, &field.high, group) else {
         return Err(GroupError::Refused(VortexError::OutOfMemory));
     };
     let nulls = count_at(&field.nulls, group);
