@@ -41,9 +41,8 @@ fn numeric_rows<T: ArithmeticInteger, O: RowOperation<T>, L: Numbers<T>, R: Numb
     ensures { IfSome result
         (HasExactRows O.exact (operand_column lhs.now) (operand_column rhs.now)) }
 {
-    let Ok(Some(values)) = faultless_rows::<T, O, L, R>(alloc, left, right, lhs.len()) else {
-        return None;
-    };
+    let made = faultless_rows::<T, O, L, R>(alloc, left, right, lhs.len()).ok()?;
+    let values = made?;
     let validity = both_valid_in(alloc, lhs, rhs)?;
     Column::try_primitive(alloc, values, validity).ok()
 }
