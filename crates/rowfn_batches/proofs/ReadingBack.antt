@@ -10,7 +10,7 @@ use Rattle.vortex_interface.specs.CallTexts.{joined}
 use Rattle.vortex_program.specs.declared.answer.Answer.{Answer}
 use Rattle.rowfn_csv.specs.declared.format.Format.{Format}
 use Rattle.rowfn_csv.specs.Fields.{text_field}
-use Rattle.rowfn_csv.specs.RoundTrip.{cell_field, fields_line, SaysCells}
+use Rattle.rowfn_csv.specs.RoundTrip.{cell_field, cell_read, fields_line, SaysCells}
 use Rattle.rowfn_csv.proofs.RoundTrip.{cells_read_back}
 use Rattle.rowfn_batches.specs.Names.{names_of, AreApart}
 use Rattle.rowfn_batches.specs.Outputs.{row_fields, value_field, separator}
@@ -86,7 +86,8 @@ rows_read_back format answers i can some =
       line = joined (separator format) (row_fields format answers i);
       ended = refl;
       says = subst
-          (λ (fs : List (List ℕ)). SaysCells format (fields_line format.output_delimiter fs) (row_cells answers i))
+          (λ (fs : List (List ℕ)). SaysCells format (fields_line format.output_delimiter fs)
+          (map (cell_read format) (row_cells answers i)))
           (sym (fields_are format i answers))
           (cells_read_back format (row_cells answers i) can (some_cells format i answers some));
     }

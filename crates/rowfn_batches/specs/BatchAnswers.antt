@@ -52,9 +52,9 @@ module _ (number : ℕ → ℕ) (row : ℕ) where
       × (type_of dtype ≡ field_type j ds) × (field_told field ≡ f)
   TellsMisfit ds ks j f e = ⊥
 
-  -- the fault of that row
+  -- the fault of that row, with whatever text
   abbrev pub TellsFault : VortexError → StreamError → Type 0
-  TellsFault fault (end.Fault told error) = (told ≡ number row) × (error ≡ fault)
+  TellsFault fault (end.Fault told error text) = (told ≡ number row) × (error ≡ fault)
   TellsFault fault e = ⊥
 
   -- the value of that row that has no text, by its answer's name and kind

@@ -12,7 +12,7 @@ read_ending read.OutOfMemory = end.OutOfMemory
 -- 1 for a fault of an answer, 2 for input that does not fit, 3 for reading, writing and memory, 4 for
 -- names or answers that cannot be written
 abbrev pub status_of : StreamError → ℕ
-status_of (end.Fault row e) = 1
+status_of (end.Fault row e text) = 1
 status_of (end.Refused e) = 1
 status_of (end.NoText row name kind) = 1
 status_of (end.Misfit row column kind dtype field) = 2
@@ -34,7 +34,7 @@ status_of end.OutOfMemory = 3
 
 -- the number of the row that is refused, where one is
 abbrev pub row_told : StreamError → Option ℕ
-row_told (end.Fault row e) = Some row
+row_told (end.Fault row e text) = Some row
 row_told (end.NoText row name kind) = Some row
 row_told (end.Misfit row column kind dtype field) = Some row
 row_told (end.Width row wanted found) = Some row

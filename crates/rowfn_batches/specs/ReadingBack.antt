@@ -10,7 +10,7 @@ use Rattle.vortex_standard.specs.Standard.{standard_meaning}
 use Rattle.vortex_program.specs.declared.answer.Answer.{Answer}
 use Rattle.rowfn_csv.specs.declared.format.Format.{Format}
 use Rattle.rowfn_batches.specs.declared.settings.Settings.{Settings}
-use Rattle.rowfn_csv.specs.RoundTrip.{CanReadBack, SaysCells}
+use Rattle.rowfn_csv.specs.RoundTrip.{CanReadBack, SaysCells, cell_read}
 use Rattle.rowfn_batches.specs.Names.{names_of, AreApart, RefusesNames}
 use Rattle.rowfn_batches.specs.Outputs.{row_line}
 use Rattle.rowfn_batches.specs.Printing.{field_text}
@@ -63,13 +63,13 @@ cell_of v = if is_null v then None else Some (field_text v)
 abbrev pub row_cells : List ColumnView → ℕ → List (Option (List ℕ))
 row_cells answers i = map (λ c. cell_of (row c.rows i)) answers
 
--- the line of a row, without its end, says the row's cells
+-- the line of a row, without its end, says the row's cells, as they are read
 pub record RowSaysCells (format : Format) (answers : List ColumnView) (i : ℕ) : Type 0 where
   pub line : List ℕ
   pub ended : row_line format answers i ≡ line ++ (10 ∷ [])
-  pub says : SaysCells format line (row_cells answers i)
+  pub says : SaysCells format line (map (cell_read format) (row_cells answers i))
 
--- rows that are written say their cells
+-- rows that are written are read as their cells, but for texts that are null in quotes too
 abbrev pub RowsReadBack : Type 0
 RowsReadBack =
     (format : Format) (answers : List ColumnView) (i : ℕ) → CanReadBack format → answers ≢ []

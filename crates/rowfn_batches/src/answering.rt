@@ -240,10 +240,12 @@ impl BatchTask<'_> {
     {
         match self.asked.program.run(self.alloc, columns, row_count) {
             Ok(values) => self.answer_values(fields, values, row_count, error),
-            Err(RunError::Fault { row, error, .. }) => {
+            Err(RunError::Fault { row, answer, error }) => {
+                let text = self.cast_text(fields, row, answer, &error);
                 let fault = StreamError::Fault {
                     row: self.number_of(row),
                     error,
+                    text,
                 };
                 self.answer_faultless(fields, row, Some(fault))
             }

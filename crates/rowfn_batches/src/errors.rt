@@ -1,20 +1,21 @@
 //! What ends a stream, with its status and its text.
 
+use crate::messages::{message_bytes, message_text, write_bytes, write_cast, write_error};
 use rowfn_csv::RecordError;
 use std::alloc::{AllocError, AllocFailed};
-use std::fmt::{self, Write};
-use std::{io, str};
+use std::{fmt, io, str};
 use vortex_columns::{DType, VortexError};
 use vortex_logical::kind::Kind;
-use vortex_standard::ErrorText;
 
 /// What ends a stream before the end of its input. Records are counted from 1, without the header.
 #[derive(Drop)]
 pub enum StreamError {
-    /// A call of an answer faults in a row.
+    /// A call of an answer faults in a row; of a cast with the text that it cannot read, if that is
+    /// known.
     Fault {
         row: u64,
         error: VortexError,
+        text: Option<String>,
     },
     /// A call of an answer is refused, whatever the row.
     Refused(VortexError),
@@ -218,50 +219,9 @@ fn write_encoding<W: fmt::Write>(
     }
 }
 
-/// Writes an error's number and its name, and what the fault of a function of SQL is.
-fn write_error<W: fmt::Write>(f: &mut fmt::Formatter<W>, error: &VortexError) -> fmt::Result {
-    let (number, name) = (error.number(), error.name());
-    write!(f, "E{number} {name}")?;
-    match ErrorText::new(error).text() {
-        Some(text) => write!(f, ": {text}"),
-        None => Ok(()),
-    }
-}
-
 /// Writes that a field is longer than a limit.
 fn write_too_long<W: fmt::Write>(f: &mut fmt::Formatter<W>, limit: usize) -> fmt::Result {
     write!(f, "a field has more bytes than the {limit} of --max-field")
-}
-
-/// Writes bytes that are no UTF-8, those beyond plain ASCII by their numbers.
-pub(crate) fn write_bytes<W: fmt::Write>(f: &mut fmt::Formatter<W>, bytes: &[u8]) -> fmt::Result {
-    for byte in bytes {
-        if byte.is_ascii_graphic() && *byte != b'"' && *byte != b'\\' || *byte == b' ' {
-            f.write_char(char::from(*byte))?;
-        } else {
-            write!(f, "\\x{byte:02x}")?;
-        }
-    }
-    Ok(())
-}
-
-/// How much of a field is told: so many characters, or bytes where it is no text.
-const TOLD: usize = 80;
-
-/// What is told of a text: its beginning, and whether more stands behind that.
-pub(crate) fn message_text(text: &str) -> (&str, bool) {
-    match text.char_indices().nth(TOLD) {
-        None => (text, false),
-        Some((end, _)) => (text.get(..end).unwrap_or(""), true),
-    }
-}
-
-/// The same of bytes that are no text.
-pub(crate) fn message_bytes(bytes: &[u8]) -> (&[u8], bool) {
-    match bytes.get(..TOLD) {
-        None => (bytes, false),
-        Some(told) => (told, true),
-    }
 }
 
 /// Writes the beginning of a field in quotes, or that it is a null.
@@ -321,6 +281,14 @@ fn write_input<W: fmt::Write>(f: &mut fmt::Formatter<W>, error: &StreamError) ->
                 f,
                 "header: {found} fields, but column {name} is field {place}"
             )
+        }
+        StreamError::Fault {
+            row,
+            error,
+            text: Some(text),
+        } => {
+            write!(f, "row {row}: ")?;
+            write_cast(f, error, text.as_str())
         }
         StreamError::OpenHeader | StreamError::HeaderTooLong(_) => {
             f.write_str("header: ")?;

@@ -3,12 +3,14 @@
 #![tactic(auto)]
 
 mod answering;
+mod cast_texts;
 pub mod columns;
 pub mod errors;
 pub mod explained;
 mod filter;
 mod header;
 pub mod laws;
+mod messages;
 mod names;
 mod output;
 mod parts;

@@ -4,7 +4,8 @@ ghost use Rattle.std.specs.Io.KnownBytes.{Appends};
 ghost use Rattle.rowfn_batches.specs.Refusals.{IsUntold, one_more_counted, header_before, row_shown};
 ghost use Rattle.rowfn_batches.specs.Refusals.{AddsLine, TellsRow};
 
-use crate::errors::{StreamError, message_bytes, message_text, write_bytes};
+use crate::errors::StreamError;
+use crate::messages::{message_bytes, message_text, write_bytes};
 use itoa::Buffer;
 use std::alloc::{AllocError, AllocFailed, Global};
 use std::io::{self, Write};
@@ -94,8 +95,14 @@ impl fmt::Display for RefusalLine<'_> {
         f.write_str(",")?;
         write_reason(f, self.error)?;
         f.write_str(",")?;
-        if let StreamError::Misfit { field, .. } = self.error {
-            write_field(f, field.as_ref().map(|bytes| bytes.as_slice()))?;
+        match self.error {
+            StreamError::Misfit { field, .. } => {
+                write_field(f, field.as_ref().map(|bytes| bytes.as_slice()))?;
+            }
+            StreamError::Fault { text, .. } => {
+                write_field(f, text.as_ref().map(|text| text.as_bytes()))?;
+            }
+            _ => {}
         }
         f.write_str("\n")
     }

@@ -162,6 +162,7 @@ fn query_of_columns<'a, R: Read>(
         condition: None,
         header: options.header,
         infers: options.infers,
+        skips: options.skips,
     };
     read_query(alloc, words, format, options.max_field as usize, reader)
 }

@@ -31,6 +31,7 @@ pub(crate) fn format_with<'a>(
         output_delimiter: options.output_delimiter,
         null,
         more_nulls,
+        quoted_nulls: options.quoted_nulls,
         comment: options.comment,
         fits: options.fits,
         blank_rows: options.blank_rows,
@@ -51,6 +52,7 @@ fn read_texts<R: Read>(
         condition: options.condition,
         header: options.header,
         infers: options.infers,
+        skips: options.skips,
     };
     let format = format_with(options, options.null.as_bytes(), &options.more_nulls);
     read_query(

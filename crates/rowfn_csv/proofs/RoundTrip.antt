@@ -1,5 +1,6 @@
 -- What is written of cells says those cells.
 use Rattle.std.proofs.Common.{◌≡◌, ◌≢◌, Bool, true, false, ℕ, List, [], ◌∷◌, ◌++◌, ◌==◌, ◌||◌}
+use Rattle.std.proofs.Common.{◌&&◌, not}
 use Rattle.std.proofs.Common.{refl, sym, ap, ap₂, ◌∙◌, subst, if◌then◌else◌, map, append-nil}
 use Rattle.std.proofs.Common.{length, inl, inr, Option, Some, None, arith}
 use Rattle.std.specs.List.{list_any}
@@ -7,10 +8,11 @@ use Rattle.std.specs.Str.{bytes_eq}
 use Rattle.std.proofs.lemmas.Bool.Decides.{eqb_tells}
 use Rattle.std.proofs.lemmas.Slice.Eq.{bytes_eq-Decides}
 use Rattle.rowfn_csv.specs.declared.format.Format.{Format}
-use Rattle.rowfn_csv.specs.Formats.{is_null_text, is_comment_line}
+use Rattle.rowfn_csv.specs.Batches.{field_said}
+use Rattle.rowfn_csv.specs.Formats.{is_null_text, is_null_field, is_comment_line}
 use Rattle.rowfn_csv.specs.Fields.{is_special, is_mistaken, needs_quotes, quoted}
 use Rattle.rowfn_csv.specs.Records.{Field, bare, in_quotes, Lacks, BeginsBare, Spells, SaysFields}
-use Rattle.rowfn_csv.specs.RoundTrip.{cell_field, cell_said, cells_line, fields_line, StandsInLine}
+use Rattle.rowfn_csv.specs.RoundTrip.{cell_field, cell_said, cell_read, cells_line, fields_line, StandsInLine}
 use Rattle.rowfn_csv.specs.RoundTrip.{AllStandInLine, MayBeNull, CanReadBack, CellsReadBack}
 
 -- neither of two is true where one of them is not
@@ -107,11 +109,18 @@ module _ (format : Format) where
       let plain = (no_quotes text e).plain in
       (refl, refl, plain_lacks d (λ b h. h.no_delimiter) text plain, begins_bare text plain)
 
+  -- a text that is none for null is no null, whatever quotes are around it
+  no_null_field : (text : List ℕ) (is_quoted : Bool) → is_null_text format text ≡ false
+      → field_said text (is_null_field format text is_quoted) ≡ Some text
+  no_null_field text is_quoted e =
+      ap (λ (b : Bool). field_said text (b && (format.quoted_nulls || not is_quoted))) e
+
   token_text : (quotes : Bool) (text : List ℕ) → needs_quotes format text ≡ quotes
-      → cell_said format (text_by quotes text) ≡ Some text
+      → cell_said format (text_by quotes text) ≡ cell_read format (Some text)
   token_text true text e = refl
   token_text false text e =
-      ap (λ (b : Bool). if b then None else Some text) (no_quotes text e).no_null
+      let no_null = (no_quotes text e).no_null in
+      no_null_field text false no_null ∙ sym (no_null_field text true no_null)
 
   text_in_line : (quotes : Bool) (text : List ℕ) → needs_quotes format text ≡ quotes
       → StandsInLine (text_by quotes text)
@@ -132,8 +141,14 @@ module _ (format : Format) where
         let more : Bool = list_any (λ other. bytes_eq null other.now) format.more_nulls.now in
         ap (λ (b : Bool). b || more) (same_bytes null)
 
-    said : (c : Option (List ℕ)) → cell_said format (field_of c) ≡ c
-    said None = ap (λ (b : Bool). if b then None else Some null) null_said
+    bare_null : (in_quotes_too : Bool) → field_said null (true && (in_quotes_too || true)) ≡ None
+    bare_null true = refl
+    bare_null false = refl
+
+    said : (c : Option (List ℕ)) → cell_said format (field_of c) ≡ cell_read format c
+    said None =
+        ap (λ (b : Bool). field_said null (b && (format.quoted_nulls || true))) null_said
+        ∙ bare_null format.quoted_nulls
     said (Some text) = token_text (needs_quotes format text) text refl
 
     in_line : (c : Option (List ℕ)) → StandsInLine (field_of c)
@@ -154,7 +169,8 @@ module _ (format : Format) where
       line_says e cs,
     )
 
-    all_said : (cs : List (Option (List ℕ))) → map (cell_said format) (map field_of cs) ≡ cs
+    all_said : (cs : List (Option (List ℕ)))
+        → map (cell_said format) (map field_of cs) ≡ map (cell_read format) cs
     all_said [] = refl
     all_said (c ∷ cs) =
         ap₂ (λ (x : Option (List ℕ)) (xs : List (Option (List ℕ))). x ∷ xs) (said c) (all_said cs)

@@ -1,14 +1,14 @@
 -- The fields that the bytes of a record say, without the end of its line: each stands bare, or in
 -- quotes.
 use Rattle.std.specs.Prelude.{◌≡◌, ◌≢◌, ⊤, Bool, true, false, ℕ, List, [], ◌∷◌, ◌++◌}
-use Rattle.std.specs.Prelude.{Option, Some, None, ◌&&◌, not, map, if◌then◌else◌, get_or}
+use Rattle.std.specs.Prelude.{Option, Some, None, not, map, if◌then◌else◌, get_or}
 use Rattle.std.specs.Prelude.{option_map, length, take, drop, ◌-◌, ◌==◌}
 use Rattle.std.specs.List.{flat_map, list_any}
 use Rattle.std.specs.Str.{bytes_eq}
 use Rattle.csv.specs.Records.{field_at}
 use Rattle.rowfn_csv.specs.Fields.{doubled, quoted}
 use Rattle.rowfn_csv.specs.Batches.{field_said}
-use Rattle.rowfn_csv.specs.Formats.{is_null_text}
+use Rattle.rowfn_csv.specs.Formats.{is_null_field}
 use Rattle.rowfn_csv.specs.Truths.{respelled}
 use Rattle.rowfn_csv.specs.declared.format.Format.{Format}
 use Rattle.rowfn_csv.specs.declared.truths.Spelled.{Spelled}
@@ -57,12 +57,11 @@ abbrev pub quoted_at : List Field → ℕ → Bool
 quoted_at said i = get_or (map is_quoted said) i false
 
 -- what a row takes of a field, by its text, if the record has it, and whether it is in quotes:
--- nothing for null, which is a text for null in no quotes. A field past the record's end is null
--- where records are fitted, and else an empty text.
+-- nothing for null. A field past the record's end is null where records are fitted, and else an empty
+-- text.
 abbrev pub field_by : Format → Option (List ℕ) → Bool → Option (List ℕ)
 field_by format None is_in_quotes = if format.fits then None else Some []
-field_by format (Some text) is_in_quotes =
-    field_said text (is_null_text format text && not is_in_quotes)
+field_by format (Some text) is_in_quotes = field_said text (is_null_field format text is_in_quotes)
 
 -- what a row takes of the field at a place of a record, by the texts of its fields and how they are
 -- written

@@ -1,9 +1,9 @@
 -- Cells that are written as a line, and the fields that the line says.
 use Rattle.std.specs.Prelude.{◌≡◌, ◌≢◌, ⊤, true, false, ℕ, List, [], ◌∷◌, Option, Some, None, map}
-use Rattle.std.specs.Prelude.{if◌then◌else◌}
 use Rattle.std.specs.List.{join_by}
 use Rattle.rowfn_csv.specs.declared.format.Format.{Format}
-use Rattle.rowfn_csv.specs.Formats.{is_null_text, begins_comment, is_comment_line}
+use Rattle.rowfn_csv.specs.Batches.{field_said}
+use Rattle.rowfn_csv.specs.Formats.{is_null_field, begins_comment, is_comment_line}
 use Rattle.rowfn_csv.specs.Fields.{text_field}
 use Rattle.rowfn_csv.specs.Records.{Field, bare, in_quotes, Lacks, BeginsBare, SaysFields}
 
@@ -14,8 +14,13 @@ cell_field format (Some text) = text_field format text
 
 -- the cell that a field says
 abbrev pub cell_said : Format → Field → Option (List ℕ)
-cell_said format (bare text) = if is_null_text format text then None else Some text
-cell_said format (in_quotes text) = Some text
+cell_said format (bare text) = field_said text (is_null_field format text false)
+cell_said format (in_quotes text) = field_said text (is_null_field format text true)
+
+-- what is read of a cell that was written: itself, but null for a text that is null in quotes too
+abbrev pub cell_read : Format → Option (List ℕ) → Option (List ℕ)
+cell_read format None = None
+cell_read format (Some text) = field_said text (is_null_field format text true)
 
 -- fields with a delimiter between each two
 abbrev pub fields_line : ℕ → List (List ℕ) → List ℕ
@@ -58,8 +63,8 @@ module _ (format : Format) where
   abbrev pub cells_line : List (Option (List ℕ)) → List ℕ
   cells_line cells = fields_line format.output_delimiter (map (cell_field format) cells)
 
--- cells that are written say themselves
+-- cells that are written are read as themselves, but for texts that are null in quotes too
 abbrev pub CellsReadBack : Type 0
 CellsReadBack =
     (format : Format) (cells : List (Option (List ℕ))) → CanReadBack format → cells ≢ []
-    → SaysCells format (cells_line format cells) cells
+    → SaysCells format (cells_line format cells) (map (cell_read format) cells)

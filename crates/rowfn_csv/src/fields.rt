@@ -1,11 +1,11 @@
 //! The fields of a record as a batch takes them.
-ghost use Rattle.std.specs.Prelude.{◌≡◌, ◌≢◌, ◌++◌, ◌∷◌, [], ◌&&◌, Bool, not, List};
+ghost use Rattle.std.specs.Prelude.{◌≡◌, ◌≢◌, ◌++◌, ◌∷◌, [], Bool, List};
 ghost use Rattle.std.specs.Prelude.{map, OnOk, IfOk};
 ghost use Rattle.std.specs.Prelude.{option_map, false};
 ghost use Rattle.std.specs.Option.{option_map_or};
 ghost use Rattle.csv.specs.Records.{fields_of};
 ghost use Rattle.rowfn_csv.specs.Records.{Field, SaysFields, quoted_at, is_filled, has_surplus};
-ghost use Rattle.rowfn_csv.specs.Formats.{is_null_text};
+ghost use Rattle.rowfn_csv.specs.Formats.{is_null_field};
 ghost use Rattle.rowfn_csv.specs.Records.{without_line_end, field_spelled};
 ghost use Rattle.rowfn_csv.specs.KeptLines.{bytes_between};
 ghost use Rattle.rowfn_csv.specs.Scanning.{Knows};
@@ -20,8 +20,8 @@ use csv::ByteRecord;
 use std::alloc::AllocError;
 use std::io::Read;
 
-/// Whether the field of a record at that index is null: a text for null in no quotes. The record
-/// has that span of what is kept.
+/// Whether the field of a record at that index is null: a text for null, in no quotes or where quotes
+/// make no difference. The record has that span of what is kept.
 #[inline(always)]
 fn is_null<R: Read>(
     field: &[u8],
@@ -38,11 +38,14 @@ fn is_null<R: Read>(
         → SaysFields format.now.delimiter closed
         (without_line_end (bytes_between kept.now span.start span.end)) said
         → IfOk result (λ is_null. is_null
-        ≡ (is_null_text format.now field.now && not (quoted_at said index))) }
+        ≡ is_null_field format.now field.now (quoted_at said index)) }
 {
     // nearly no field needs its line
     if !format.is_null_text(field) {
         return Ok(false);
+    }
+    if format.quoted_nulls {
+        return Ok(true);
     }
     let line = kept.between(span.start, span.end);
     Ok(!quotes.is_quoted(line, format.delimiter, index)?)

@@ -17,6 +17,8 @@ pub struct Format<'a> {
     pub null: &'a [u8],
     /// More texts that are read as null where they stand in no quotes.
     pub more_nulls: &'a [&'a [u8]],
+    /// Whether these texts are null in quotes too.
+    pub quoted_nulls: bool,
     /// A line that begins with this byte is a comment, and is skipped. It is no quote, no delimiter
     /// and no end of a line.
     pub comment: Option<u8>,

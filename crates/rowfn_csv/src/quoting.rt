@@ -41,7 +41,7 @@ fn is_comment_line(field: &[u8], format: &Format<'_>) -> bool
 }
 
 /// Whether a text is written in quotes: an empty one, one that holds a quote, the output's
-/// delimiter or the end of a line, and one that in no quotes is null, begins a comment or is
+/// delimiter or the end of a line, and one that without them is null, begins a comment or is
 /// mistaken.
 fn needs_quotes(field: &[u8], format: &Format<'_>) -> bool
     ensures { result ≡ needs_quotes format.now field.now }

@@ -1,5 +1,6 @@
 pub mod Agreement
 pub mod Chunks
+pub mod Heads
 pub mod Digests
 pub mod Ends
 pub mod Errors

@@ -1,4 +1,5 @@
 //! What an index says of its file as a whole.
+ghost use Rattle.rowfn_index.specs.Heads.{IsIndexFormat};
 
 use rowfn_csv::Format;
 use std::alloc::{AllocError, Global};
@@ -34,12 +35,15 @@ pub struct IndexHead {
 }
 
 /// How the fields of an index are written.
-pub(crate) fn index_format() -> Format<'static> {
+pub(crate) fn index_format() -> Format<'static>
+    ensures { IsIndexFormat result }
+{
     Format {
         delimiter: b',',
         output_delimiter: b',',
         null: b"",
         more_nulls: &[],
+        quoted_nulls: false,
         comment: None,
         fits: false,
         blank_rows: false,
@@ -53,9 +57,12 @@ fn byte_word(alloc: Global, name: &str, byte: u8) -> Result<String, AllocError> 
     format!(in alloc; "{name} {byte:?}")
 }
 
-/// The word of a text for null.
-fn null_word(alloc: Global, null: &[u8]) -> Result<String, AllocError> {
+/// The word of a text for null, in quotes too or not.
+fn null_word(alloc: Global, null: &[u8], is_quoted: bool) -> Result<String, AllocError> {
     let null = str::from_utf8(null).unwrap_or("");
+    if is_quoted {
+        return format!(in alloc; "--null-quoted --null {null:?}");
+    }
     format!(in alloc; "--null {null:?}")
 }
 
@@ -79,9 +86,9 @@ pub fn reading_words(
     let truths = if format.any_truths { "any" } else { "plain" };
     words.push(format!(in alloc; "--bool {truths}")?)?;
     words.push(format!(in alloc; "--max-field {max_field}")?)?;
-    words.push(null_word(alloc, format.null)?)?;
+    words.push(null_word(alloc, format.null, format.quoted_nulls)?)?;
     for null in format.more_nulls {
-        words.push(null_word(alloc, null)?)?;
+        words.push(null_word(alloc, null, format.quoted_nulls)?)?;
     }
     Ok(words)
 }

@@ -1,6 +1,6 @@
 //! Chunks of a file, read one after the other.
-ghost use Rattle.std.specs.Prelude.{◌≡◌, ◌≤◌, [], IfOk, IfSome, true, length};
-ghost use Rattle.rowfn_index.specs.Chunks.{HasDigest};
+ghost use Rattle.std.specs.Prelude.{◌≡◌, ◌≤◌, [], IfOk, IfSome, true, length, take, drop};
+ghost use Rattle.rowfn_index.specs.Chunks.{HasDigest, rows_of};
 
 use crate::chunk::Chunk;
 use crate::digest::digest_of;
@@ -19,6 +19,25 @@ pub(crate) fn mark_before(offset: u64, bytes: &[u8]) -> &'static [u8] {
     } else {
         &[]
     }
+}
+
+/// How many rows chunks have; 18,446,744,073,709,551,615 where they are more.
+fn rows_of(chunks: &[Chunk]) -> u64
+    ensures { result ≡ rows_of chunks.now }
+{
+    let mut rows = 0u64;
+    for chunk in chunks {
+        rows = rows.saturating_add(chunk.rows);
+    }
+    rows
+}
+
+/// So many chunks from one on; fewer where there are no more.
+fn chunks_from(chunks: &[Chunk], first: usize, count: usize) -> &[Chunk]
+    ensures { result.now ≡ take count (drop first chunks.now) }
+{
+    let rest = chunks.get(first..).unwrap_or(&[]);
+    rest.get(..count).unwrap_or(rest)
 }
 
 /// A file of chunks, of which some are read, one after the other, each as a whole. None is given whose
@@ -64,15 +83,11 @@ impl<'a, F: Read + Seek> ChunkFile<'a, F> {
         }
     }
 
-    /// How many rows so many chunks from one on have.
-    pub fn rows(&self, first: usize, count: usize) -> u64 {
-        let mut rows = 0u64;
-        for number in first..first.saturating_add(count) {
-            if let Some(chunk) = self.chunks.get(number) {
-                rows = rows.saturating_add(chunk.rows);
-            }
-        }
-        rows
+    /// How many rows so many chunks from one on have; 18,446,744,073,709,551,615 where they are more.
+    pub fn rows(&self, first: usize, count: usize) -> u64
+        ensures { result ≡ rows_of (take count (drop first self.now.chunks.items)) }
+    {
+        rows_of(chunks_from(&self.chunks, first, count))
     }
 
     /// From here on, so many chunks from one on are read.

@@ -1,4 +1,8 @@
 //! An index, as it is read.
+ghost use Rattle.std.specs.Prelude.{◌≡◌, []};
+ghost use Rattle.csv.specs.Reading.{reader_source};
+ghost use Rattle.csv.specs.Records.{fields_of};
+ghost use Rattle.rowfn_index.specs.Heads.{IsIndexFormat};
 
 mod chunks;
 
@@ -76,7 +80,11 @@ fn columns_in(
 }
 
 /// The records of an index, none of them read.
-pub fn index_records<R: Read>(alloc: Global, reader: R) -> Records<'static, R> {
+pub fn index_records<R: Read>(alloc: Global, reader: R) -> Records<'static, R>
+    ensures format { IsIndexFormat result.format }
+    ensures reader { (reader_source result.reader).inner ≡ reader }
+    ensures none_read { fields_of result.last ≡ [] }
+{
     Records::new(alloc, index_format(), usize::MAX, reader)
 }
 

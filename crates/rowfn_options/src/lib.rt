@@ -7,6 +7,7 @@ mod fields;
 mod indexes;
 mod language;
 pub mod options;
+mod rows;
 mod words;
 
 pub use options::{Action, Options, Source, read_options, status};

@@ -47,6 +47,8 @@ pub struct Options<'a> {
     pub null: &'a str,
     /// More texts that are read as null in no quotes.
     pub more_nulls: Vec<&'a [u8]>,
+    /// Whether these texts are null in quotes too.
+    pub quoted_nulls: bool,
     /// Whether records shorter or longer than the header are fitted; else they are refused.
     pub fits: bool,
     /// Whether an empty line is a row of one null.
@@ -191,6 +193,7 @@ fn options_of<'a>(
         header: !matches.get_flag("no-header"),
         null: fields.nulls.written,
         more_nulls: fields.nulls.others,
+        quoted_nulls: matches.get_flag("null-quoted"),
         fits: fields.shapes.fits,
         blank_rows: fields.shapes.blank_rows,
         any_truths: fields.shapes.any_truths,

@@ -3,6 +3,7 @@ pub mod Outcomes
 pub mod Columns
 pub mod Inference
 pub mod Seen
+pub mod Samples
 pub mod DeclaredColumns
 pub mod DeclaredTypes
 pub mod Places

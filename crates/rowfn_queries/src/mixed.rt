@@ -3,6 +3,7 @@ ghost use Rattle.std.specs.Prelude.{◌≡◌, ◌<◌, ◌*◌, length};
 
 use crate::inference::is_numeric;
 use crate::scopes::is_in_names;
+use rowfn_csv::Format;
 use std::alloc::{AllocError, Global};
 use std::{fmt, str};
 use vortex_columns::{DType, StructFields, VortexError};
@@ -49,8 +50,10 @@ pub struct MixedColumn {
     pub row: usize,
     /// The first bytes of that field.
     pub text: String,
+    /// Whether that field is a text for null, which is none in its quotes.
+    pub is_quoted_null: bool,
     /// Whether the column is probably not meant to be text: that field is what other programs write
-    /// for null, or more fields than not are of the kind.
+    /// for null, or more fields than not are of the kind, without quoted texts for null.
     pub is_meant: bool,
 }
 
@@ -66,6 +69,7 @@ impl MixedColumn {
         shape: Shape,
         row: usize,
         text: &str,
+        is_quoted_null: bool,
         is_meant: bool,
     ) -> Result<MixedColumn, AllocError> {
         Ok(MixedColumn {
@@ -73,6 +77,7 @@ impl MixedColumn {
             shape,
             row,
             text: String::from_str(alloc, text)?,
+            is_quoted_null,
             is_meant,
         })
     }
@@ -84,6 +89,7 @@ impl MixedColumn {
             self.shape,
             self.row,
             self.text.as_str(),
+            self.is_quoted_null,
             self.is_meant,
         )
     }
@@ -107,15 +113,28 @@ fn is_word(name: &str) -> bool {
     bytes.all(|byte| byte.is_ascii_alphanumeric() || *byte == b'_')
 }
 
+impl MixedColumn {
+    /// Writes the field, and how it is read as null.
+    fn write_text<W: fmt::Write>(&self, f: &mut fmt::Formatter<W>) -> fmt::Result {
+        let text = self.text.as_str();
+        if self.is_quoted_null {
+            return write!(f, "the quoted {text:?} (--null-quoted, or ");
+        }
+        write!(f, "{text:?} (")?;
+        if is_null_text(text) || !has_digit(text) && !text.is_empty() {
+            write!(f, "--null {text:?}, or ")?;
+        }
+        Ok(())
+    }
+}
+
 /// Which field makes the column text, and how it is read otherwise.
 impl fmt::Display for MixedColumn {
     fn fmt<W: fmt::Write>(&self, f: &mut fmt::Formatter<W>) -> fmt::Result {
         let (name, row, text) = (self.name.as_str(), self.row, self.text.as_str());
         let kind = self.shape;
-        write!(f, "column {name} is text by row {row}: {text:?} (")?;
-        if is_null_text(text) || !has_digit(text) && !text.is_empty() {
-            write!(f, "--null {text:?}, or ")?;
-        }
+        write!(f, "column {name} is text by row {row}: ")?;
+        self.write_text(f)?;
         match (is_declarable(kind, text), is_word(name)) {
             (true, true) => write!(f, "--columns '{name} {kind}')"),
             (true, false) => write!(f, "--columns '{name:?} {kind}')"),
@@ -136,15 +155,16 @@ fn is_of(shape: Shape, text: &[u8]) -> bool {
 /// The first field of a column that is none of a kind.
 #[derive(Clone, Copy)]
 struct OtherField<'b> {
-    /// Its row, counted from 1.
+    /// Its row, counted from 0.
     row: usize,
     text: &'b [u8],
-    /// Whether more fields than not are of the kind.
+    /// Whether more fields than not are of the kind, without quoted texts for null.
     is_mostly: bool,
 }
 
 /// The first field of a column that is none of the kind; none where no field is one.
 fn first_text<'b>(
+    format: &Format<'_>,
     shape: Shape,
     fields: &[Option<&'b [u8]>],
     width: usize,
@@ -155,7 +175,7 @@ fn first_text<'b>(
     requires even { length fields.now ≡ width * row_count }
 {
     let mut first = None;
-    let (mut values, mut others) = (0usize, 0usize);
+    let (mut values, mut others) = (0u64, 0u64);
     for row in 0..row_count {
         let Some(text) = fields[row * width + column] else {
             continue;
@@ -164,9 +184,11 @@ fn first_text<'b>(
             values = values.saturating_add(1);
             continue;
         }
-        others = others.saturating_add(1);
+        if !format.is_null_text(text) {
+            others = others.saturating_add(1);
+        }
         if first.is_none() {
-            first = Some((row + 1, text));
+            first = Some((row, text));
         }
     }
     let (row, text) = first?;
@@ -183,6 +205,7 @@ fn first_text<'b>(
 
 /// That of the first kind of which some field of the column is.
 fn mixed_field<'b>(
+    format: &Format<'_>,
     fields: &[Option<&'b [u8]>],
     width: usize,
     row_count: usize,
@@ -192,7 +215,7 @@ fn mixed_field<'b>(
     requires even { length fields.now ≡ width * row_count }
 {
     for shape in [Shape::Number, Shape::Date, Shape::Timestamp] {
-        if let Some(found) = first_text(shape, fields, width, row_count, column) {
+        if let Some(found) = first_text(format, shape, fields, width, row_count, column) {
             return Some((shape, found));
         }
     }
@@ -217,30 +240,35 @@ fn is_text(types: &StructFields, name: &str) -> bool {
     }
 }
 
-/// The columns of those names that are text, by one field, and have numbers, dates or timestamps.
+/// The columns of those names that are text, by one field, and have numbers, dates or timestamps: of
+/// rows with those numbers.
 pub(crate) fn mixed_columns(
     alloc: Global,
+    format: &Format<'_>,
     names: &[String],
     types: &StructFields,
     fields: &[Option<&[u8]>],
-    row_count: usize,
+    numbers: &[usize],
 ) -> Result<Vec<MixedColumn>, AllocError>
-    requires { length fields.now ≡ length names.now * row_count }
+    requires { length fields.now ≡ length names.now * length numbers.now }
 {
     let mut columns = Vec::new(alloc);
     for column in 0..names.len() {
         if !is_text(types, names[column].as_str()) {
             continue;
         }
-        let Some((shape, found)) = mixed_field(fields, names.len(), row_count, column) else {
+        let found = mixed_field(format, fields, names.len(), numbers.len(), column);
+        let Some((shape, found)) = found else {
             continue;
         };
         let Ok(text) = str::from_utf8(found.text) else {
             continue;
         };
         let (name, text) = (names[column].as_str(), reported(text));
+        let row = numbers.get(found.row).copied().unwrap_or(0);
+        let is_quoted = format.is_null_text(found.text);
         let is_meant = found.is_mostly || is_null_text(text);
-        columns.push(MixedColumn::new(alloc, name, shape, found.row, text, is_meant)?)?;
+        columns.push(MixedColumn::new(alloc, name, shape, row, text, is_quoted, is_meant)?)?;
     }
     Ok(columns)
 }

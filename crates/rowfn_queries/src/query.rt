@@ -37,6 +37,8 @@ pub struct Words<'a> {
     pub header: bool,
     /// Whether columns that are not declared take their types from the first rows.
     pub infers: bool,
+    /// Whether bad rows are left out, of the first rows too; else the first one ends those.
+    pub skips: bool,
 }
 
 /// What is asked of rows: the answers, and the condition, each over the columns that it reads.
@@ -120,7 +122,7 @@ fn sampled<R: Read>(
     ensures refused { IfErr result (λ e. (words.now.infers ≡ true) × IsOfInput e) }
 {
     if words.infers && !wanted.is_empty() {
-        read_sample(alloc, format, max_field, words.header, wanted, reader)
+        read_sample(alloc, words, format, max_field, wanted, reader)
     } else {
         Ok(Sample::none(alloc))
     }

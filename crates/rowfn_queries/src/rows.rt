@@ -1,6 +1,10 @@
 //! The first rows of an input, and the names of its columns.
-ghost use Rattle.std.specs.Prelude.{◌≡◌, IfErr};
+ghost use Rattle.std.specs.Prelude.{◌≡◌, ◌≢◌, ◌&&◌, not, Bool, List, IfErr};
+ghost use Rattle.csv.specs.Records.{fields_of};
+ghost use Rattle.rowfn_csv.specs.KeptLines.{last_bytes, is_ended};
+ghost use Rattle.rowfn_csv.specs.Records.{Field, SaysFields};
 ghost use Rattle.rowfn_queries.specs.Refusals.{IsOfInput};
+ghost use Rattle.rowfn_queries.specs.Samples.{has_width, sampled_as};
 
 use crate::error::{HeaderFault, QueryError};
 use crate::places::numbered_place;
@@ -26,6 +30,10 @@ pub(crate) struct Rows {
     pub(crate) width: usize,
     /// The fields of the wanted columns.
     pub(crate) batch: Batch,
+    /// The number of each row in the input, counted from 1.
+    pub(crate) numbers: Vec<usize>,
+    /// How many records were read behind the header.
+    pub(crate) records_read: usize,
 }
 
 impl Rows {
@@ -36,7 +44,16 @@ impl Rows {
             places: Vec::new(alloc),
             width,
             batch: Batch::new(alloc),
+            numbers: Vec::new(alloc),
+            records_read: 0,
         }
+    }
+
+    /// Adds the last record.
+    fn add_last<R: Read>(&mut self, records: &mut Records<'_, R>) -> Result<(), AllocError> {
+        records.add_to(&mut self.batch, &self.places)?;
+        self.numbers.push(self.records_read)?;
+        Ok(())
     }
 }
 
@@ -177,34 +194,75 @@ pub(crate) fn read_numbered<R: Read>(
         return Ok(needed_numbered(alloc, wanted)?);
     }
     let mut rows = push_numbered(alloc, records.record().len(), wanted, names)?;
-    records.add_to(&mut rows.batch, &rows.places)?;
+    rows.records_read = 1;
+    rows.add_last(records)?;
     Ok(rows)
 }
 
-/// Adds the rows that follow: all up to the first record that is no row, at most so many, and no more
-/// after the one that ends with enough bytes. `fits` says whether shorter records are rows, and longer
-/// ones whose further fields are empty.
+/// What a record behind the header is to the first rows.
+#[derive(Clone, Copy)]
+pub(crate) enum Sampled {
+    /// One of them.
+    Row,
+    /// A bad row that is left out of them.
+    LeftOut,
+    /// None of them, and no other follows.
+    End,
+}
+
+/// Whether the last record has so many fields; or, where records are fitted, fewer, or more of which
+/// those past that many are empty.
+fn has_width<R: Read>(records: &Records<'_, R>, width: usize, fits: bool) -> bool
+    ensures { result ≡ has_width fits width (fields_of records.now.last) }
+{
+    records.record().len() == width || fits && !records.has_surplus(width)
+}
+
+/// What the last record is to the first rows, of so many fields. `fits` says whether shorter records
+/// are rows, and longer ones whose further fields are empty; `skips` whether bad rows are left out.
+fn sampled_as<R: Read>(records: &Records<'_, R>, width: usize, fits: bool, skips: bool) -> Sampled
+    ensures { (closed : Bool) → (said : List Field) → records.now.format.delimiter ≢ 34
+        → SaysFields records.now.format.delimiter closed (last_bytes records.now) said
+        → result ≡ sampled_as skips (has_width fits width (fields_of records.now.last))
+        (is_ended records.now && not closed) records.now.is_outgrown }
+{
+    if records.is_open() || records.is_outgrown() {
+        Sampled::End
+    } else if has_width(records, width, fits) {
+        Sampled::Row
+    } else if skips {
+        Sampled::LeftOut
+    } else {
+        Sampled::End
+    }
+}
+
+/// Adds the rows that follow, at most so many, and no more after the record that ends with enough
+/// bytes: all up to the first record that is no row, or all that are rows, where `skips` says that bad
+/// ones are left out.
 pub(crate) fn read_rows<R: Read>(
     records: &mut Records<'_, R>,
     rows: &mut Rows,
     fits: bool,
+    skips: bool,
 ) -> Result<(), RecordError> {
-    for _ in 0..SAMPLED_ROWS {
+    for _ in 0..SAMPLED_BYTES {
         match records.read() {
             FoundRecord::Record => {}
             FoundRecord::End => return Ok(()),
             FoundRecord::Failed => return Err(records.take_error()),
         }
-        let found = records.record().len();
-        let has_width = found == rows.width || fits && !records.has_surplus(rows.width);
-        let is_row = has_width && !records.is_open() && !records.is_outgrown();
-        if !is_row {
-            return Ok(());
+        rows.records_read = rows.records_read.saturating_add(1);
+        match sampled_as(records, rows.width, fits, skips) {
+            Sampled::Row => {
+                if rows.add_last(records).is_err() {
+                    return Err(RecordError::OutOfMemory);
+                }
+            }
+            Sampled::LeftOut => {}
+            Sampled::End => return Ok(()),
         }
-        if records.add_to(&mut rows.batch, &rows.places).is_err() {
-            return Err(RecordError::OutOfMemory);
-        }
-        if records.span().end >= SAMPLED_BYTES {
+        if rows.batch.len() >= SAMPLED_ROWS || records.span().end >= SAMPLED_BYTES {
             return Ok(());
         }
     }

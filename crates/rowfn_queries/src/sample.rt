@@ -12,7 +12,8 @@ use crate::columns::Gathered;
 use crate::error::QueryError;
 use crate::inference::infer;
 use crate::mixed::{MixedColumn, mixed_columns};
-use crate::rows::{read_named, read_numbered, read_rows};
+use crate::query::Words;
+use crate::rows::{Rows, read_named, read_numbered, read_rows};
 use crate::scopes::typed_columns;
 use rowfn_csv::{Batch, Format, RecordError, Records, truth_spelled};
 use std::alloc::{AllocError, Global};
@@ -133,28 +134,29 @@ fn columns_of(
     typed_columns(alloc, names, &types)
 }
 
-/// The columns of a header of those names that are text, by one field, and have numbers.
+/// The columns of rows that are text, by one field, and have numbers.
 fn mixed_of(
     alloc: Global,
-    names: &[String],
+    format: &Format<'_>,
+    rows: &Rows,
     types: &StructFields,
-    batch: &Batch,
 ) -> Result<Vec<MixedColumn>, AllocError> {
-    let fields = batch.fields(alloc)?;
-    let row_count = batch.len();
-    if names.len().checked_mul(row_count) != Some(fields.len()) {
+    let fields = rows.batch.fields(alloc)?;
+    let (names, numbers) = (rows.names.as_slice(), rows.numbers.as_slice());
+    if names.len().checked_mul(numbers.len()) != Some(fields.len()) {
         return Ok(Vec::new(alloc));
     }
-    mixed_columns(alloc, names, types, &fields, row_count)
+    mixed_columns(alloc, format, names, types, &fields, numbers)
 }
 
-/// Reads the header, where there is one, and the first rows. Fails where the header cannot be read,
-/// and where memory runs out; a read that fails in the rows ends them, and is kept.
+/// Reads the header, where there is one, and the first rows: without bad ones, where they are left
+/// out. Fails where the header cannot be read, and where memory runs out; a read that fails in the
+/// rows ends them, and is kept.
 pub(crate) fn read_sample<R: Read>(
     alloc: Global,
+    words: &Words<'_>,
     format: Format<'_>,
     max_field: usize,
-    header: bool,
     wanted: &[String],
     reader: &mut Again<R>,
 ) -> Result<Sample, QueryError>
@@ -163,17 +165,17 @@ pub(crate) fn read_sample<R: Read>(
 {
     let mut sample = Sample::none(alloc);
     let mut records = Records::new(alloc, format, max_field, reader);
-    let mut rows = if header {
+    let mut rows = if words.header {
         read_named(alloc, &mut records, max_field, wanted, &mut sample.names)?
     } else {
         read_numbered(alloc, &mut records, wanted, &mut sample.names)?
     };
-    match read_rows(&mut records, &mut rows, format.fits) {
+    match read_rows(&mut records, &mut rows, format.fits, words.skips) {
         Ok(()) => {}
         Err(RecordError::Io(error)) => sample.failed = Some(error),
         Err(RecordError::OutOfMemory) => return Err(QueryError::OutOfMemory),
     }
     sample.columns = columns_of(alloc, &rows.names, &rows.batch, format.any_truths)?;
-    sample.mixed = mixed_of(alloc, &rows.names, &sample.columns.fields, &rows.batch)?;
+    sample.mixed = mixed_of(alloc, &format, &rows, &sample.columns.fields)?;
     Ok(sample)
 }

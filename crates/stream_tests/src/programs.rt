@@ -34,6 +34,7 @@ pub(crate) fn settings(batch: usize, batch_bytes: u64) -> Settings<'static> {
             output_delimiter: b',',
             null: b"",
             more_nulls: &[],
+            quoted_nulls: false,
             comment: None,
             fits: false,
             blank_rows: false,

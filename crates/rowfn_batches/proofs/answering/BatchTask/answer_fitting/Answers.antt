@@ -29,8 +29,8 @@ returns-in-Err-Fault-clause-ends c =
     (λ a h. (
       found.row,
       _,
-      at_fault c.args.columns.now found.field-0-1 found.error
-          (end.Fault c.number_of.result found.error) refl c.requires faulty (c.number_of.ensures, refl),
+      at_fault c.args.columns.now found.answer found.error
+          (end.Fault c.number_of.result found.error c.cast_text.result) refl c.requires faulty (c.number_of.ensures, refl),
       h,
     ))
     c.answer_faultless.ensures.ends

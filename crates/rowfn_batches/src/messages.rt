@@ -1,0 +1,71 @@
+//! What messages have of errors, of fields and of texts.
+
+use std::fmt::{self, Write};
+use vortex_columns::VortexError;
+use vortex_standard::ErrorText;
+
+/// Writes an error's number and its name, and what the fault of a function of SQL is.
+pub(crate) fn write_error<W: fmt::Write>(
+    f: &mut fmt::Formatter<W>,
+    error: &VortexError,
+) -> fmt::Result {
+    let (number, name) = (error.number(), error.name());
+    write!(f, "E{number} {name}")?;
+    match ErrorText::new(error).text() {
+        Some(text) => write!(f, ": {text}"),
+        None => Ok(()),
+    }
+}
+
+/// What a text is not, if the fault is that of a cast of a text: `is no date`.
+pub(crate) fn cast_reason(error: &VortexError) -> Option<&'static str> {
+    let (reason, _) = ErrorText::new(error).text()?.split_once(" in cast")?;
+    reason.strip_prefix("text that ")
+}
+
+/// Writes the beginning of a text that a cast cannot read, and what it is not.
+pub(crate) fn write_cast<W: fmt::Write>(
+    f: &mut fmt::Formatter<W>,
+    error: &VortexError,
+    text: &str,
+) -> fmt::Result {
+    let (number, name) = (error.number(), error.name());
+    let (reported, is_cut) = message_text(text);
+    let cut = if is_cut { ".." } else { "" };
+    let reason = cast_reason(error).unwrap_or("is not read");
+    write!(
+        f,
+        "E{number} {name}: {reported:?}{cut} {reason} (try_cast is null there)"
+    )
+}
+
+/// Writes bytes that are no UTF-8, those beyond plain ASCII by their numbers.
+pub(crate) fn write_bytes<W: fmt::Write>(f: &mut fmt::Formatter<W>, bytes: &[u8]) -> fmt::Result {
+    for byte in bytes {
+        if byte.is_ascii_graphic() && *byte != b'"' && *byte != b'\\' || *byte == b' ' {
+            f.write_char(char::from(*byte))?;
+        } else {
+            write!(f, "\\x{byte:02x}")?;
+        }
+    }
+    Ok(())
+}
+
+/// How much of a field is told: so many characters, or bytes where it is no text.
+const TOLD: usize = 80;
+
+/// What is told of a text: its beginning, and whether more stands behind that.
+pub(crate) fn message_text(text: &str) -> (&str, bool) {
+    match text.char_indices().nth(TOLD) {
+        None => (text, false),
+        Some((end, _)) => (text.get(..end).unwrap_or(""), true),
+    }
+}
+
+/// The same of bytes that are no text.
+pub(crate) fn message_bytes(bytes: &[u8]) -> (&[u8], bool) {
+    match bytes.get(..TOLD) {
+        None => (bytes, false),
+        Some(told) => (told, true),
+    }
+}
