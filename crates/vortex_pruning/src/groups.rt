@@ -14,9 +14,7 @@ use crate::functions::ScalarFnRanges;
 use crate::pruned::Pruned;
 use crate::trees::prune;
 use std::alloc::Global;
-use vortex_columns::{
-    Cell, Column, DType, ExecutionCtx, ScalarValue, VortexError, VortexResult,
-};
+use vortex_columns::{Cell, Column, DType, ExecutionCtx, ScalarValue, VortexError, VortexResult};
 use vortex_functions::BoundExpression;
 use vortex_statistics::{End, Statistics};
 
@@ -143,7 +141,14 @@ fn replace_fields(
         (RefusesFields fields.now group rows) }
 {
     for number in 0..fields.len() {
-        match replace_field(alloc, &fields[number], number, group, rows, &mut statistics[number]) {
+        match replace_field(
+            alloc,
+            &fields[number],
+            number,
+            group,
+            rows,
+            &mut statistics[number],
+        ) {
             Ok(()) => {}
             Err(error) => return Err(error),
         }

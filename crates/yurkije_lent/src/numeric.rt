@@ -16,9 +16,9 @@ use std::alloc::Global;
 use vortex_checked::{CheckedAdd, CheckedMul, CheckedSub};
 use vortex_columns::{Column, NumericOperator, PType};
 use vortex_kernels::arithmetic_integer::ArithmeticInteger;
+use vortex_kernels::checked_loops::faultless_rows;
 use vortex_kernels::constant_operand::bounded_products;
 use vortex_kernels::numbers::{ListedNumbers, Numbers, OneNumber};
-use vortex_kernels::checked_loops::faultless_rows;
 use vortex_kernels::products::VectorMul;
 use vortex_kernels::row_operation::{RowOperation, WideMul};
 
