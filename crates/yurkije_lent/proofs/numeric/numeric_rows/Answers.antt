@@ -1,4 +1,4 @@
-use Rattle.std.proofs.Common.{ℕ, false, length, map, arith, refl}
+use Rattle.std.proofs.Common.{false, length, map, arith, refl}
 use Rattle.vortex_columns.specs.ValidityView.{validity_of}
 use Rattle.vortex_kernels.specs.Faults.{AreHeldResults}
 use Rattle.vortex_kernels.specs.Numeric.{row_results}
