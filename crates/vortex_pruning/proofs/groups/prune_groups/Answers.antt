@@ -15,8 +15,8 @@ loop-group-preserved g c =
     let fs = c.args.fields.now in
     let t = c.args.tree.now in (
       rw c.in-Ok-push.ensures.items
-          (all_more (λ g n p. Prunes m n (statistics_in g n fs) t p) 0 _ c.in-Ok.pruned
+          (all_more (λ g n p. Prunes m n (statistics_in g n fs) t p) 0 _ c.in-Ok-prune_group.pruned
           c.args.rows.now c.loop-group.found.items c.loop-group.group _ (add-one c.loop-group.group)
-          c.loop-group-test.true refl c.loop-group.invariant.0 c.in-Ok.ensures.pruned),
-      c.in-Ok.ensures.kept,
+          c.loop-group-test.true refl c.loop-group.invariant.0 c.in-Ok-prune_group.ensures.pruned),
+      c.in-Ok-prune_group.ensures.kept,
     )
