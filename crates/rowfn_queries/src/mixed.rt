@@ -150,10 +150,16 @@ impl fmt::Display for MixedColumn {
                 field.write_advice(name, f)
             }
             None if is_word(name) => {
-                write!(f, "column {name} is text, null in all of the first rows (--columns '{name} i64?')")
+                write!(
+                    f,
+                    "column {name} is text, null in all of the first rows (--columns '{name} i64?')"
+                )
             }
             None => {
-                write!(f, "column {name} is text, null in all of the first rows (--columns '{name:?} i64?')")
+                write!(
+                    f,
+                    "column {name} is text, null in all of the first rows (--columns '{name:?} i64?')"
+                )
             }
         }
     }
@@ -256,12 +262,7 @@ fn is_text(types: &StructFields, name: &str) -> bool {
 }
 
 /// Whether each field of a column is null, of one row or more.
-fn is_all_null(
-    fields: &[Option<&[u8]>],
-    width: usize,
-    row_count: usize,
-    column: usize,
-) -> bool
+fn is_all_null(fields: &[Option<&[u8]>], width: usize, row_count: usize, column: usize) -> bool
     requires column { column < width }
     requires even { length fields.now ≡ width * row_count }
 {
