@@ -96,10 +96,11 @@ def escaped(text):
 
 
 def rows_on_page():
-    """The rows of the page's table, by the expression in the second cell."""
+    """The rows of the page's first table, which these engines answer, by the expression in the second cell."""
     with open(PAGE, encoding="utf-8") as page:
         section = page.read().partition(f"\n## {SECTION}\n")[2].partition("\n## ")[0]
-    rows = [line for line in section.split("\n") if line.startswith("| ")]
+    table = section.partition("\n| ")[2].partition("\n\n")[0]
+    rows = [line for line in f"| {table}".split("\n") if line.startswith("| ")]
     return {line.split(" | ")[1]: line for line in rows[1:]}
 
 

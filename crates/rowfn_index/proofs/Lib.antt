@@ -4,3 +4,4 @@ pub mod Actions
 pub mod ChunksBetween
 pub mod RowsKept
 pub mod SameWords
+pub mod Lines

@@ -7,3 +7,4 @@ pub mod Errors
 pub mod Measured
 pub mod Steps
 pub mod Kept
+pub mod IndexTexts

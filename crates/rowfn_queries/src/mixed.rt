@@ -40,20 +40,28 @@ impl fmt::Display for Shape {
     }
 }
 
-/// A column that has values of a kind in the first rows, and is text by a field of one of them.
+/// A field of a column whose other fields are values of a kind.
+#[derive(Drop)]
+pub struct TextField {
+    /// What the other fields are.
+    pub shape: Shape,
+    /// Its row, counted from 1.
+    pub row: usize,
+    /// Its first bytes.
+    pub text: String,
+    /// Whether it is a text for null, which is none in its quotes.
+    pub is_quoted_null: bool,
+}
+
+/// A column that is text by its first rows, and may not be meant to be.
 #[derive(Drop)]
 pub struct MixedColumn {
     pub name: String,
-    /// What its other fields are.
-    pub shape: Shape,
-    /// The first row of which the field is none of these, counted from 1.
-    pub row: usize,
-    /// The first bytes of that field.
-    pub text: String,
-    /// Whether that field is a text for null, which is none in its quotes.
-    pub is_quoted_null: bool,
+    /// The first field that is none of a kind of which others are. None where each field is null.
+    pub field: Option<TextField>,
     /// Whether the column is probably not meant to be text: that field is what other programs write
-    /// for null, or more fields than not are of the kind, without quoted texts for null.
+    /// for null, or more fields than not are of the kind, without quoted texts for null; or each is
+    /// null.
     pub is_meant: bool,
 }
 
@@ -62,36 +70,27 @@ fn is_null_text(text: &str) -> bool {
     NULLS.iter().any(|null| *null == text)
 }
 
-impl MixedColumn {
-    fn new(
-        alloc: Global,
-        name: &str,
-        shape: Shape,
-        row: usize,
-        text: &str,
-        is_quoted_null: bool,
-        is_meant: bool,
-    ) -> Result<MixedColumn, AllocError> {
-        Ok(MixedColumn {
-            name: String::from_str(alloc, name)?,
-            shape,
-            row,
-            text: String::from_str(alloc, text)?,
-            is_quoted_null,
-            is_meant,
+impl TextField {
+    fn try_clone(&self, alloc: Global) -> Result<TextField, AllocError> {
+        Ok(TextField {
+            shape: self.shape,
+            row: self.row,
+            text: String::from_str(alloc, self.text.as_str())?,
+            is_quoted_null: self.is_quoted_null,
         })
     }
+}
 
+impl MixedColumn {
     fn try_clone(&self, alloc: Global) -> Result<MixedColumn, AllocError> {
-        MixedColumn::new(
-            alloc,
-            self.name.as_str(),
-            self.shape,
-            self.row,
-            self.text.as_str(),
-            self.is_quoted_null,
-            self.is_meant,
-        )
+        Ok(MixedColumn {
+            name: String::from_str(alloc, self.name.as_str())?,
+            field: match &self.field {
+                Some(field) => Some(field.try_clone(alloc)?),
+                None => None,
+            },
+            is_meant: self.is_meant,
+        })
     }
 }
 
@@ -113,7 +112,7 @@ fn is_word(name: &str) -> bool {
     bytes.all(|byte| byte.is_ascii_alphanumeric() || *byte == b'_')
 }
 
-impl MixedColumn {
+impl TextField {
     /// Writes the field, and how it is read as null.
     fn write_text<W: fmt::Write>(&self, f: &mut fmt::Formatter<W>) -> fmt::Result {
         let text = self.text.as_str();
@@ -126,20 +125,42 @@ impl MixedColumn {
         }
         Ok(())
     }
-}
 
-/// Which field makes the column text, and how it is read otherwise.
-impl fmt::Display for MixedColumn {
-    fn fmt<W: fmt::Write>(&self, f: &mut fmt::Formatter<W>) -> fmt::Result {
-        let (name, row, text) = (self.name.as_str(), self.row, self.text.as_str());
+    /// Writes how the column of that name is read otherwise.
+    fn write_advice<W: fmt::Write>(&self, name: &str, f: &mut fmt::Formatter<W>) -> fmt::Result {
         let kind = self.shape;
-        write!(f, "column {name} is text by row {row}: ")?;
-        self.write_text(f)?;
-        match (is_declarable(kind, text), is_word(name)) {
+        match (is_declarable(kind, self.text.as_str()), is_word(name)) {
             (true, true) => write!(f, "--columns '{name} {kind}')"),
             (true, false) => write!(f, "--columns '{name:?} {kind}')"),
             (false, true) => write!(f, "try_cast({name} as {kind}))"),
             (false, false) => write!(f, "try_cast({name:?} as {kind}))"),
+        }
+    }
+}
+
+/// Which field makes the column text, and how it is read otherwise; or that each field is null.
+impl fmt::Display for MixedColumn {
+    fn fmt<W: fmt::Write>(&self, f: &mut fmt::Formatter<W>) -> fmt::Result {
+        let name = self.name.as_str();
+        match &self.field {
+            Some(field) => {
+                let row = field.row;
+                write!(f, "column {name} is text by row {row}: ")?;
+                field.write_text(f)?;
+                field.write_advice(name, f)
+            }
+            None if is_word(name) => {
+                write!(
+                    f,
+                    "column {name} is text, null in all of the first rows (--columns '{name} i64?')"
+                )
+            }
+            None => {
+                write!(
+                    f,
+                    "column {name} is text, null in all of the first rows (--columns '{name:?} i64?')"
+                )
+            }
         }
     }
 }
@@ -240,8 +261,62 @@ fn is_text(types: &StructFields, name: &str) -> bool {
     }
 }
 
-/// The columns of those names that are text, by one field, and have numbers, dates or timestamps: of
-/// rows with those numbers.
+/// Whether each field of a column is null, of one row or more.
+fn is_all_null(fields: &[Option<&[u8]>], width: usize, row_count: usize, column: usize) -> bool
+    requires column { column < width }
+    requires even { length fields.now ≡ width * row_count }
+{
+    for row in 0..row_count {
+        if fields[row * width + column].is_some() {
+            return false;
+        }
+    }
+    row_count > 0
+}
+
+/// Why the column at that place is text, if it may not be meant to be: of rows with those numbers.
+fn mixed_column(
+    alloc: Global,
+    format: &Format<'_>,
+    name: &str,
+    fields: &[Option<&[u8]>],
+    width: usize,
+    numbers: &[usize],
+    column: usize,
+) -> Result<Option<MixedColumn>, AllocError>
+    requires column { column < width }
+    requires even { length fields.now ≡ width * length numbers.now }
+{
+    if is_all_null(fields, width, numbers.len(), column) {
+        let name = String::from_str(alloc, name)?;
+        return Ok(Some(MixedColumn {
+            name,
+            field: None,
+            is_meant: true,
+        }));
+    }
+    let found = mixed_field(format, fields, width, numbers.len(), column);
+    let Some((shape, found)) = found else {
+        return Ok(None);
+    };
+    let Ok(text) = str::from_utf8(found.text) else {
+        return Ok(None);
+    };
+    let text = reported(text);
+    Ok(Some(MixedColumn {
+        name: String::from_str(alloc, name)?,
+        field: Some(TextField {
+            shape,
+            row: numbers.get(found.row).copied().unwrap_or(0),
+            text: String::from_str(alloc, text)?,
+            is_quoted_null: format.is_null_text(found.text),
+        }),
+        is_meant: found.is_mostly || is_null_text(text),
+    }))
+}
+
+/// The columns of those names that are text, and have numbers, dates or timestamps, or nulls alone:
+/// of rows with those numbers.
 pub(crate) fn mixed_columns(
     alloc: Global,
     format: &Format<'_>,
@@ -254,21 +329,13 @@ pub(crate) fn mixed_columns(
 {
     let mut columns = Vec::new(alloc);
     for column in 0..names.len() {
-        if !is_text(types, names[column].as_str()) {
+        let (name, width) = (names[column].as_str(), names.len());
+        if !is_text(types, name) {
             continue;
         }
-        let found = mixed_field(format, fields, names.len(), numbers.len(), column);
-        let Some((shape, found)) = found else {
-            continue;
-        };
-        let Ok(text) = str::from_utf8(found.text) else {
-            continue;
-        };
-        let (name, text) = (names[column].as_str(), reported(text));
-        let row = numbers.get(found.row).copied().unwrap_or(0);
-        let is_quoted = format.is_null_text(found.text);
-        let is_meant = found.is_mostly || is_null_text(text);
-        columns.push(MixedColumn::new(alloc, name, shape, row, text, is_quoted, is_meant)?)?;
+        if let Some(found) = mixed_column(alloc, format, name, fields, width, numbers, column)? {
+            columns.push(found)?;
+        }
     }
     Ok(columns)
 }

@@ -4,24 +4,23 @@ use crate::binder::operands;
 use crate::calls::joined_item;
 use crate::casts::type_of_name;
 use crate::forms::{
-    function_in, function_text, push_accepted, push_unnamed, takes_texts, text_hint,
+    function_in, function_text, push_accepted, push_unnamed, takes_only_texts, takes_texts,
+    text_hint,
 };
-use crate::hints::{CLOCKS, is_clock};
 use crate::item::{Item, common_type};
-use crate::item_texts::{push_literals, push_operands, push_types};
+use crate::item_texts::{is_no_text, push_literals, push_operands, push_types};
 use crate::meeting::met_next;
-use crate::quotes::unquoted;
 use crate::refusal::Refusal;
 use crate::unheld::{INTERVAL_PLACES, has_interval, push_fractions, push_unheld, push_untyped};
-use crate::words::{found_at, nearest};
+use crate::unknown_columns::column_text;
+use crate::words::found_at;
 use std::alloc::Global;
 use std::fmt::Write;
-use std::str;
 use vortex_columns::{DType, MismatchPlace, StructFields, VortexError, VortexResult};
 use vortex_logical::kind::Kind;
 use vortex_logical_calls as calls;
 use vortex_standard::{Takes, has_all_of};
-use vortex_syntax::{Call, Step, SyntaxTree, Token, WrittenOperator};
+use vortex_syntax::{Call, Step, SyntaxTree, WrittenOperator};
 
 /// How many items a step takes; the end takes all that are left.
 fn operand_count(step: Option<&Step<'_>>) -> usize {
@@ -51,70 +50,6 @@ fn taken_at(place: MismatchPlace) -> &'static str {
         MismatchPlace::LikeInput | MismatchPlace::LikePattern => "two texts",
         MismatchPlace::Cast => "a truth value",
         MismatchPlace::Scalars => "values of one type",
-    }
-}
-
-/// How many columns of a scope are listed.
-const LISTED: usize = 10;
-
-/// The first columns that there are; nothing of a scope without columns.
-fn push_columns(out: &mut String, scope: &StructFields) -> VortexResult<()> {
-    let count = scope.len();
-    for place in 0..count.min(LISTED) {
-        out.push_str(if place == 0 { "; there are " } else { ", " })?;
-        out.push_str(scope.name(place))?;
-    }
-    if count > LISTED {
-        write!(out, " and {} more", count - LISTED)?;
-    }
-    Ok(())
-}
-
-/// What separates the names of several columns in one name.
-const SEPARATORS: [&str; 3] = [";", "\t", "|"];
-
-/// That the only column is probably several, whose delimiter is another.
-fn push_delimiter(out: &mut String, scope: &StructFields) -> VortexResult<()> {
-    if scope.len() != 1 {
-        return Ok(());
-    }
-    for separator in SEPARATORS {
-        if scope.name(0).contains(separator) {
-            write!(out, ", one column: is the delimiter {separator:?}?")?;
-            return Ok(());
-        }
-    }
-    Ok(())
-}
-
-/// The column that the scope does not have, and the one that may be meant.
-fn column_text(
-    alloc: Global,
-    scope: &StructFields,
-    step: Option<&Step<'_>>,
-) -> VortexResult<String> {
-    let (written, is_quoted) = match step {
-        Some(Step::Operand(Token::Name(name))) => (*name, false),
-        Some(Step::Operand(Token::Quoted(name))) => (*name, true),
-        _ => (b"" as &[u8], false),
-    };
-    // A name without quotes has none within.
-    let name = unquoted(alloc, b'"', written)?;
-    let name = str::from_utf8(&name).unwrap_or("");
-    if !is_quoted && is_clock(written) {
-        return Ok(format!(in alloc; "no column {name:?}; {CLOCKS}")?);
-    }
-    match nearest(alloc, scope, name)? {
-        Some(other) => Ok(format!(in alloc; "no column {name:?}; is {other:?} meant?")?),
-        None if is_quoted => Ok(format!(in alloc;
-            "no column {name:?}; texts are written in single quotes, as 'text'"
-        )?),
-        None => {
-            let mut out = format!(in alloc; "no column {name:?}")?;
-            push_columns(&mut out, scope)?;
-            push_delimiter(&mut out, scope)?;
-            Ok(out)
-        }
     }
 }
 
@@ -294,6 +229,9 @@ impl<'a> TextFailure<'a> {
         }
         if push_fractions(&mut out, &items)? {
             return Ok(out);
+        }
+        if takes_only_texts(self.failing_step()) && items.iter().any(is_no_text) {
+            return self.arguments_text();
         }
         let taken = self.taken_type(&items, are_cases)?;
         if !push_unheld(&mut out, self.alloc, taken.as_ref(), &items)? {

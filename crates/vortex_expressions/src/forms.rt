@@ -212,6 +212,14 @@ pub(crate) fn takes_texts(step: Option<&Step<'_>>) -> bool {
     }
 }
 
+/// Whether the step calls a function that takes texts alone.
+pub(crate) fn takes_only_texts(step: Option<&Step<'_>>) -> bool {
+    match function_in(step) {
+        Some(function) => matches!(function.takes(), Takes::Alike(Kind::Text)),
+        None => false,
+    }
+}
+
 /// How a value of a kind is made a text, where the step takes texts or casts to one.
 pub(crate) fn text_hint(alloc: Global, step: Option<&Step<'_>>, kind: LogicalKind) -> &'static str {
     let is_cast = match step {

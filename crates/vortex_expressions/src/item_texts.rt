@@ -2,7 +2,7 @@
 use crate::item::Item;
 use crate::literal::Literal;
 use std::fmt::Write;
-use vortex_columns::VortexResult;
+use vortex_columns::{DType, VortexResult};
 use vortex_logical::kind::Kind;
 use vortex_logical::operand::Operand;
 
@@ -46,6 +46,14 @@ fn push_type(out: &mut String, item: &Item) -> VortexResult<()> {
 /// Whether the item is null without a type.
 fn is_null(item: &Item) -> bool {
     matches!(item, Item::Literal(Literal::Null))
+}
+
+/// Whether the item is a tree of another type than texts.
+pub(crate) fn is_no_text(item: &Item) -> bool {
+    match item.bound_type() {
+        Some(DType::Utf8(_)) | None => false,
+        Some(_) => true,
+    }
 }
 
 /// The types of items, with commas and an `and`, and how null is given one.

@@ -38,6 +38,7 @@ mod spelled;
 mod syntax_texts;
 mod tasks;
 mod unheld;
+mod unknown_columns;
 pub mod words;
 pub mod writing;
 

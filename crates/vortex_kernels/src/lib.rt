@@ -6,6 +6,7 @@ pub mod between;
 pub mod boolean;
 pub mod bounds;
 pub mod cast;
+pub mod checked_loops;
 pub mod compare;
 pub mod comparisons;
 pub mod constant_operand;

@@ -7,17 +7,16 @@ use Rattle.std.specs.Ordering.{is_gt}
 use Rattle.std.proofs.Common.{sym, ap, ◌∙◌, subst, inl, inr}
 use Rattle.vortex_types.specs.LogicalTypes.{LogicalType, bool_type}
 use Rattle.vortex_types.specs.ScalarView.{ScalarView}
-use Rattle.vortex_types.specs.Values.{Value, null, truth, number, text, bytes, list, is_null}
+use Rattle.vortex_types.specs.Values.{Value, null, truth}
 use Rattle.vortex_types.specs.Order.{compare_values}
 use Rattle.vortex_types.specs.OrderLaws.{equals_are_same}
 use Rattle.vortex_columns.specs.ColumnView.{ColumnView}
 use Rattle.vortex_operators.specs.declared.operators.Operator.TheVariants.{And}
 use Rattle.vortex_operators.specs.declared.operators.CompareOperator.TheVariants.{Lte}
 use Rattle.vortex_operators.specs.Between.{between_value}
-use Rattle.vortex_operators.specs.Kleene.{kleene_and}
-use Rattle.vortex_operators.specs.OperatorValues.{holds, comparison_value, boolean_value}
+use Rattle.vortex_operators.specs.OperatorValues.{holds, boolean_value}
 use Rattle.vortex_statistics.specs.StatisticsView.{StatisticsView}
-use Rattle.vortex_interface.specs.Outcomes.{Outcome, gives}
+use Rattle.vortex_interface.specs.Outcomes.{gives}
 use Rattle.vortex_interface.specs.Meaning.{Meaning}
 use Rattle.vortex_interface.specs.Shipped.{Between}
 use Rattle.vortex_interface.specs.Shipped.BinaryFunction.{null_compared}
@@ -27,14 +26,14 @@ use Rattle.vortex_interface.specs.Eval.{all_give, with_first, then_means, types_
 use Rattle.vortex_interface.specs.Eval.{eval}
 use Rattle.vortex_ranges.specs.Ranges.{RangeView, is_above, is_under, is_over, is_inside, may_be}
 use Rattle.vortex_ranges.specs.Truths.{truths, may_be_unknown, may_be_true, may_be_false}
-use Rattle.vortex_ranges.specs.Truths.{unknown_of_both, conjunction}
+use Rattle.vortex_ranges.specs.Truths.{unknown_of_both}
 use Rattle.vortex_ranges.specs.Comparing.{may_pass, comparison, betweenness}
 use Rattle.vortex_ranges.specs.Described.{DescribeAll}
 use Rattle.vortex_ranges.specs.Reached.{inclusive}
 use Rattle.vortex_ranges.proofs.Tests.{both, first, second, refuted, either_way}
 use Rattle.vortex_ranges.proofs.Above.{chained, not_itself, not_under, not_over, lies_inside, inside}
 use Rattle.vortex_pruning.specs.Exact.{IsReached, Gives, IsValueOf, HasEnds, IsExact}
-use Rattle.vortex_pruning.proofs.OrderedPairs.{IsPair, pair, some_order, one_of, above_is_less}
+use Rattle.vortex_pruning.proofs.OrderedPairs.{pair, some_order, one_of, above_is_less}
 use Rattle.vortex_pruning.proofs.OrderedPairs.{low_inside}
 use Rattle.vortex_pruning.proofs.SoleValues.{one_value}
 use Rattle.vortex_pruning.proofs.ExactLeaves.{truths_exact}

@@ -1,10 +1,9 @@
 -- Like of an exact argument with both ends, and of a pattern of a prefix and `%`, has an exact range.
-use Rattle.std.specs.Prelude.{◌≡◌, ◌≢◌, ◌&&◌, ◌||◌, ℕ, ◌<◌, List, [], ◌∷◌, Bool, true, false, not}
-use Rattle.std.specs.Prelude.{Option, Some, None, MatchOption, IsUtf8, nat_eq, if◌then◌else◌, refl}
-use Rattle.std.specs.List.{starts_with}
+use Rattle.std.specs.Prelude.{◌≡◌, ◌≢◌, ◌&&◌, ◌||◌, ℕ, ◌<◌, List, Bool, true, false, not}
+use Rattle.std.specs.Prelude.{Option, Some, None, MatchOption, IsUtf8, if◌then◌else◌, refl}
 use Rattle.std.specs.Str.{chars}
-use Rattle.std.proofs.Common.{sym, ap, ◌∙◌, subst, inl, inr}
-use Rattle.vortex_types.specs.LogicalTypes.{LogicalType, bool_type, text_type}
+use Rattle.std.proofs.Common.{ap, ◌∙◌, subst}
+use Rattle.vortex_types.specs.LogicalTypes.{bool_type, text_type}
 use Rattle.vortex_types.specs.ScalarView.{ScalarView}
 use Rattle.vortex_types.specs.Values.{Value, null, truth, number, text, bytes, list}
 use Rattle.vortex_columns.specs.ColumnView.{ColumnView, is_bytes_like}
@@ -12,10 +11,10 @@ use Rattle.vortex_like.specs.declared.options.LikeOptions.{LikeOptions}
 use Rattle.vortex_like.specs.Patterns.{like_value}
 use Rattle.vortex_like.specs.Tokens.{tokens_of, is_match}
 use Rattle.vortex_statistics.specs.StatisticsView.{StatisticsView}
-use Rattle.vortex_interface.specs.Outcomes.{Outcome, gives}
+use Rattle.vortex_interface.specs.Outcomes.{gives}
 use Rattle.vortex_interface.specs.Meaning.{Meaning}
 use Rattle.vortex_interface.specs.Shipped.{Like}
-use Rattle.vortex_interface.specs.Functions.{Function, ours}
+use Rattle.vortex_interface.specs.Functions.{ours}
 use Rattle.vortex_interface.specs.Trees.{Tree, constant, call, no_trees, tree}
 use Rattle.vortex_interface.proofs.TypedCalls.{eval_two}
 use Rattle.vortex_ranges.specs.Ranges.{RangeView, Admits, is_over, is_above, may_be}

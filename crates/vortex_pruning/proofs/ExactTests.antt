@@ -1,6 +1,6 @@
 -- Calls of Between and of Like that are as sharp as their arguments.
 use Rattle.std.specs.Prelude.{◌≡◌, ◌≢◌, ◌&&◌, ◌||◌, ℕ, ◌<◌, List, [], ◌∷◌, Bool, true, false}
-use Rattle.std.specs.Prelude.{Option, Some, None, IfSome, IsUtf8, slice_get, refl}
+use Rattle.std.specs.Prelude.{Option, Some, None, IfSome, IsUtf8, refl}
 use Rattle.std.proofs.Common.{sym, ap, ◌∙◌, subst, cond}
 use Rattle.vortex_types.specs.LogicalTypes.{LogicalType, bool_type, text_type, is_nullable}
 use Rattle.vortex_types.specs.ScalarView.{ScalarView}
@@ -15,18 +15,17 @@ use Rattle.vortex_interface.specs.Meaning.{Meaning}
 use Rattle.vortex_interface.specs.Shipped.{Between, Like}
 use Rattle.vortex_interface.specs.Shipped.BetweenFunction.{bounded_type}
 use Rattle.vortex_interface.specs.Shipped.LikeFunction.{like_type}
-use Rattle.vortex_interface.specs.Functions.{Function, ours}
+use Rattle.vortex_interface.specs.Functions.{ours}
 use Rattle.vortex_interface.specs.Trees.{place, Tree, leaf, constant, call, no_trees, tree}
 use Rattle.vortex_interface.specs.Eval.{tree_type, tree_types}
 use Rattle.vortex_interface.proofs.TypedCalls.{types_parts, two_types, IsTypedCall}
 use Rattle.vortex_ranges.specs.Ranges.{RangeView, only}
 use Rattle.vortex_ranges.specs.TypeRanges.{greatest, known_or}
 use Rattle.vortex_ranges.specs.Comparing.{betweenness}
-use Rattle.vortex_ranges.specs.Described.{DescribeAll, known_end, described, literal_range}
+use Rattle.vortex_ranges.specs.Described.{DescribeAll, known_end, literal_range}
 use Rattle.vortex_ranges.specs.Prefixes.{IsPrefixRange, prefix_range}
 use Rattle.vortex_ranges.specs.Reached.{inclusive}
 use Rattle.vortex_ranges.specs.ShippedCalls.{between_range}
-use Rattle.vortex_ranges.proofs.Tests.{first, second}
 use Rattle.vortex_pruning.specs.Exact.{IsValueOf, HasEnds, IsExact}
 use Rattle.vortex_pruning.specs.Knowing.{IsLeafRange}
 use Rattle.vortex_pruning.specs.SharpCalls.{AreBounds, IsPrefixTest, IsCapped}

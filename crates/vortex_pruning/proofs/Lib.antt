@@ -17,3 +17,4 @@ pub mod ExactTests
 pub mod ExactCalls
 pub mod SharpVerdicts
 pub mod LeafSteps
+pub mod GroupsReplaced

@@ -41,6 +41,11 @@ field_in g n f = record {
   skips_nan = false;
 }
 
+-- statistics of the field's type, whose ends speak of NaN too
+pub record IsOfField (f : FieldStatistics) (s : StatisticsView) : Type 0 where
+  pub typed : s.dtype ≡ type_of f.dtype
+  pub floats : s.skips_nan ≡ false
+
 abbrev pub statistics_in : ℕ → ℕ → List FieldStatistics → List StatisticsView
 statistics_in g n fs = map (field_in g n) fs
 

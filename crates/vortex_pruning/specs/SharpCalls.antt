@@ -1,5 +1,5 @@
 -- Calls of which no more can be known than of their arguments.
-use Rattle.std.specs.Prelude.{◌≡◌, ◌≢◌, ℕ, List, Bool, true, false, None, IfSome, IsUtf8, slice_get}
+use Rattle.std.specs.Prelude.{◌≡◌, ◌≢◌, ℕ, List, true, false, None, IfSome, IsUtf8, slice_get}
 use Rattle.vortex_types.specs.Values.{Value, text, is_null}
 use Rattle.vortex_like.specs.declared.options.LikeOptions.{LikeOptions}
 use Rattle.vortex_statistics.specs.StatisticsView.{StatisticsView}

@@ -5,3 +5,4 @@ pub mod Joined
 pub mod Extremes
 pub mod Measured
 pub mod Unknown
+pub mod Replaced

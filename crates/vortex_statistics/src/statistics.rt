@@ -7,6 +7,7 @@ ghost use Rattle.vortex_statistics.specs.Unknown.{unknown, DescribesAny};
 
 mod joined;
 mod measured;
+mod replaced;
 
 use crate::checks::are_consistent;
 use crate::end::End;

@@ -16,9 +16,9 @@ use std::alloc::Global;
 use vortex_checked::{CheckedAdd, CheckedMul, CheckedSub};
 use vortex_columns::{Column, NumericOperator, PType};
 use vortex_kernels::arithmetic_integer::ArithmeticInteger;
+use vortex_kernels::checked_loops::faultless_rows;
 use vortex_kernels::constant_operand::bounded_products;
 use vortex_kernels::numbers::{ListedNumbers, Numbers, OneNumber};
-use vortex_kernels::numeric::checked_rows;
 use vortex_kernels::products::VectorMul;
 use vortex_kernels::row_operation::{RowOperation, WideMul};
 
@@ -41,10 +41,8 @@ fn numeric_rows<T: ArithmeticInteger, O: RowOperation<T>, L: Numbers<T>, R: Numb
     ensures { IfSome result
         (HasExactRows O.exact (operand_column lhs.now) (operand_column rhs.now)) }
 {
-    let (values, may_fault) = checked_rows::<T, O, L, R>(alloc, left, right, lhs.len()).ok()?;
-    if may_fault {
-        return None;
-    }
+    let made = faultless_rows::<T, O, L, R>(alloc, left, right, lhs.len()).ok()?;
+    let values = made?;
     let validity = both_valid_in(alloc, lhs, rhs)?;
     Column::try_primitive(alloc, values, validity).ok()
 }

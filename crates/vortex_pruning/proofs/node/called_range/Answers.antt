@@ -1,12 +1,8 @@
-use Rattle.std.proofs.Common.{◌∙◌, sym, ap, subst, map, List}
-use Rattle.std.specs.List.{list_any}
+use Rattle.std.proofs.Common.{◌∙◌, sym, ap, subst}
 use Rattle.vortex_types.specs.TypeOf.{type_of}
-use Rattle.vortex_functions.specs.Words.{function_of, function_type, function_means}
-use Rattle.vortex_ranges.specs.declared.range.Range.{Range}
+use Rattle.vortex_functions.specs.Words.{function_of}
 use Rattle.vortex_ranges.specs.BoundViews.{range_of}
-use Rattle.vortex_ranges.specs.Calls.{AdmitsCalls}
 use Rattle.vortex_pruning.specs.Knowing.{Knows, with_faults}
-use Rattle.vortex_pruning.specs.Exact.{IsCallRange}
 use Rattle.vortex_pruning.proofs.TreesKnown.{called_known}
 use Rattle.vortex_pruning.proofs.node.called_range.Goals as goal
 

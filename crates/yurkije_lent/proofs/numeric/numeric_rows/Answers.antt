@@ -1,9 +1,10 @@
-use Rattle.std.proofs.Common.{length, map, arith}
+use Rattle.std.proofs.Common.{false, length, map, arith, refl}
 use Rattle.vortex_columns.specs.ValidityView.{validity_of}
-use Rattle.vortex_kernels.specs.Numeric.{row_results, AreResults, TellsFaults}
+use Rattle.vortex_kernels.specs.Faults.{AreHeldResults}
+use Rattle.vortex_kernels.specs.Numeric.{row_results}
 use Rattle.yurkije_lent.specs.Operands.{operand_column}
 use Rattle.yurkije_lent.proofs.Calculated.{calculated_rows}
-use Rattle.yurkije_lent.proofs.Optional.{answered}
+use Rattle.yurkije_lent.proofs.FloatArithmetic.{inner_holds}
 use Rattle.yurkije_lent.proofs.numeric.numeric_rows.Goals as goal
 
 pub returns : goal.returns
@@ -18,16 +19,12 @@ returns g c =
     let n = length l.rows in
     let results = row_results exact left right in
     let values = c.in_ok-values.values in
-    let told = c.in_ok-values.may_fault in
-    let are =
-    answered c.checked_rows.result (λ a. AreResults p results n (map number a.0.items)) c.ok.result
-    (values, told) c.ok.ensures.value c.in_ok-values.was
-    (rw c.len.ensures at c.checked_rows.ensures.values) in
-    let tells =
-    answered c.checked_rows.result (λ a. TellsFaults p results n a.1) c.ok.result (values, told)
-    c.ok.ensures.value c.in_ok-values.was (rw c.len.ensures at c.checked_rows.ensures.fault) in
+    let held =
+    inner_holds c.faultless_rows.result (λ vs. AreHeldResults p results n (map number vs.items))
+    c.ok.result c.in_ok-made.made values c.ok.ensures.value c.in_ok-made.was c.in_ok-values.was
+    (rw c.len.ensures at c.faultless_rows.ensures) in
     calculated_rows p exact left right l r c.requires.types c.requires.lengths c.requires.left.each
     (λ i lt. c.requires.right.each i (omega (arith, c.requires.lengths, lt)))
-    number values.items told (validity_of c.in_ok-validity.validity) c.try_primitive.result
-    c.ok-2.result are tells c.if-may_fault.false c.in_ok-validity.ensures c.try_primitive.ensures
+    number values.items false (validity_of c.in_ok-validity.validity) c.try_primitive.result
+    c.ok-2.result held.0 held.1 refl c.in_ok-validity.ensures c.try_primitive.ensures
     c.ok-2.ensures.value

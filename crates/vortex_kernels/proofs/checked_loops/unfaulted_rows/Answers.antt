@@ -2,7 +2,7 @@ use Rattle.std.proofs.Common.{◌≡◌, ◌∙◌, map, sym, false}
 use Rattle.std.proofs.lemmas.List.{map-append}
 use Rattle.vortex_kernels.specs.Numeric.{row_results}
 use Rattle.vortex_kernels.proofs.Calculating.{results_more, tells_more, no_fault}
-use Rattle.vortex_kernels.proofs.numeric.unfaulted_rows.Goals as goal
+use Rattle.vortex_kernels.proofs.checked_loops.unfaulted_rows.Goals as goal
 
 pub loop-i-preserved : goal.loop-i-preserved
 loop-i-preserved g c =

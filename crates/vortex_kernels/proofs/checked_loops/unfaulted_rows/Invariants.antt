@@ -2,7 +2,7 @@ use Rattle.std.proofs.Common.{◌≡◌, map}
 use Rattle.std.specs.Vec.{vec_capacity}
 use Rattle.vortex_kernels.specs.Faults.{AreHeldResults}
 use Rattle.vortex_kernels.specs.Numeric.{row_results}
-use Rattle.vortex_kernels.proofs.numeric.unfaulted_rows.Given as goal
+use Rattle.vortex_kernels.proofs.checked_loops.unfaulted_rows.Given as goal
 
 -- the results so far, of which no row faults, and the capacity for the rest
 abbrev pub invariant-loop-i : goal.invariant-loop-i

@@ -1,5 +1,5 @@
 use Rattle.vortex_kernels.proofs.Calculating.{some_is}
-use Rattle.vortex_kernels.proofs.numeric.checked_rows.Goals as goal
+use Rattle.vortex_kernels.proofs.checked_loops.checked_rows.Goals as goal
 
 pub returns-clause-fault : goal.returns-clause-fault
 returns-clause-fault g c =

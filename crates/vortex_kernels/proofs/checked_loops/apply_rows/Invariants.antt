@@ -1,7 +1,7 @@
 use Rattle.std.proofs.Common.{◌≡◌, map}
 use Rattle.std.specs.Vec.{vec_capacity}
 use Rattle.vortex_kernels.specs.Numeric.{row_results, AreResults, TellsFaults}
-use Rattle.vortex_kernels.proofs.numeric.apply_rows.Given as goal
+use Rattle.vortex_kernels.proofs.checked_loops.apply_rows.Given as goal
 
 -- the results so far, the capacity for the rest, and the flag of the rows so far
 abbrev pub invariant-loop-i : goal.invariant-loop-i
