@@ -61,7 +61,7 @@ pub struct MixedColumn {
     pub field: Option<TextField>,
     /// Whether the column is probably not meant to be text: that field is what other programs write
     /// for null, or more fields than not are of the kind, without quoted texts for null; or each is
-    /// null.
+    /// null, and rows may follow that were not looked at.
     pub is_meant: bool,
 }
 
@@ -282,6 +282,7 @@ fn mixed_column(
     fields: &[Option<&[u8]>],
     width: usize,
     numbers: &[usize],
+    is_full: bool,
     column: usize,
 ) -> Result<Option<MixedColumn>, AllocError>
     requires column { column < width }
@@ -292,7 +293,7 @@ fn mixed_column(
         return Ok(Some(MixedColumn {
             name,
             field: None,
-            is_meant: true,
+            is_meant: is_full,
         }));
     }
     let found = mixed_field(format, fields, width, numbers.len(), column);
@@ -316,7 +317,7 @@ fn mixed_column(
 }
 
 /// The columns of those names that are text, and have numbers, dates or timestamps, or nulls alone:
-/// of rows with those numbers.
+/// of rows with those numbers; `is_full` says that others may follow.
 pub(crate) fn mixed_columns(
     alloc: Global,
     format: &Format<'_>,
@@ -324,6 +325,7 @@ pub(crate) fn mixed_columns(
     types: &StructFields,
     fields: &[Option<&[u8]>],
     numbers: &[usize],
+    is_full: bool,
 ) -> Result<Vec<MixedColumn>, AllocError>
     requires { length fields.now ≡ length names.now * length numbers.now }
 {
@@ -333,7 +335,9 @@ pub(crate) fn mixed_columns(
         if !is_text(types, name) {
             continue;
         }
-        if let Some(found) = mixed_column(alloc, format, name, fields, width, numbers, column)? {
+        if let Some(found) = mixed_column(
+            alloc, format, name, fields, width, numbers, is_full, column,
+        )? {
             columns.push(found)?;
         }
     }

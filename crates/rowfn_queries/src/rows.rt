@@ -34,6 +34,8 @@ pub(crate) struct Rows {
     pub(crate) numbers: Vec<usize>,
     /// How many records were read behind the header.
     pub(crate) records_read: usize,
+    /// Whether they are as many as types are taken from, at most: others may follow.
+    pub(crate) is_full: bool,
 }
 
 impl Rows {
@@ -46,6 +48,7 @@ impl Rows {
             batch: Batch::new(alloc),
             numbers: Vec::new(alloc),
             records_read: 0,
+            is_full: false,
         }
     }
 
@@ -263,6 +266,7 @@ pub(crate) fn read_rows<R: Read>(
             Sampled::End => return Ok(()),
         }
         if rows.batch.len() >= SAMPLED_ROWS || records.span().end >= SAMPLED_BYTES {
+            rows.is_full = true;
             return Ok(());
         }
     }

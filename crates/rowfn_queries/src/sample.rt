@@ -146,7 +146,7 @@ fn mixed_of(
     if names.len().checked_mul(numbers.len()) != Some(fields.len()) {
         return Ok(Vec::new(alloc));
     }
-    mixed_columns(alloc, format, names, types, &fields, numbers)
+    mixed_columns(alloc, format, names, types, &fields, numbers, rows.is_full)
 }
 
 /// Reads the header, where there is one, and the first rows: without bad ones, where they are left
