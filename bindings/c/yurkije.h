@@ -119,7 +119,7 @@ enum yk_status {
     YK_NO_EXPRESSION = 112,      /* it is not written as expressions are */
     YK_UNKNOWN_TYPE = 113,       /* no type has that name */
     YK_NOT_HELD = 114,           /* a literal is no value of its type */
-    YK_UNTYPED_NULL = 115,       /* a null stands beside nothing that has a type */
+    YK_UNTYPED_NULL = 115,       /* no call returns it now: a null that nothing gives a type is a text */
     YK_NO_ESCAPE = 116,          /* the escape of a LIKE is more than one character */
     YK_NO_CAST = 117,            /* no cast leads to that type */
     YK_NO_FUNCTION = 118,        /* no function has that name */

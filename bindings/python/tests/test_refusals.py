@@ -26,7 +26,8 @@ class Refusals(unittest.TestCase):
         error = self.refused(ExpressionError, lambda: evaluate("price > 1 and\nprcie < 2", columns), number=11, name="ScopeMismatch", line=2, character=1)
         self.assertIn("price", error.message)
         self.refused(ExpressionError, lambda: evaluate("price +", columns), number=112, name="NoExpression", byte=7)
-        self.refused(ExpressionError, lambda: evaluate("price = 'a'", columns), number=3, name="TypeMismatch")
+        self.refused(ExpressionError, lambda: evaluate("price = 'a'", columns), number=114, name="NotHeld")
+        self.refused(ExpressionError, lambda: evaluate("price and true", columns), number=3, name="TypeMismatch")
         self.refused(ExpressionError, lambda: Expression("a", {"a": "int"}), number=113, name="UnknownType", column="a")
 
     def test_a_text_that_is_wrong_is_told_before_any_column(self):
@@ -36,7 +37,7 @@ class Refusals(unittest.TestCase):
                 self.refused(ExpressionError, lambda: ask("a => 1", columns), number=112, byte=3)
                 self.refused(ExpressionError, lambda: ask("f > 1 and a => 1", columns), number=112, byte=13)
                 self.refused(ExpressionError, lambda: ask("a + 1 > 2 and b = 1", columns), number=11, byte=14)
-                self.refused(ExpressionError, lambda: ask("a is null or null = null", columns), number=115)
+                self.refused(ExpressionError, lambda: ask("a is null or null + null = 1", columns), number=3)
                 self.refused(ExpressionError, lambda: ask("a is null or 300::u8 = 1", columns), number=114)
                 self.refused(ExpressionError, lambda: ask("a is null or 3::number = 1", columns), number=113)
         # if the text may be right, the column is reported
@@ -47,7 +48,7 @@ class Refusals(unittest.TestCase):
         # a near name may be that of any column, whatever its type
         error = self.refused(ExpressionError, lambda: select("prcie > 1", {"price": floats}), number=11)
         self.assertIn('is "price" meant?', error.message)
-        self.refused(ExpressionError, lambda: select("a + 1 > 'x'", {"a": [1], "f": floats}), number=3)
+        self.refused(ExpressionError, lambda: select("a + 1 > 'x'", {"a": [1], "f": floats}), number=114)
 
     def test_answers_that_are_no_truth_values_take_no_rows(self):
         made = Expression("a + 1, a > 1", {"a": "i64?"})

@@ -63,7 +63,7 @@ statuses! {
     NoExpression = 112, "the text is not written as expressions are";
     UnknownType = 113, "no type has that name";
     NotHeld = 114, "a literal is no value of its type";
-    UntypedNull = 115, "a null stands beside nothing that has a type";
+    UntypedNull = 115, "a null that nothing gives a type (no call returns it now: such a null is a text)";
     NoEscape = 116, "the escape of a LIKE is more than one character";
     NoCast = 117, "no cast leads to that type";
     NoFunction = 118, "no function has that name";
