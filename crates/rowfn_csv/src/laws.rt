@@ -11,7 +11,8 @@ pub fn each_record_has_fields()
 {}
 
 /// Cells that are written as a line, in quotes where they need them, and null as its first text,
-/// say fields that are those cells, or null for a text that is null in quotes too. The line is no comment, and no line ends within a bare field.
+/// say fields that are those cells, or null for a text that is null in quotes too. The line is no
+/// comment, and no line ends within a bare field.
 pub fn cells_read_back()
     ensures { CellsReadBack }
 {}
