@@ -6,10 +6,11 @@ use Rattle.std.specs.Char.{is_ascii_digit}
 use Rattle.std.proofs.Math.Nat.{div-div-eq-div-mul}
 use Rattle.std.proofs.lemmas.Int.{ints}
 use Rattle.jiff_core.proofs.SignedLemmas.{signed_arith}
+use Rattle.vortex_logical.specs.DateTexts.{padded}
 use Rattle.vortex_logical.specs.DecimalTexts.{last_digits}
 use Rattle.vortex_logical.specs.DateTexts.{IsDateText}
 use Rattle.vortex_logical.specs.TimestampTexts.{fraction_from, fraction_of_text, after_seconds, clock_seconds}
-use Rattle.vortex_logical.specs.TimestampTexts.{with_seconds, with_fraction, time_of_text, time_text}
+use Rattle.vortex_logical.specs.TimestampTexts.{with_seconds, with_fraction, timed, time_of_text, time_text}
 use Rattle.vortex_logical.specs.TimestampTexts.{fraction_text, in_years, instant_at, timestamp_of_text}
 use Rattle.vortex_logical.specs.TimestampTexts.{TimestampsAreReadBack}
 use Rattle.vortex_logical.proofs.DateLemmas.{day_back, digits_back, dated_between}
@@ -81,9 +82,12 @@ time_back t h =
     let hours : t / 3600000000 ≤ 23 = omega (arith, h) in
     let minutes : t / 60000000 % 60 ≤ 59 = omega arith in
     let seconds : t / 1000000 % 60 ≤ 59 = omega arith in
-    (λ i. with_seconds
-    (clock_seconds (digits_back (t / 3600000000) (omega (arith, hours)) i)
-    (digits_back (t / 60000000 % 60) (omega (arith, minutes)) i) (digits_back (t / 1000000 % 60) (omega (arith, seconds)) i))
+    (λ i. timed (digits_back (t / 3600000000) (omega (arith, hours)) i)
+    (digits_back (t / 60000000 % 60) (omega (arith, minutes)) i)
+    (58 ∷ padded (t / 1000000 % 60) (fraction_text (t % 1000000))))
+    ∙ (λ i. with_seconds
+    (clock_seconds (Some (t / 3600000000)) (Some (t / 60000000 % 60))
+    (digits_back (t / 1000000 % 60) (omega (arith, seconds)) i))
     (fraction_text (t % 1000000)))
     ∙ (λ i. with_seconds (clock_back (t / 3600000000) (t / 60000000 % 60) (t / 1000000 % 60) hours minutes seconds i)
     (fraction_text (t % 1000000)))

@@ -1,5 +1,6 @@
 -- Microseconds since 1970-01-01T00:00:00, as they are written: a date, T or a blank, hours, minutes
--- and seconds, and if need be a point with up to six digits, and a zone's offset.
+-- and seconds, which may be left out, and if need be a point with up to six digits, and a zone's
+-- offset.
 use Rattle.std.specs.Prelude.{◌≡◌, ◌+◌, ◌-◌, ◌*◌, ◌/◌, ◌%◌, ◌^◌, ◌<◌, ℕ, zero, suc, ℤ, pos, neg_ℤ}
 use Rattle.std.specs.Prelude.{◌+ℤ◌, ◌-ℤ◌}
 use Rattle.std.specs.Prelude.{◌*ℤ◌, List, [], ◌∷◌, ◌++◌, Option, Some, None, take, drop}
@@ -67,11 +68,26 @@ abbrev pub with_seconds : Option ℕ → List ℕ → Option ℤ
 with_seconds None bs = None
 with_seconds (Some seconds) bs = after_seconds seconds bs
 
+-- hours and minutes without seconds
+abbrev pub with_minutes : Option ℕ → List ℕ → Option ℤ
+with_minutes None bs = None
+with_minutes (Some seconds) bs = zoned (seconds * 1000000) bs
+
+-- what follows hours and minutes: a colon and seconds, or none
+abbrev pub after_minutes : ℕ → ℕ → List ℕ → Option ℤ
+after_minutes h m (d ∷ s ∷ u ∷ bs) =
+    if d == 58 then with_seconds (clock_seconds (Some h) (Some m) (two_digits s u)) bs
+    else with_minutes (clock_seconds (Some h) (Some m) (Some 0)) (d ∷ s ∷ u ∷ bs)
+after_minutes h m bs = with_minutes (clock_seconds (Some h) (Some m) (Some 0)) bs
+
+abbrev pub timed : Option ℕ → Option ℕ → List ℕ → Option ℤ
+timed (Some h) (Some m) bs = after_minutes h m bs
+timed h m bs = None
+
 -- what follows the date, in microseconds
 abbrev pub time_of_text : List ℕ → Option ℤ
-time_of_text (t ∷ h ∷ i ∷ c ∷ m ∷ n ∷ d ∷ s ∷ u ∷ bs) =
-    if ((t == 84) || (t == 32)) && (c == 58) && (d == 58)
-    then with_seconds (clock_seconds (two_digits h i) (two_digits m n) (two_digits s u)) bs
+time_of_text (t ∷ h ∷ i ∷ c ∷ m ∷ n ∷ bs) =
+    if ((t == 84) || (t == 32)) && (c == 58) then timed (two_digits h i) (two_digits m n) bs
     else None
 time_of_text bs = None
 

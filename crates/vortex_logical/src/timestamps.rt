@@ -8,7 +8,8 @@ ghost use Rattle.std.specs.Int.{int_div_euclid, int_rem_euclid};
 ghost use Rattle.jiff_core.specs.Calendar.{IsWithin, IsEpochDay};
 ghost use Rattle.vortex_logical.specs.TimestampTexts.{signed_offset, offset_of_text, fraction_from};
 ghost use Rattle.vortex_logical.specs.TimestampTexts.{fraction_of_text, zoned, after_seconds};
-ghost use Rattle.vortex_logical.specs.TimestampTexts.{clock_seconds, time_of_text, in_years};
+ghost use Rattle.vortex_logical.specs.TimestampTexts.{after_minutes, clock_seconds, time_of_text};
+ghost use Rattle.vortex_logical.specs.TimestampTexts.{in_years};
 ghost use Rattle.vortex_logical.specs.TimestampTexts.{timestamp_of_text, fraction_text, time_text};
 ghost use Rattle.vortex_logical.specs.TimestampTexts.{instant_at, IsTimed, IsTimestampText};
 ghost use Rattle.vortex_logical.specs.TimestampTexts.{TimestampsAreReadBack};
@@ -124,15 +125,27 @@ fn clock_seconds(hours: u8, minutes: u8, seconds: u8) -> Option<u64>
     }
 }
 
+/// What follows the minutes of a time: seconds, or none.
+fn after_minutes(hours: u8, minutes: u8, text: &[u8]) -> Option<i64>
+    ensures value { result ≡ after_minutes hours minutes text.now }
+    ensures small { IfSome result (IsWithin 172800000000) }
+{
+    match text {
+        [b':', s, u, rest @ ..] => {
+            after_seconds(clock_seconds(hours, minutes, two_digits(*s, *u)?)?, rest)
+        }
+        _ => zoned(clock_seconds(hours, minutes, 0)? * 1000000, text),
+    }
+}
+
 /// What follows the date, in microseconds from its first one.
 fn read_time(text: &[u8]) -> Option<i64>
     ensures value { result ≡ time_of_text text.now }
     ensures small { IfSome result (IsWithin 172800000000) }
 {
     match text {
-        [b'T' | b' ', h, i, b':', m, n, b':', s, u, rest @ ..] => {
-            let (hours, minutes) = (two_digits(*h, *i)?, two_digits(*m, *n)?);
-            after_seconds(clock_seconds(hours, minutes, two_digits(*s, *u)?)?, rest)
+        [b'T' | b' ', h, i, b':', m, n, rest @ ..] => {
+            after_minutes(two_digits(*h, *i)?, two_digits(*m, *n)?, rest)
         }
         _ => None,
     }
