@@ -53,7 +53,7 @@ use Rattle.vortex_expressions.specs.Functions.{values_in, call_kind, met_values,
 use Rattle.vortex_expressions.specs.Functions.{kinded_call, function_item, applied_item}
 use Rattle.vortex_expressions.specs.Functions.{standard_item, meant_item, made_date, applied_by}
 use Rattle.vortex_expressions.specs.Functions.{takes_whole, whole_item, kinds_item, kinded_item}
-use Rattle.vortex_expressions.specs.Functions.{joined_call, joining_item, located, named_item}
+use Rattle.vortex_expressions.specs.Functions.{joined_call, joining_item, located, read_by, named_item}
 use Rattle.vortex_syntax.specs.SizeDigits.{text_size_of}
 use Rattle.vortex_sql_texts.specs.declared.parts.Side.TheVariants.{Left}
 use Rattle.vortex_expressions.specs.Joining.{as_text, as_texts, joins}
@@ -67,12 +67,12 @@ use Rattle.vortex_expressions.proofs.SureKindFunctions.{sure_single_call, sure_k
 use Rattle.vortex_logical.specs.declared.operand.Operand.TheVariants.{Of}
 use Rattle.vortex_expressions.specs.Casts.{cast_function, cast_by, cast_from, cast_tree, cast_hint}
 use Rattle.std.specs.Option.{option_map}
-use Rattle.vortex_expressions.specs.Casts.{tried_if}
+use Rattle.vortex_expressions.specs.Casts.{tried_if, cast_to}
 use Rattle.vortex_syntax.specs.declared.step.BetweenKind.{BetweenKind}
 use Rattle.vortex_types.specs.TypeEquality.{alike_types}
 use Rattle.vortex_expressions.specs.Binding.{with_item, item_by, item_of, items_by, branches_by}
 use Rattle.vortex_expressions.specs.Binding.{tree_of, logical_of, ended, LogicalTree}
-use Rattle.vortex_logical.specs.declared.kind.Kind.TheVariants.{Plain, F64}
+use Rattle.vortex_logical.specs.declared.kind.Kind.TheVariants.{Date, Timestamp, Plain, F64}
 use Rattle.vortex_syntax.specs.Postfix.{has_operand, test_of}
 use Rattle.vortex_expressions.specs.Literals as literals
 use Rattle.vortex_expressions.specs.Answers.{name_of, written_name, answer_of, answers_of}
@@ -214,24 +214,6 @@ module _ (columns : Names) (sure_columns : (w : List ℕ) → Sure IsItem (colum
   sure_interval_item (literals.truth b) = tt
   sure_interval_item literals.null = tt
 
-  sure_typed_plain : (w : List ℕ) (n : Bool) (i : Item) → IsLiteral i
-      → Sure IsItem (calls.typed_plain w n i)
-  sure_typed_plain w n (literal l) h =
-      sure_if IsItem (is_interval_name w n) _ _ (sure_interval_item l) (sure_typed w n (literal l) h)
-  sure_typed_plain w n (fraction v) h = sure_typed w n (fraction v) h
-  sure_typed_plain w n (interval z) h = absurd h
-  sure_typed_plain w n (bound t) h = absurd h
-  sure_typed_plain w n (kinded k t) h = absurd h
-
-  sure_typed_named : (w : List ℕ) (n : Bool) (i : Item) (k : Option Kind) → IsLiteral i
-      → Sure IsItem (calls.typed_named w n i k)
-  sure_typed_named w n i None h = sure_typed_plain w n i h
-  sure_typed_named w n (literal l) (Some k) h = sure_kind_item k l
-  sure_typed_named w n (fraction v) (Some k) h = sure_kind_item k (literals.number v)
-  sure_typed_named w n (interval z) (Some k) h = absurd h
-  sure_typed_named w n (bound t) (Some k) h = absurd h
-  sure_typed_named w n (kinded j t) (Some k) h = absurd h
-
   -- calls of SQL's functions
   sure_function : (f : Standard) (o : Option LogicalType) (is : List Item) → AllItems is
       → Sure IsTyped (called (callable f) o is)
@@ -296,16 +278,45 @@ module _ (columns : Names) (sure_columns : (w : List ℕ) → Sure IsItem (colum
       → Sure IsTyped (cast_tree p t u)
   sure_cast_tree p t u h = sure_cast_from p (tree_type meaning u) t u h
 
-  sure_cast : (p : Bool) (w : List ℕ) (n : Bool) (i : Item) → IsItem i
-      → Sure IsItem (calls.cast_item p w n i)
-  sure_cast p w n i h =
-      sure_item _ (sure_then _ IsTyped (calls.type_of_name w n) _ (sure_named w n)
-      (λ t k. sure_if IsTyped (is_nullable t) _ _
+  sure_cast_to : (p : Bool) (i : Item) (t : LogicalType) → IsItem i → Sure IsTyped (cast_to p i t)
+  sure_cast_to p i t h =
+      sure_if IsTyped (is_nullable t) _ _
       (sure_if IsTyped (is_bool_type t) _ _
       (sure_called Cast (Some t) (i ∷ []) refl (λ ks. refl) (h, tt)) tt)
       (sure_then IsTyped IsTyped (settled (cast_hint p i t) i) _
       (sure_settled (cast_hint p i t) i h)
-      (λ u j. sure_cast_tree p t u j))))
+      (λ u j. sure_cast_tree p t u j))
+
+  sure_cast : (p : Bool) (w : List ℕ) (n : Bool) (i : Item) → IsItem i
+      → Sure IsItem (calls.cast_item p w n i)
+  sure_cast p w n i h =
+      sure_item _ (sure_then _ IsTyped (calls.type_of_name w n) _ (sure_named w n)
+      (λ t k. sure_cast_to p i t h))
+
+  sure_typed_or_cast : (l : literals.Literal) (t : LogicalType) → Sure IsTyped (calls.typed_or_cast l t)
+  sure_typed_or_cast l t =
+      sure_if IsTyped (is_nullable t || literals.suits l t) _ _ (sure_constant l t)
+      (sure_cast_to false (literal l) t tt)
+
+  sure_typed_plain : (w : List ℕ) (n : Bool) (i : Item) → IsLiteral i
+      → Sure IsItem (calls.typed_plain w n i)
+  sure_typed_plain w n (literal l) h =
+      sure_if IsItem (is_interval_name w n) _ _ (sure_interval_item l)
+      (sure_item _ (sure_then _ IsTyped (calls.type_of_name w n) _ (sure_named w n)
+      (λ t k. sure_typed_or_cast l t)))
+  sure_typed_plain w n (fraction v) h = sure_typed w n (fraction v) h
+  sure_typed_plain w n (interval z) h = absurd h
+  sure_typed_plain w n (bound t) h = absurd h
+  sure_typed_plain w n (kinded k t) h = absurd h
+
+  sure_typed_named : (w : List ℕ) (n : Bool) (i : Item) (k : Option Kind) → IsLiteral i
+      → Sure IsItem (calls.typed_named w n i k)
+  sure_typed_named w n i None h = sure_typed_plain w n i h
+  sure_typed_named w n (literal l) (Some k) h = sure_kind_item k l
+  sure_typed_named w n (fraction v) (Some k) h = sure_kind_item k (literals.number v)
+  sure_typed_named w n (interval z) (Some k) h = absurd h
+  sure_typed_named w n (bound t) (Some k) h = absurd h
+  sure_typed_named w n (kinded j t) (Some k) h = absurd h
 
   sure_cast_of_kind : (p : Bool) (w : List ℕ) (n : Bool) (i : Item) → IsItem i
       → Sure IsItem (calls.cast_of_kind p w n i)
@@ -578,11 +589,20 @@ module _ (columns : Names) (sure_columns : (w : List ℕ) → Sure IsItem (colum
   sure_located (i ∷ j ∷ []) h = sure_item_call standard.StrPos (j ∷ i ∷ []) (h.1.0, (h.0, tt))
   sure_located (i ∷ j ∷ k ∷ is) h = sure_item_call standard.StrPos (i ∷ j ∷ k ∷ is) h
 
+  sure_read_by : (k : Kind) (f : Standard) (is : List Item) → AllItems is
+      → Sure IsItem (read_by k f is)
+  sure_read_by k f is h =
+      sure_then IsTyped IsItem (function_call f is) _ (sure_call_on f is h) (λ t k. k)
+
   sure_named_item : (o : Option Standard) (w : List ℕ) (is : List Item) → AllItems is
       → Sure IsItem (named_item o w is)
   sure_named_item (Some f) w is h = sure_joined_call f is h
   sure_named_item None w is h =
-      sure_if IsItem (same_word w (codes "locate")) _ _ (sure_located is h) tt
+      sure_if IsItem (same_word w (codes "locate")) _ _ (sure_located is h)
+      (sure_if IsItem (same_word w (codes "to_date")) _ _
+      (sure_read_by Date standard.TextToDateBy is h)
+      (sure_if IsItem (same_word w (codes "to_timestamp")) _ _
+      (sure_read_by Timestamp standard.TextToTimestampBy is h) tt))
 
   sure_joining : (w : List ℕ) (is : List Item) → AllItems is → Sure IsItem (joining_item w is)
   sure_joining w is h = sure_named_item (standard_named w) w is h

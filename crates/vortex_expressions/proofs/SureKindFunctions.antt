@@ -25,7 +25,7 @@ use Rattle.vortex_expressions.specs.declared.kind_words.KindFunction.TheVariants
 use Rattle.vortex_expressions.specs.declared.kind_words.KindFunction.TheVariants.{ToUnit}
 use Rattle.vortex_expressions.specs.declared.kind_words.KindName.{KindName}
 use Rattle.vortex_expressions.specs.declared.kind_words.KindName.TheVariants.{Single, PartByText}
-use Rattle.vortex_expressions.specs.declared.kind_words.KindName.TheVariants.{UnitByText, AddMonths}
+use Rattle.vortex_expressions.specs.declared.kind_words.KindName.TheVariants.{UnitByText, AddMonths, ToChar}
 use Rattle.vortex_expressions.specs.Literals.{number, text}
 use Rattle.vortex_expressions.specs.Outcomes.{answers, or_refuses}
 use Rattle.vortex_expressions.specs.Items.{Item, literal, bound, kinded, Tree, callable, call_of}
@@ -41,6 +41,7 @@ use Rattle.vortex_expressions.specs.KindFunctions.{places_call, part_function, p
 use Rattle.vortex_expressions.specs.KindFunctions.{unit_function, unit_call, of_value, pair_call}
 use Rattle.vortex_expressions.specs.KindFunctions.{function_by, single_call, text_call, kind_call}
 use Rattle.vortex_expressions.specs.KindFunctions.{months_function, months_added, months_after, months_call}
+use Rattle.vortex_expressions.specs.KindFunctions.{char_function, written_by, char_of, char_call}
 use Rattle.vortex_expressions.proofs.SureCalls.{Sure, sure_then, sure_if, sure_or, IsTyped, IsItem}
 use Rattle.vortex_expressions.proofs.SureCalls.{AllItems, sure_named_call, sure_item, sure_settled}
 use Rattle.vortex_expressions.proofs.SureKinds.{Any, sure_text_literal, sure_step}
@@ -210,7 +211,27 @@ sure_months_call : (is : List Item) → AllItems is → Sure IsItem (months_call
 sure_months_call (i ∷ j ∷ []) h = sure_months_after i j h.1.0
 sure_months_call is h = tt
 
+sure_char_function : (k : Kind) → Sure Any (char_function k)
+sure_char_function Date = tt
+sure_char_function Timestamp = tt
+sure_char_function k = tt
+
+sure_written_by : (k : Kind) (t : Tree) (j : Item) → IsItem j → Sure IsItem (written_by k t j)
+sure_written_by k t j h =
+    sure_then Any IsItem (char_function k) _ (sure_char_function k)
+    (λ f l. sure_then IsTyped IsItem (settled None j) _ (sure_settled None j h)
+    (λ n m. sure_item (call_of (callable f) (t ∷ n ∷ [])) (sure_named_call f (t ∷ n ∷ []))))
+
+sure_char_of : (i j : Item) → IsItem j → Sure IsItem (char_of i j)
+sure_char_of (kinded k t) j h = sure_written_by k t j h
+sure_char_of i j h = tt
+
+sure_char_call : (is : List Item) → AllItems is → Sure IsItem (char_call is)
+sure_char_call (i ∷ j ∷ []) h = sure_char_of i j h.1.0
+sure_char_call is h = tt
+
 pub sure_kind_call : (n : KindName) (is : List Item) → AllItems is → Sure IsItem (kind_call n is)
 sure_kind_call (Single f) is h = sure_single_call f is h
 sure_kind_call AddMonths is h = sure_months_call is h
+sure_kind_call ToChar is h = sure_char_call is h
 sure_kind_call n is h = sure_text_call n is h

@@ -5,6 +5,7 @@ use Rattle.std.specs.Str.{is_utf8, chars}
 use Rattle.vortex_errors.specs.declared.error.VortexError.TheVariants.{ScopeMismatch}
 use Rattle.vortex_types.specs.declared.dtype.PType.TheVariants.{I64}
 use Rattle.vortex_types.specs.LogicalTypes.{LogicalType, Fields, integer_type, text_type, find_field}
+use Rattle.vortex_types.specs.LogicalTypes.{is_nullable}
 use Rattle.vortex_operators.specs.declared.operators.Operator.TheVariants as operator
 use Rattle.vortex_like.specs.declared.options.LikeOptions.{LikeOptions}
 use Rattle.vortex_like.specs.Tokens.{backslash}
@@ -161,10 +162,18 @@ abbrev pub kind_of_name : List ℕ → Bool → Outcome (Option Kind)
 kind_of_name w n =
     if n then answers None else and_then (text_of w) (λ v. answers (word_kind v))
 
+-- a literal of a type; one that the type does not have is cast, but not to a type with null
+abbrev pub typed_or_cast : literal.Literal → LogicalType → Outcome Tree
+typed_or_cast l u =
+    if is_nullable u || literal.suits l u then constant_at l u else cast_to false (literal l) u
+
+abbrev pub typed_literal : List ℕ → Bool → literal.Literal → Outcome Item
+typed_literal w n l = as_item (and_then (type_of_name w n) (typed_or_cast l))
+
 -- an interval, or a literal of the type of that name
 abbrev pub typed_plain : List ℕ → Bool → Item → Outcome Item
 typed_plain w n (literal l) =
-    if is_interval_name w n then interval_item l else typed_item w n (literal l)
+    if is_interval_name w n then interval_item l else typed_literal w n l
 typed_plain w n i = typed_item w n i
 
 -- a literal of the kind or the type of that name

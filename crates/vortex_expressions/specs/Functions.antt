@@ -3,7 +3,7 @@
 use Rattle.std.specs.Prelude.{ℕ, List, [], ◌∷◌, Bool, true, false, ◌||◌, if◌then◌else◌}
 use Rattle.std.specs.Prelude.{Option, Some, None, codes}
 use Rattle.vortex_logical.specs.declared.kind.Kind.{Kind}
-use Rattle.vortex_logical.specs.declared.kind.Kind.TheVariants.{Date, Plain}
+use Rattle.vortex_logical.specs.declared.kind.Kind.TheVariants.{Date, Timestamp, Plain}
 use Rattle.vortex_logical.specs.declared.operand.Operand.{Operand}
 use Rattle.vortex_logical.specs.declared.operand.Operand.TheVariants.{Of}
 use Rattle.vortex_logical_calls.specs.Alignment.{meet_next, aligned}
@@ -134,9 +134,18 @@ abbrev pub located : List Item → Outcome Item
 located (i ∷ j ∷ []) = function_item standard.StrPos (j ∷ i ∷ [])
 located is = function_item standard.StrPos is
 
+-- the date or the timestamp of a text by a format
+abbrev pub read_by : Kind → Standard → List Item → Outcome Item
+read_by k f is = and_then (function_call f is) (λ t. answers (kinded k t))
+
 -- of names that no function has, over columns with kinds
 abbrev pub unnamed_item : List ℕ → List Item → Outcome Item
-unnamed_item w is = if same_word w (codes "locate") then located is else refuses NoFunction
+unnamed_item w is =
+    if same_word w (codes "locate") then located is
+    else (if same_word w (codes "to_date") then read_by Date standard.TextToDateBy is
+    else (if same_word w (codes "to_timestamp")
+    then read_by Timestamp standard.TextToTimestampBy is
+    else refuses NoFunction))
 
 abbrev pub named_item : Option Standard → List ℕ → List Item → Outcome Item
 named_item None w is = unnamed_item w is

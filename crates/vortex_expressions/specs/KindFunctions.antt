@@ -32,7 +32,7 @@ use Rattle.vortex_expressions.specs.declared.kind_words.KindFunction.TheVariants
 use Rattle.vortex_expressions.specs.declared.kind_words.KindFunction.TheVariants.{ToUnit}
 use Rattle.vortex_expressions.specs.declared.kind_words.KindName.{KindName}
 use Rattle.vortex_expressions.specs.declared.kind_words.KindName.TheVariants.{Single, PartByText}
-use Rattle.vortex_expressions.specs.declared.kind_words.KindName.TheVariants.{UnitByText, AddMonths}
+use Rattle.vortex_expressions.specs.declared.kind_words.KindName.TheVariants.{UnitByText, AddMonths, ToChar}
 use Rattle.vortex_expressions.specs.Literals.{number, text}
 use Rattle.vortex_expressions.specs.Outcomes.{Outcome, answers, refuses, and_then, or_refuses}
 use Rattle.vortex_expressions.specs.Items.{Item, literal, bound, kinded, fraction, Tree, as_item}
@@ -203,8 +203,28 @@ abbrev pub months_call : List Item → Outcome Item
 months_call (i ∷ j ∷ []) = months_after i j
 months_call is = refuses (Binding (ArityMismatch (Exact 2) (length is)))
 
+-- the text of a date or a timestamp by a format
+abbrev pub char_function : Kind → Outcome Standard
+char_function Date = answers standard.DateToChar
+char_function Timestamp = answers standard.TimestampToChar
+char_function k = refuses (OfKind k)
+
+abbrev pub written_by : Kind → Tree → Item → Outcome Item
+written_by k t j =
+    and_then (char_function k) (λ f.
+    and_then (settled None j) (λ n. as_item (call_of (callable f) (t ∷ n ∷ []))))
+
+abbrev pub char_of : Item → Item → Outcome Item
+char_of (kinded k t) j = written_by k t j
+char_of i j = refuses (Binding (TypeMismatch Scalars))
+
+abbrev pub char_call : List Item → Outcome Item
+char_call (i ∷ j ∷ []) = char_of i j
+char_call is = refuses (Binding (ArityMismatch (Exact 2) (length is)))
+
 -- what a name means of arguments, one of which is a value of a kind
 abbrev pub kind_call : KindName → List Item → Outcome Item
 kind_call (Single f) is = single_call f is
 kind_call AddMonths is = months_call is
+kind_call ToChar is = char_call is
 kind_call n is = text_call n is

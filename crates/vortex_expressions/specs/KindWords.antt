@@ -11,7 +11,7 @@ use Rattle.vortex_sql_dates.specs.declared.truncations.Unit.TheVariants as unit
 use Rattle.vortex_expressions.specs.declared.kind_words.KindFunction.TheVariants.{OfFloat, OfPart}
 use Rattle.vortex_expressions.specs.declared.kind_words.KindName.{KindName}
 use Rattle.vortex_expressions.specs.declared.kind_words.KindName.TheVariants.{Single, PartByText}
-use Rattle.vortex_expressions.specs.declared.kind_words.KindName.TheVariants.{UnitByText, AddMonths}
+use Rattle.vortex_expressions.specs.declared.kind_words.KindName.TheVariants.{UnitByText, AddMonths, ToChar}
 
 abbrev pub float_word : List ℕ → Option FloatFunction
 float_word w =
@@ -64,12 +64,13 @@ unit_word w =
     else (if same_word w (codes "second") then Some unit.Second
     else None)))))))
 
--- a function of a text and a value, or of a value and a number of months
+-- a function of a text and a value, or of a value and a number of months or a format
 abbrev pub texted_word : List ℕ → Option KindName
 texted_word w =
     if same_word w (codes "extract") || same_word w (codes "date_part") then Some PartByText
     else (if same_word w (codes "date_trunc") then Some UnitByText
-    else (if same_word w (codes "add_months") then Some AddMonths else None))
+    else (if same_word w (codes "add_months") then Some AddMonths
+    else (if same_word w (codes "to_char") then Some ToChar else None)))
 
 abbrev pub first_meaning : Option FloatFunction → Option Part → Option KindName → Option KindName
 first_meaning (Some f) p o = Some (Single (OfFloat f))

@@ -57,6 +57,13 @@ type_beside (Some t) null = Some t
 type_beside None null = Some (text_type false)
 type_beside o l = own_type l
 
+-- the literal has values of the type as it is written
+abbrev pub suits : Literal → LogicalType → Bool
+suits (number w) t = is_integer_type t
+suits (text bs) t = is_text_type t || is_integer_type t
+suits (truth b) t = is_bool_type t
+suits null t = true
+
 abbrev pub truth_word : Bool → List ℕ
 truth_word b = if b then codes "true" else codes "false"
 

@@ -183,7 +183,7 @@ fn cast_hint<'a>(is_tried: bool, item: &Item, dtype: &'a DType) -> Option<&'a DT
 }
 
 /// To the nullable type of truth values from truth values alone; null is kept by every cast.
-fn cast_to(
+pub(crate) fn cast_to(
     alloc: Global,
     is_tried: bool,
     item: Item,

@@ -8,7 +8,7 @@ use crate::forms::{
     text_hint,
 };
 use crate::item::{Item, common_type};
-use crate::item_texts::{is_no_text, push_literals, push_operands, push_types};
+use crate::item_texts::{is_no_text, push_operands, push_types, push_unread};
 use crate::meeting::met_next;
 use crate::refusal::Refusal;
 use crate::unheld::{INTERVAL_PLACES, has_interval, push_fractions, push_unheld, push_untyped};
@@ -294,7 +294,7 @@ impl<'a> TextFailure<'a> {
             }
             calls::Refusal::NotOfKind(kind) => {
                 let mut out = String::new(alloc);
-                if !push_literals(&mut out, &self.items()?)? {
+                if !push_unread(&mut out, *kind, &self.items()?)? {
                     out.push_str("a literal")?;
                 }
                 write!(out, " is no {kind}")?;

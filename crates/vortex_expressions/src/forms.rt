@@ -4,7 +4,7 @@ use crate::hints::missing_function;
 use crate::item::Item;
 use crate::item_texts::push_literal;
 use crate::kind_words::{KindFunction, KindName, kind_word};
-use crate::located::is_locate;
+use crate::located::meant_function;
 use crate::words::LIKENED;
 use std::alloc::Global;
 use std::str;
@@ -80,6 +80,7 @@ fn taken_by(name: KindName) -> &'static str {
         KindName::Single(_) => "a date or a timestamp",
         KindName::PartByText | KindName::UnitByText => "a text, and a date or a timestamp",
         KindName::AddMonths => "a date or a timestamp, and a number of months",
+        KindName::ToChar => "a date or a timestamp, and a format, as 'YYYY-MM-DD'",
     }
 }
 
@@ -187,8 +188,7 @@ fn bits_of(operator: WrittenOperator) -> Option<Standard> {
 /// The function of SQL that a step calls.
 pub(crate) fn function_in(step: Option<&Step<'_>>) -> Option<Standard> {
     match step {
-        Some(Step::Apply(name, _)) if is_locate(*name) => Some(Standard::StrPos),
-        Some(Step::Apply(name, _)) => named(*name),
+        Some(Step::Apply(name, _)) => named(*name).or(meant_function(*name)),
         Some(Step::Call(Call::Is(_, _))) => Some(Standard::TruthTest(TruthTest::IsTrue)),
         Some(Step::Call(Call::Distinct(_))) => Some(Standard::IsDistinct),
         Some(Step::In(_, _)) => Some(Standard::InList),

@@ -58,12 +58,15 @@ const BEFORE: [(&str, &[u8], &str); 7] = [
 ];
 
 /// Functions that other languages have.
-const FUNCTIONS: [(&str, &str); 61] = [
+const FUNCTIONS: [(&str, &str); 60] = [
     ("sum", AGGREGATES),
     ("count", AGGREGATES),
     ("avg", AGGREGATES),
-    ("max", "write greatest(a, b)"),
-    ("min", "write least(a, b)"),
+    (
+        "max",
+        "no aggregates: greatest(a, b) is the greatest in each row",
+    ),
+    ("min", "no aggregates: least(a, b) is the least in each row"),
     ("row_number", WINDOWS),
     ("rank", WINDOWS),
     ("lag", WINDOWS),
@@ -85,12 +88,14 @@ const FUNCTIONS: [(&str, &str); 61] = [
     ("decode", "write case a when x then v end"),
     ("if", "write case when c then a else b end"),
     ("iif", "write case when c then a else b end"),
-    ("to_char", "write d::text, or extract(year from d)"),
-    ("strftime", "write d::text, or extract(year from d)"),
-    ("date_format", "write d::text, or extract(year from d)"),
-    ("to_date", "write s::date"),
-    ("str_to_date", "write s::date"),
-    ("to_timestamp", "write s::timestamp, of a text"),
+    (
+        "to_char",
+        "write n::text; to_char(d, 'YYYY-MM-DD') is of a date or a timestamp",
+    ),
+    ("strftime", "write to_char(d, 'YYYY-MM-DD')"),
+    ("date_format", "write to_char(d, 'YYYY-MM-DD')"),
+    ("str_to_date", "write to_date(s, 'DD/MM/YYYY')"),
+    ("strptime", "write to_date(s, 'DD/MM/YYYY')"),
     ("to_number", "write s::f64, or s::decimal(12,2)"),
     ("datediff", "write a - b"),
     ("date_diff", "write a - b"),

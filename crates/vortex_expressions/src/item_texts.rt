@@ -2,7 +2,9 @@
 use crate::item::Item;
 use crate::literal::Literal;
 use std::fmt::Write;
+use std::slice;
 use vortex_columns::{DType, VortexResult};
+use vortex_logical::cells::read_cell;
 use vortex_logical::kind::Kind;
 use vortex_logical::operand::Operand;
 
@@ -96,8 +98,31 @@ pub(crate) fn push_operands(out: &mut String, left: &Operand, right: &Operand) -
     Ok(())
 }
 
-/// The last literal among items that is a text or a number; whether there is one.
-pub(crate) fn push_literals(out: &mut String, items: &[Item]) -> VortexResult<bool> {
+/// Whether it is a literal that is no value of the kind.
+fn is_unread(kind: Kind, item: &Item) -> bool {
+    match item {
+        Item::Literal(Literal::Number(word) | Literal::Text(word)) => {
+            read_cell(kind, word.as_bytes()).is_none()
+        }
+        Item::Literal(Literal::Truth(_)) => true,
+        Item::Fraction(number) => read_cell(kind, number.as_bytes()).is_none(),
+        _ => false,
+    }
+}
+
+/// The first literal among items that is no value of the kind, or else the last one; whether there
+/// is one.
+pub(crate) fn push_unread(out: &mut String, kind: Kind, items: &[Item]) -> VortexResult<bool> {
+    for item in items {
+        if is_unread(kind, item) {
+            return push_literals(out, slice::from_ref(item));
+        }
+    }
+    push_literals(out, items)
+}
+
+/// The last literal among items; whether there is one.
+fn push_literals(out: &mut String, items: &[Item]) -> VortexResult<bool> {
     for item in items.iter().rev() {
         match item {
             Item::Literal(literal) => {

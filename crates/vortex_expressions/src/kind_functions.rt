@@ -226,6 +226,50 @@ fn months_call(alloc: Global, items: &[Item]) -> Result<Item, BindStop>
     }
 }
 
+/// The function that writes values of the kind by a format.
+fn char_function(kind: Kind) -> Result<Standard, BindStop>
+    ensures { Gives (λ f. f) result (specs.char_function kind) }
+{
+    match kind {
+        Kind::Date => Ok(Standard::DateToChar),
+        Kind::Timestamp => Ok(Standard::TimestampToChar),
+        _ => Err(BindStop::Refused(Refusal::OfKind(kind))),
+    }
+}
+
+/// The text of a date or a timestamp by a format.
+fn written_by(
+    alloc: Global,
+    kind: Kind,
+    tree: BoundExpression<Standard>,
+    format: &Item,
+) -> Result<Item, BindStop>
+    ensures { Gives item_in result (specs.written_by kind tree (item_in format.now)) }
+{
+    let function = char_function(kind)?;
+    let format = format.settle(alloc, None)?;
+    let tree = call_of(alloc, callable(function), vec![in alloc; tree, format]?)?;
+    Ok(Item::Bound(tree))
+}
+
+fn char_of(alloc: Global, item: &Item, format: &Item) -> Result<Item, BindStop>
+    ensures { Gives item_in result (specs.char_of (item_in item.now) (item_in format.now)) }
+{
+    match item {
+        Item::Kinded(kind, tree) => written_by(alloc, *kind, tree.try_clone(alloc)?, format),
+        _ => Err(other_types()),
+    }
+}
+
+fn char_call(alloc: Global, items: &[Item]) -> Result<Item, BindStop>
+    ensures { Gives item_in result (specs.char_call (map item_in items.now)) }
+{
+    match items {
+        [item, format] => char_of(alloc, item, format),
+        _ => Err(other_count(2, items.len())),
+    }
+}
+
 /// What the name means of arguments, one of which is a value of a kind.
 pub(crate) fn kind_call(alloc: Global, name: KindName, items: &[Item]) -> Result<Item, BindStop>
     ensures { Gives item_in result (specs.kind_call name (map item_in items.now)) }
@@ -233,6 +277,7 @@ pub(crate) fn kind_call(alloc: Global, name: KindName, items: &[Item]) -> Result
     match name {
         KindName::Single(function) => single_call(alloc, function, items),
         KindName::AddMonths => months_call(alloc, items),
+        KindName::ToChar => char_call(alloc, items),
         KindName::PartByText | KindName::UnitByText => text_call(alloc, name, items),
     }
 }

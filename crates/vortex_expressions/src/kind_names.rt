@@ -2,6 +2,7 @@
 ghost use Rattle.std.specs.Prelude.{◌≡◌};
 ghost use Rattle.vortex_syntax.specs.SizeDigits.{sizes_of};
 ghost use Rattle.vortex_logical.specs.Kinds.{digit_of, teen_of};
+ghost use Rattle.vortex_types.specs.TypeOf.{type_of};
 ghost use Rattle.vortex_lowering.specs.Rows.{lowered};
 ghost use Rattle.vortex_expressions.specs.KindCasts as specs;
 ghost use Rattle.vortex_expressions.specs.Calls as calls;
@@ -10,14 +11,16 @@ ghost use Rattle.vortex_expressions.specs.Literals.{literal_in};
 ghost use Rattle.vortex_expressions.specs.Answering.{Gives};
 
 use crate::calls::typed_item;
-use crate::casts::is_same_word;
-use crate::item::Item;
+use crate::casts::{cast_to, is_same_word, type_of_name};
+use crate::item::{Item, constant_at};
 use crate::kind_casts::cut_cast;
 use crate::kinded::{null_literal, text_literal, value_item};
 use crate::literal::Literal;
 use crate::quotes::text_of;
 use crate::refusal::{BindStop, Refusal};
 use std::alloc::Global;
+use vortex_columns::DType;
+use vortex_functions::BoundExpression;
 use vortex_logical::digits::DecimalDigits;
 use vortex_logical::kind::Kind;
 use vortex_logical_calls::{Lowered, interval_of};
@@ -166,6 +169,33 @@ fn is_interval_name(name: &[u8], is_nullable: bool) -> bool
     !is_nullable && name.eq_ignore_ascii_case(b"interval")
 }
 
+/// A literal of a type; one that the type does not have is cast, but not to a type with null.
+fn typed_or_cast(
+    alloc: Global,
+    literal: Literal,
+    dtype: DType,
+) -> Result<BoundExpression<Standard>, BindStop>
+    ensures { Gives (λ t. t) result (calls.typed_or_cast (literal_in literal) (type_of dtype)) }
+{
+    if dtype.is_nullable() || literal.suits(&dtype) {
+        constant_at(alloc, &literal, dtype)
+    } else {
+        cast_to(alloc, false, Item::Literal(literal), &dtype)
+    }
+}
+
+fn typed_literal(
+    alloc: Global,
+    name: &[u8],
+    is_nullable: bool,
+    literal: Literal,
+) -> Result<Item, BindStop>
+    ensures { Gives item_in result (calls.typed_literal name.now is_nullable (literal_in literal)) }
+{
+    let dtype = type_of_name(alloc, name, is_nullable)?;
+    Ok(Item::Bound(typed_or_cast(alloc, literal, dtype)?))
+}
+
 /// An interval, or a literal of the type of that name.
 fn typed_plain(alloc: Global, name: &[u8], is_nullable: bool, item: Item) -> Result<Item, BindStop>
     ensures { Gives item_in result (calls.typed_plain name.now is_nullable (item_in item)) }
@@ -175,7 +205,10 @@ fn typed_plain(alloc: Global, name: &[u8], is_nullable: bool, item: Item) -> Res
     {
         return interval_item(literal);
     }
-    typed_item(alloc, name, is_nullable, item)
+    match item {
+        Item::Literal(literal) => typed_literal(alloc, name, is_nullable, literal),
+        item => typed_item(alloc, name, is_nullable, item),
+    }
 }
 
 /// A literal of the kind or the type of that name.

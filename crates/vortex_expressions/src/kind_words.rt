@@ -27,6 +27,8 @@ pub(crate) enum KindName {
     UnitByText,
     /// A date or a timestamp, so many months later.
     AddMonths,
+    /// The text of a date or a timestamp by a format.
+    ToChar,
 }
 
 pub(crate) fn is_word(word: &[u8], other: &[u8]) -> bool
@@ -136,7 +138,8 @@ pub(crate) fn unit_word(word: &[u8]) -> Option<Unit>
     }
 }
 
-/// The function of that name of a text and a value, or of a value and a number of months.
+/// The function of that name of a text and a value, or of a value and a number of months or a
+/// format.
 fn texted_word(word: &[u8]) -> Option<KindName>
     ensures { result ≡ specs.texted_word word.now }
 {
@@ -146,6 +149,8 @@ fn texted_word(word: &[u8]) -> Option<KindName>
         Some(KindName::UnitByText)
     } else if is_word(word, b"add_months") {
         Some(KindName::AddMonths)
+    } else if is_word(word, b"to_char") {
+        Some(KindName::ToChar)
     } else {
         None
     }

@@ -3,7 +3,7 @@ ghost use Rattle.std.specs.Prelude.{◌≡◌, option_map, None};
 ghost use Rattle.vortex_errors.specs.Answers.{AnswersUnlessMemory};
 ghost use Rattle.vortex_types.specs.TypeOf.{type_of};
 ghost use Rattle.vortex_expressions.specs.Literals.{literal_in, own_type, number_type};
-ghost use Rattle.vortex_expressions.specs.Literals.{text_type_beside};
+ghost use Rattle.vortex_expressions.specs.Literals.{text_type_beside, suits};
 ghost use Rattle.vortex_expressions.specs.Literals.{type_beside, value_at, truth_word};
 ghost use Rattle.vortex_expressions.specs.Literals.{is_fractional, has_fraction};
 
@@ -114,6 +114,18 @@ impl Literal {
             Literal::Text(_) => Ok(Some(text_type_beside(alloc, beside)?)),
             Literal::Null => Ok(Some(beside.try_clone(alloc)?)),
             _ => Ok(self.own_type()),
+        }
+    }
+
+    /// Whether it has values of that type as it is written.
+    pub(crate) fn suits(&self, dtype: &DType) -> bool
+        ensures { result ≡ suits (literal_in self.now) (type_of dtype.now) }
+    {
+        match self {
+            Literal::Number(_) => dtype.is_primitive(),
+            Literal::Text(_) => dtype.is_utf8() || dtype.is_primitive(),
+            Literal::Truth(_) => dtype.is_boolean(),
+            Literal::Null => true,
         }
     }
 
