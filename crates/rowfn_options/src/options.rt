@@ -110,6 +110,30 @@ fn source_option<'a>(matches: &ArgMatches<'a>) -> Source<'a> {
     }
 }
 
+/// How names of files of rows end.
+const ENDINGS: [&str; 4] = [".csv", ".tsv", ".txt", ".gz"];
+
+/// Whether a text is no expression, but the name of a file of rows.
+fn is_file_name(text: &str) -> bool {
+    let text = text.as_bytes();
+    let is_word = text
+        .iter()
+        .all(|byte| !matches!(*byte, b' ' | b'\'' | b'"'));
+    is_word && ENDINGS.iter().any(|end| text.ends_with(end.as_bytes()))
+}
+
+/// Fails where the name of a file stands where the expression does.
+fn expect_expression(source: Source<'_>, command: &mut Command<'_>) -> Result<(), Error> {
+    match source {
+        Source::Text(text) if is_file_name(text) => {
+            let message = "EXPRESSION: that is the name of a file; expected an expression \
+                           before it, as in rowfn_stream 'a + b' table.csv";
+            Err(refusal(command, ErrorKind::InvalidValue, message)?)
+        }
+        _ => Ok(()),
+    }
+}
+
 /// The words that may name the file of the rows: the first one where the expression is in a file,
 /// else the second one.
 fn input_words<'a>(matches: &ArgMatches<'a>) -> [Option<&'a str>; 2] {
@@ -229,6 +253,7 @@ pub fn read_options<'a>(alloc: Global, words: &'a [String]) -> Result<Options<'a
     let mut command = command(alloc)?;
     let matches = command.try_get_matches_from_mut(words)?;
     let fields = fields_option(alloc, &matches, &mut command)?;
+    expect_expression(source_option(&matches), &mut command)?;
     let input = input_option(&matches, &mut command)?;
     let refused = refused_option(&matches, &mut command, input)?;
     let indexes = indexes_option(&matches, &mut command, input)?;
