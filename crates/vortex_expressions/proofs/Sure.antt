@@ -320,12 +320,12 @@ module _ (columns : Names) (sure_columns : (w : List ℕ) → Sure IsItem (colum
 
   sure_cast_of_kind : (p : Bool) (w : List ℕ) (n : Bool) (i : Item) → IsItem i
       → Sure IsItem (calls.cast_of_kind p w n i)
-  sure_cast_of_kind false w n (kinded k t) h =
+  sure_cast_of_kind p w n (kinded k t) h =
       sure_then (λ u. Unit {0}) IsItem (calls.type_of_name w n) _ (sure_named w n)
-      (λ u j. sure_stored_cast k u t)
-  sure_cast_of_kind false w n (fraction v) h =
+      (λ u j. sure_stored_cast p k u t)
+  sure_cast_of_kind p w n (fraction v) h =
       sure_then (λ u. Unit {0}) IsItem (calls.type_of_name w n) _ (sure_named w n)
-      (λ u j. sure_fraction_cast v u)
+      (λ u j. sure_fraction_cast p v u)
   sure_cast_of_kind p w n i h = sure_cast p w n i h
 
   sure_cast_named : (p : Bool) (w : List ℕ) (n : Bool) (i : Item) (k : Option Kind) → IsItem i

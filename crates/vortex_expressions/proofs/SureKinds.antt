@@ -465,12 +465,15 @@ pub sure_from_kind : (k : Kind) (o : Option Steps) (t : Tree) → Sure IsItem (f
 sure_from_kind k None t = tt
 sure_from_kind k (Some s) t = sure_item (stepped s t) (sure_stepped s t)
 
-pub sure_stored_cast : (k : Kind) (u : LogicalType) (t : Tree) → Sure IsItem (stored_cast k u t)
-sure_stored_cast k (integer_type p false) t = sure_from_kind k (integer_steps k p) t
-sure_stored_cast k (text_type false) t = sure_from_kind k (written_steps k) t
-sure_stored_cast k u t = tt
+pub sure_stored_cast : (p : Bool) (k : Kind) (u : LogicalType) (t : Tree)
+    → Sure IsItem (stored_cast p k u t)
+sure_stored_cast p k (integer_type q false) t = sure_from_kind k (integer_steps p k q) t
+sure_stored_cast true k (text_type false) t = tt
+sure_stored_cast false k (text_type false) t = sure_from_kind k (written_steps k) t
+sure_stored_cast p k u t = tt
 
-pub sure_fraction_cast : (w : List ℕ) (u : LogicalType) → Sure IsItem (fraction_cast w u)
-sure_fraction_cast w u =
-    sure_then {A = Lowered} Any IsItem (text_literal F64 w) (λ x. stored_cast F64 u x.tree)
-    (sure_text_literal F64 w) (λ x h. sure_stored_cast F64 u x.tree)
+pub sure_fraction_cast : (p : Bool) (w : List ℕ) (u : LogicalType)
+    → Sure IsItem (fraction_cast p w u)
+sure_fraction_cast p w u =
+    sure_then {A = Lowered} Any IsItem (text_literal F64 w) (λ x. stored_cast p F64 u x.tree)
+    (sure_text_literal F64 w) (λ x h. sure_stored_cast p F64 u x.tree)

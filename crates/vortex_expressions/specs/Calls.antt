@@ -183,10 +183,11 @@ typed_named w n (literal l) (Some k) = kind_item k l
 typed_named w n (fraction v) (Some k) = kind_item k (literal.number v)
 typed_named w n i (Some k) = missing
 
--- a cast to the type of that name; values of kinds are rounded and written, but by `try_cast`
+-- a cast to the type of that name; values of kinds are rounded and written, the latter not by
+-- `try_cast`
 abbrev pub cast_of_kind : Bool → List ℕ → Bool → Item → Outcome Item
-cast_of_kind false w n (kinded k t) = and_then (type_of_name w n) (λ u. stored_cast k u t)
-cast_of_kind false w n (fraction v) = and_then (type_of_name w n) (fraction_cast v)
+cast_of_kind p w n (kinded k t) = and_then (type_of_name w n) (λ u. stored_cast p k u t)
+cast_of_kind p w n (fraction v) = and_then (type_of_name w n) (fraction_cast p v)
 cast_of_kind p w n i = cast_item p w n i
 
 -- a cast to the kind or the type of that name

@@ -194,15 +194,19 @@ abbrev pub from_kind : Kind → Option Steps → Tree → Outcome Item
 from_kind k None t = refuses (OfKind k)
 from_kind k (Some s) t = as_item (stepped s t)
 
+-- a value of a kind as a text, but by `try_cast`
+abbrev pub text_from : Bool → Kind → Tree → Outcome Item
+text_from p k t = if p then refuses (OfKind k) else from_kind k (written_steps k) t
+
 -- a value of a kind as the nearest integer, or as a text
-abbrev pub stored_cast : Kind → LogicalType → Tree → Outcome Item
-stored_cast k (integer_type p false) t = from_kind k (integer_steps k p) t
-stored_cast k (text_type false) t = from_kind k (written_steps k) t
-stored_cast k u t = refuses (OfKind k)
+abbrev pub stored_cast : Bool → Kind → LogicalType → Tree → Outcome Item
+stored_cast p k (integer_type q false) t = from_kind k (integer_steps p k q) t
+stored_cast p k (text_type false) t = text_from p k t
+stored_cast p k u t = refuses (OfKind k)
 
 -- a number with a fraction is a float of 64 bits
-abbrev pub fraction_cast : List ℕ → LogicalType → Outcome Item
-fraction_cast w u = and_then (text_literal F64 w) (λ x. stored_cast F64 u x.tree)
+abbrev pub fraction_cast : Bool → List ℕ → LogicalType → Outcome Item
+fraction_cast p w u = and_then (text_literal F64 w) (λ x. stored_cast p F64 u x.tree)
 
 -- the microseconds of a text
 abbrev pub is_interval_name : List ℕ → Bool → Bool

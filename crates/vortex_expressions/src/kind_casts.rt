@@ -243,35 +243,59 @@ pub(crate) fn written(
     from_kind(alloc, kind, steps, tree)
 }
 
-/// A value of a kind as the nearest integer, E10 in rows where the type does not hold it, or as a
-/// text.
+/// A value of a kind as a text, but by `try_cast`.
+fn text_from(
+    alloc: Global,
+    is_tried: bool,
+    kind: Kind,
+    tree: BoundExpression<Standard>,
+) -> Result<Item, BindStop>
+    ensures { Gives item_in result (specs.text_from is_tried kind tree) }
+{
+    if is_tried {
+        Err(BindStop::Refused(Refusal::OfKind(kind)))
+    } else {
+        written(alloc, kind, tree)
+    }
+}
+
+/// A value of a kind as the nearest integer, E10 in rows where the type does not hold it, or null by
+/// `try_cast`; or as a text.
 fn stored_cast(
     alloc: Global,
+    is_tried: bool,
     kind: Kind,
     dtype: &DType,
     tree: BoundExpression<Standard>,
 ) -> Result<Item, BindStop>
-    ensures { Gives item_in result (specs.stored_cast kind (type_of dtype.now) tree) }
+    ensures { Gives item_in result (specs.stored_cast is_tried kind (type_of dtype.now) tree) }
 {
     match dtype {
         DType::Primitive(ptype, Nullability::NonNullable) => {
-            let steps = integer_steps(&kind, *ptype);
+            let steps = integer_steps(is_tried, &kind, *ptype);
             from_kind(alloc, kind, steps, tree)
         }
-        DType::Utf8(Nullability::NonNullable) => written(alloc, kind, tree),
+        DType::Utf8(Nullability::NonNullable) => text_from(alloc, is_tried, kind, tree),
         _ => Err(BindStop::Refused(Refusal::OfKind(kind))),
     }
 }
 
 /// A number with a fraction as a float of 64 bits, which is cast.
-fn fraction_cast(alloc: Global, number: &str, dtype: &DType) -> Result<Item, BindStop>
-    ensures { Gives item_in result (specs.fraction_cast number.now (type_of dtype.now)) }
+fn fraction_cast(
+    alloc: Global,
+    is_tried: bool,
+    number: &str,
+    dtype: &DType,
+) -> Result<Item, BindStop>
+    ensures { Gives item_in result
+        (specs.fraction_cast is_tried number.now (type_of dtype.now)) }
 {
     let float = text_literal(alloc, Kind::F64, number.as_bytes())?;
-    stored_cast(alloc, Kind::F64, dtype, float.tree)
+    stored_cast(alloc, is_tried, Kind::F64, dtype, float.tree)
 }
 
-/// A cast to the type of that name; values of kinds are rounded and written, but by `try_cast`.
+/// A cast to the type of that name; values of kinds are rounded and written, the latter not by
+/// `try_cast`.
 fn cast_of_kind(
     alloc: Global,
     is_tried: bool,
@@ -282,16 +306,16 @@ fn cast_of_kind(
     ensures { Gives item_in result
         (calls.cast_of_kind is_tried name.now is_nullable (item_in item)) }
 {
-    match (is_tried, item) {
-        (false, Item::Kinded(kind, tree)) => {
+    match item {
+        Item::Kinded(kind, tree) => {
             let dtype = type_of_name(alloc, name, is_nullable)?;
-            stored_cast(alloc, kind, &dtype, tree)
+            stored_cast(alloc, is_tried, kind, &dtype, tree)
         }
-        (false, Item::Fraction(number)) => {
+        Item::Fraction(number) => {
             let dtype = type_of_name(alloc, name, is_nullable)?;
-            fraction_cast(alloc, number.as_str(), &dtype)
+            fraction_cast(alloc, is_tried, number.as_str(), &dtype)
         }
-        (is_tried, item) => cast_item(alloc, is_tried, name, is_nullable, item),
+        item => cast_item(alloc, is_tried, name, is_nullable, item),
     }
 }
 

@@ -72,25 +72,31 @@ decimal_steps p e (Whole q) = Some (One (scaling p e.scale e.precision))
 decimal_steps p e (Of (Decimal d)) = Some (rescaling p d e)
 decimal_steps p e (Of k) = None
 
--- an integer of 64 bits in another type
-abbrev pub narrowing : PType → Step
-narrowing q =
-    alone (if has_all_of q I64 then standard.Widen (record { ptype = q })
-    else standard.Cast (record { ptype = q }))
+-- an integer of 64 bits in another type; null where that does not have it, if the flag is true
+abbrev pub narrowed : Bool → PType → Standard
+narrowed p q =
+    if p then standard.TryCast (record { ptype = q }) else standard.Cast (record { ptype = q })
 
-abbrev pub nearest : PType → Step
-nearest q = alone (standard.FloatToInt (record { ptype = q }))
+abbrev pub narrowing : Bool → PType → Step
+narrowing p q =
+    alone (if has_all_of q I64 then standard.Widen (record { ptype = q }) else narrowed p q)
 
--- from a number of a kind to the nearest integer
-abbrev pub integer_steps : Kind → PType → Option Steps
-integer_steps (Decimal d) q = Some (Two (rounding Half d.scale) (narrowing q))
-integer_steps F64 q = Some (One (nearest q))
-integer_steps F32 q = Some (Two (alone standard.WidenFloat) (nearest q))
-integer_steps k q = None
+abbrev pub nearest : Bool → PType → Step
+nearest p q =
+    alone (if p then standard.TryFloatToInt (record { ptype = q })
+    else standard.FloatToInt (record { ptype = q }))
+
+-- from a number of a kind to the nearest integer; null where the type does not have it, if the
+-- flag is true
+abbrev pub integer_steps : Bool → Kind → PType → Option Steps
+integer_steps p (Decimal d) q = Some (Two (rounding Half d.scale) (narrowing p q))
+integer_steps p F64 q = Some (One (nearest p q))
+integer_steps p F32 q = Some (Two (alone standard.WidenFloat) (nearest p q))
+integer_steps p k q = None
 
 -- from a float, times ten to the scale, to a decimal
 abbrev pub scaled_float_steps : Digits → Steps
-scaled_float_steps d = Two (nearest I64) (scaling false 0 d.precision)
+scaled_float_steps d = Two (nearest false I64) (scaling false 0 d.precision)
 
 abbrev pub writing : WrittenKind → Steps
 writing k = One (alone (standard.KindToText (record { kind = k })))

@@ -109,35 +109,49 @@ pub fn decimal_steps(is_tried: bool, digits: DecimalDigits, from: &Operand) -> O
     }
 }
 
+fn narrowed(is_tried: bool, ptype: PType) -> Standard
+    ensures { result ≡ specs.narrowed is_tried ptype }
+{
+    if is_tried {
+        Standard::TryCast(Cast { ptype })
+    } else {
+        Standard::Cast(Cast { ptype })
+    }
+}
+
 /// An integer of 64 bits in the type.
-fn narrowing(ptype: PType) -> Step
-    ensures { result ≡ specs.narrowing ptype }
+fn narrowing(is_tried: bool, ptype: PType) -> Step
+    ensures { result ≡ specs.narrowing is_tried ptype }
 {
     if has_all_of(ptype, PType::I64) {
         alone(Standard::Widen(Widen { ptype }))
     } else {
-        alone(Standard::Cast(Cast { ptype }))
+        alone(narrowed(is_tried, ptype))
     }
 }
 
-fn nearest(ptype: PType) -> Step
-    ensures { result ≡ specs.nearest ptype }
+fn nearest(is_tried: bool, ptype: PType) -> Step
+    ensures { result ≡ specs.nearest is_tried ptype }
 {
-    alone(Standard::FloatToInt(FloatToInt { ptype }))
+    if is_tried {
+        alone(Standard::TryFloatToInt(FloatToInt { ptype }))
+    } else {
+        alone(Standard::FloatToInt(FloatToInt { ptype }))
+    }
 }
 
 /// From a number of a kind to the nearest integer: of a float from halfway the even one, of a
 /// decimal that away from zero.
-pub fn integer_steps(kind: &Kind, ptype: PType) -> Option<Steps>
-    ensures { result ≡ specs.integer_steps kind.now ptype }
+pub fn integer_steps(is_tried: bool, kind: &Kind, ptype: PType) -> Option<Steps>
+    ensures { result ≡ specs.integer_steps is_tried kind.now ptype }
 {
     match kind {
         Kind::Decimal(digits) => {
             let whole = rounding(Rounding::Half, digits.scale());
-            Some(Steps::Two(whole, narrowing(ptype)))
+            Some(Steps::Two(whole, narrowing(is_tried, ptype)))
         }
-        Kind::F64 => Some(Steps::One(nearest(ptype))),
-        Kind::F32 => Some(Steps::Two(alone(Standard::WidenFloat), nearest(ptype))),
+        Kind::F64 => Some(Steps::One(nearest(is_tried, ptype))),
+        Kind::F32 => Some(Steps::Two(alone(Standard::WidenFloat), nearest(is_tried, ptype))),
         _ => None,
     }
 }
@@ -147,7 +161,10 @@ pub fn integer_steps(kind: &Kind, ptype: PType) -> Option<Steps>
 pub fn scaled_float_steps(digits: DecimalDigits) -> Steps
     ensures { result ≡ specs.scaled_float_steps digits }
 {
-    Steps::Two(nearest(PType::I64), scaling(false, 0, digits.precision()))
+    Steps::Two(
+        nearest(false, PType::I64),
+        scaling(false, 0, digits.precision()),
+    )
 }
 
 fn writing(kind: WrittenKind) -> Steps

@@ -3,6 +3,7 @@ use Rattle.std.specs.Prelude.{◌≡◌, ℕ, List, codes, get_or, refl}
 use Rattle.vortex_types.specs.declared.dtype.PType.{PType}
 use Rattle.vortex_types.specs.declared.dtype.PType.TheVariants.{I8, I16, I32, I64, U8, U16, U32}
 use Rattle.vortex_types.specs.declared.dtype.PType.TheVariants.{U64}
+use Rattle.vortex_sql_floats.specs.ToIntegers.{to_int_row, to_int_lawful}
 use Rattle.vortex_sql_numbers.specs.Casts.{cast_row, cast_lawful}
 use Rattle.vortex_sql_texts.specs.TextCasts.{int_cast_row, int_cast_lawful, truth_cast_row}
 use Rattle.vortex_sql_texts.specs.TextCasts.{truth_cast_lawful}
@@ -68,6 +69,36 @@ may_try_text q = record { named = try_text_named q; single = λ t. refl }
 
 pub try_text_lawful : (q : PType) → LawfulRow (try_text_row q)
 try_text_lawful q = tried_lawful (try_text_id q) (int_cast_row q) (may_try_text q) (int_cast_lawful q)
+
+-- of a float: null where the type does not have the nearest integer
+abbrev pub try_float_id : PType → List ℕ
+try_float_id I8 = codes "sql.try_float_to_i8"
+try_float_id I16 = codes "sql.try_float_to_i16"
+try_float_id I32 = codes "sql.try_float_to_i32"
+try_float_id I64 = codes "sql.try_float_to_i64"
+try_float_id U8 = codes "sql.try_float_to_u8"
+try_float_id U16 = codes "sql.try_float_to_u16"
+try_float_id U32 = codes "sql.try_float_to_u32"
+try_float_id U64 = codes "sql.try_float_to_u64"
+
+abbrev pub try_float_row : PType → Row
+try_float_row q = tried_row (try_float_id q) (to_int_row q)
+
+try_float_named : (q : PType) → get_or (try_float_id q) 0 0 ≡ 115
+try_float_named I8 = refl
+try_float_named I16 = refl
+try_float_named I32 = refl
+try_float_named I64 = refl
+try_float_named U8 = refl
+try_float_named U16 = refl
+try_float_named U32 = refl
+try_float_named U64 = refl
+
+pub may_try_float : (q : PType) → MayTry (try_float_id q) (to_int_row q)
+may_try_float q = record { named = try_float_named q; single = λ t. refl }
+
+pub try_float_lawful : (q : PType) → LawfulRow (try_float_row q)
+try_float_lawful q = tried_lawful (try_float_id q) (to_int_row q) (may_try_float q) (to_int_lawful q)
 
 -- of a text to a truth value: null where it is none
 abbrev pub try_truth_id : List ℕ

@@ -109,6 +109,16 @@ first_float_cast U16 = refl
 first_float_cast U32 = refl
 first_float_cast U64 = refl
 
+first_try_float : (p : PType) → IsFirst (standard.TryFloatToInt (record { ptype = p }))
+first_try_float I8 = refl
+first_try_float I16 = refl
+first_try_float I32 = refl
+first_try_float I64 = refl
+first_try_float U8 = refl
+first_try_float U16 = refl
+first_try_float U32 = refl
+first_try_float U64 = refl
+
 first_decimal : (s : DecimalScale) → IsFirst (standard.DecimalToFloat s)
 first_decimal scale.S0 = refl
 first_decimal scale.S1 = refl
@@ -277,6 +287,7 @@ first (standard.FloatOperator float.Multiply) = refl
 first (standard.FloatOperator float.Divide) = refl
 first (standard.DecimalToFloat s) = first_decimal s
 first (standard.FloatToInt f) = first_float_cast f.ptype
+first (standard.TryFloatToInt f) = first_try_float f.ptype
 first (standard.FloatFunction function.Round) = refl
 first (standard.FloatFunction function.Floor) = refl
 first (standard.FloatFunction function.Ceil) = refl

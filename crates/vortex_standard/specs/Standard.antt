@@ -37,6 +37,7 @@ use Rattle.vortex_sql_texts.specs.TextCasts.{truth_cast_lawful}
 use Rattle.vortex_sql_texts.specs.Trims.{trim_row, trim_lawful}
 use Rattle.vortex_sql_try_casts.specs.TryCasts.{try_cast_row, try_cast_lawful, try_text_row}
 use Rattle.vortex_sql_try_casts.specs.TryCasts.{try_text_lawful, try_truth_row, try_truth_lawful}
+use Rattle.vortex_sql_try_casts.specs.TryCasts.{try_float_row, try_float_lawful}
 use Rattle.vortex_sql_texts.specs.Texts.{begins_row, begins_lawful, measure_row, measure_lawful}
 use Rattle.vortex_sql_float_functions.specs.FloatRows as float_functions
 use Rattle.vortex_sql_dates.specs.Casts as date_casts
@@ -116,6 +117,7 @@ row_of (standard.Pad p) = pad_row p
 row_of (standard.FloatOperator o) = floats.operator_row o
 row_of (standard.DecimalToFloat s) = decimal_row (scale_number s)
 row_of (standard.FloatToInt f) = to_int_row f.ptype
+row_of (standard.TryFloatToInt f) = try_float_row f.ptype
 row_of (standard.FloatFunction f) = float_functions.function_row f
 row_of (standard.DatePart f) = date_part_row f.part
 row_of (standard.TimestampPart f) = timestamp_part_row f.part
@@ -184,6 +186,7 @@ lawful_of (standard.Pad p) = pad_lawful p
 lawful_of (standard.FloatOperator o) = floats.operator_lawful o
 lawful_of (standard.DecimalToFloat s) = decimal_lawful (scale_number s)
 lawful_of (standard.FloatToInt f) = to_int_lawful f.ptype
+lawful_of (standard.TryFloatToInt f) = try_float_lawful f.ptype
 lawful_of (standard.FloatFunction f) = float_functions.function_lawful f
 lawful_of (standard.DatePart f) = date_part_lawful f.part
 lawful_of (standard.TimestampPart f) = timestamp_part_lawful f.part

@@ -176,6 +176,10 @@ macro_rules! with_row {
                 let $f = &Try { function: &DecimalScaled };
                 $rows
             }
+            Standard::TryFloatToInt(cast) => {
+                let $f = &Try { function: cast };
+                $rows
+            }
             Standard::TryTextToKind(cast) => {
                 let $f = &Try { function: cast };
                 $rows

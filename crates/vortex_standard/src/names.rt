@@ -130,7 +130,7 @@ pub const FUNCTIONS: [Standard; 95] = [
 
 /// The functions on stored keys, each once: what arithmetic over columns of floats and parts of
 /// dates and timestamps call.
-pub const KEY_FUNCTIONS: [Standard; 109] = [
+pub const KEY_FUNCTIONS: [Standard; 117] = [
     Standard::FloatNegate,
     Standard::IntToFloat,
     Standard::WidenFloat,
@@ -165,6 +165,14 @@ pub const KEY_FUNCTIONS: [Standard; 109] = [
     Standard::FloatToInt(FloatToInt { ptype: PType::U16 }),
     Standard::FloatToInt(FloatToInt { ptype: PType::U32 }),
     Standard::FloatToInt(FloatToInt { ptype: PType::U64 }),
+    Standard::TryFloatToInt(FloatToInt { ptype: PType::I8 }),
+    Standard::TryFloatToInt(FloatToInt { ptype: PType::I16 }),
+    Standard::TryFloatToInt(FloatToInt { ptype: PType::I32 }),
+    Standard::TryFloatToInt(FloatToInt { ptype: PType::I64 }),
+    Standard::TryFloatToInt(FloatToInt { ptype: PType::U8 }),
+    Standard::TryFloatToInt(FloatToInt { ptype: PType::U16 }),
+    Standard::TryFloatToInt(FloatToInt { ptype: PType::U32 }),
+    Standard::TryFloatToInt(FloatToInt { ptype: PType::U64 }),
     Standard::FloatFunction(FloatFunction::Round),
     Standard::FloatFunction(FloatFunction::Floor),
     Standard::FloatFunction(FloatFunction::Ceil),

@@ -103,6 +103,7 @@ pub enum Standard {
     FloatOperator(FloatOperator),
     DecimalToFloat(DecimalScale),
     FloatToInt(FloatToInt),
+    TryFloatToInt(FloatToInt),
     FloatFunction(FloatFunction),
     DatePart(DatePart),
     TimestampPart(TimestampPart),
