@@ -307,6 +307,10 @@ module _ (scope : Fields) where
   written_callable written.BitXor = tt
   written_callable written.ShiftLeft = tt
   written_callable written.ShiftRight = tt
+  written_callable written.Matches = tt
+  written_callable written.MatchesAnyCase = tt
+  written_callable written.NotMatches = tt
+  written_callable written.NotMatchesAnyCase = tt
 
   plain_over : (o : syntax.WrittenOperator) (j k i : Item) → ItemOver j → ItemOver k
       → plain_joined o j k ≡ answers i → ItemOver i

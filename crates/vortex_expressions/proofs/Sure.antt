@@ -406,6 +406,10 @@ module _ (columns : Names) (sure_columns : (w : List ℕ) → Sure IsItem (colum
   sure_written signs.BitXor u is e h = sure_function (standard.BitOperator bits.Xor) u is h
   sure_written signs.ShiftLeft u is e h = sure_function (standard.Shift shift.Left) u is h
   sure_written signs.ShiftRight u is e h = sure_function (standard.Shift shift.Right) u is h
+  sure_written signs.Matches u is e h = sure_function standard.RegexpLike u is h
+  sure_written signs.MatchesAnyCase u is e h = sure_function standard.RegexpLike u is h
+  sure_written signs.NotMatches u is e h = sure_function standard.RegexpLike u is h
+  sure_written signs.NotMatchesAnyCase u is e h = sure_function standard.RegexpLike u is h
 
   sure_plain_joined : (o : written.WrittenOperator) (a b : Item) → IsItem a → IsItem b
       → Sure IsItem (calls.plain_joined o a b)

@@ -75,6 +75,10 @@ operator_nests written.BitOr d us = refl
 operator_nests written.BitXor d us = refl
 operator_nests written.ShiftLeft d us = refl
 operator_nests written.ShiftRight d us = refl
+operator_nests written.Matches d us = refl
+operator_nests written.MatchesAnyCase d us = refl
+operator_nests written.NotMatches d us = refl
+operator_nests written.NotMatchesAnyCase d us = refl
 
 test_nests : (k : Tested) (n : Bool) (d : ℕ) (us : List Token)
     → nests_from d (test_tokens k n ++ us) ≡ nests_from d us

@@ -244,6 +244,10 @@ written_function written.BitOr = callable (standard.BitOperator bits.Or)
 written_function written.BitXor = callable (standard.BitOperator bits.Xor)
 written_function written.ShiftLeft = callable (standard.Shift shift.Left)
 written_function written.ShiftRight = callable (standard.Shift shift.Right)
+written_function written.Matches = callable standard.RegexpLike
+written_function written.MatchesAnyCase = callable standard.RegexpLike
+written_function written.NotMatches = callable standard.RegexpLike
+written_function written.NotMatchesAnyCase = callable standard.RegexpLike
 
 abbrev pub joined_type : syntax.WrittenOperator → List Item → Option LogicalType
 joined_type written.Or is = truth_type

@@ -188,6 +188,10 @@ fn written_function(written: Written) -> ScalarFnRef<Standard>
         Written::BitXor => callable(Standard::BitOperator(BitOperator::Xor)),
         Written::ShiftLeft => callable(Standard::Shift(Shift::Left)),
         Written::ShiftRight => callable(Standard::Shift(Shift::Right)),
+        Written::Matches => callable(Standard::RegexpLike),
+        Written::MatchesAnyCase => callable(Standard::RegexpLike),
+        Written::NotMatches => callable(Standard::RegexpLike),
+        Written::NotMatchesAnyCase => callable(Standard::RegexpLike),
     }
 }
 

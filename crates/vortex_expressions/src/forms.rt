@@ -173,14 +173,18 @@ fn push_taken(out: &mut String, takes: Takes, count: usize) -> VortexResult<()> 
     Ok(())
 }
 
-/// The function of bits that an operator is.
-fn bits_of(operator: WrittenOperator) -> Option<Standard> {
+/// The function that an operator is, of bits or of regular expressions.
+fn operator_function(operator: WrittenOperator) -> Option<Standard> {
     match operator {
         WrittenOperator::BitAnd => Some(Standard::BitOperator(BitOperator::And)),
         WrittenOperator::BitOr => Some(Standard::BitOperator(BitOperator::Or)),
         WrittenOperator::BitXor => Some(Standard::BitOperator(BitOperator::Xor)),
         WrittenOperator::ShiftLeft => Some(Standard::Shift(Shift::Left)),
         WrittenOperator::ShiftRight => Some(Standard::Shift(Shift::Right)),
+        WrittenOperator::Matches => Some(Standard::RegexpLike),
+        WrittenOperator::MatchesAnyCase => Some(Standard::RegexpLike),
+        WrittenOperator::NotMatches => Some(Standard::RegexpLike),
+        WrittenOperator::NotMatchesAnyCase => Some(Standard::RegexpLike),
         _ => None,
     }
 }
@@ -195,7 +199,7 @@ pub(crate) fn function_in(step: Option<&Step<'_>>) -> Option<Standard> {
         Some(Step::Case(_, _, _)) => Some(Standard::Case),
         Some(Step::Call(Call::Join(WrittenOperator::Mod))) => Some(Standard::Remainder),
         Some(Step::Call(Call::Join(WrittenOperator::Concat))) => Some(Standard::Concat),
-        Some(Step::Call(Call::Join(operator))) => bits_of(*operator),
+        Some(Step::Call(Call::Join(operator))) => operator_function(*operator),
         Some(Step::Call(Call::BitNot)) => Some(Standard::BitNot),
         _ => None,
     }

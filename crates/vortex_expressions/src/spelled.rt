@@ -64,6 +64,10 @@ pub(crate) fn operator_sign(operator: Written) -> Sign
         Written::BitXor => Sign::BitXor,
         Written::ShiftLeft => Sign::ShiftLeft,
         Written::ShiftRight => Sign::ShiftRight,
+        Written::Matches => Sign::BitNot,
+        Written::MatchesAnyCase => Sign::MatchAnyCase,
+        Written::NotMatches => Sign::NotMatch,
+        Written::NotMatchesAnyCase => Sign::NotMatchAnyCase,
     }
 }
 

@@ -96,6 +96,12 @@ operator_stays operator.BitOr d = first d d (sign sign.BitOr) [] refl (passes_no
 operator_stays operator.BitXor d = first d d (sign sign.BitXor) [] refl (passes_none d)
 operator_stays operator.ShiftLeft d = first d d (sign sign.ShiftLeft) [] refl (passes_none d)
 operator_stays operator.ShiftRight d = first d d (sign sign.ShiftRight) [] refl (passes_none d)
+operator_stays operator.Matches d = first d d (sign sign.BitNot) [] refl (passes_none d)
+operator_stays operator.MatchesAnyCase d =
+    first d d (sign sign.MatchAnyCase) [] refl (passes_none d)
+operator_stays operator.NotMatches d = first d d (sign sign.NotMatch) [] refl (passes_none d)
+operator_stays operator.NotMatchesAnyCase d =
+    first d d (sign sign.NotMatchAnyCase) [] refl (passes_none d)
 
 type_first : (d e : ℕ) (w : List ℕ) (n : Bool) (ts : List Token) → Passes d e ts
     → Passes d e (type_token w n ∷ ts)

@@ -127,6 +127,11 @@ sign_closes l f fs out sign.BitOr ts h = join_closes operator.BitOr l f fs out t
 sign_closes l f fs out sign.BitXor ts h = join_closes operator.BitXor l f fs out ts h
 sign_closes l f fs out sign.ShiftLeft ts h = join_closes operator.ShiftLeft l f fs out ts h
 sign_closes l f fs out sign.ShiftRight ts h = join_closes operator.ShiftRight l f fs out ts h
+sign_closes l f fs out sign.BitNot ts h = join_closes operator.Matches l f fs out ts h
+sign_closes l f fs out sign.MatchAnyCase ts h = join_closes operator.MatchesAnyCase l f fs out ts h
+sign_closes l f fs out sign.NotMatch ts h = join_closes operator.NotMatches l f fs out ts h
+sign_closes l f fs out sign.NotMatchAnyCase ts h =
+    join_closes operator.NotMatchesAnyCase l f fs out ts h
 sign_closes l f fs out sign.Close ts h =
     ap (λ a. ran ts (specs.close_behind a.frames a.steps)) (settled_one or_level l f fs out h)
 sign_closes l f fs out sign.Comma ts h =

@@ -74,6 +74,10 @@ reach_operator operator.BitOr fs ts = refl
 reach_operator operator.BitXor fs ts = refl
 reach_operator operator.ShiftLeft fs ts = refl
 reach_operator operator.ShiftRight fs ts = refl
+reach_operator operator.Matches fs ts = refl
+reach_operator operator.MatchesAnyCase fs ts = refl
+reach_operator operator.NotMatches fs ts = refl
+reach_operator operator.NotMatchesAnyCase fs ts = refl
 
 read_joined : (o : WrittenOperator) (a b : Syntax) → left o ≤ level a → right o ≤ level b
     → IsRead a → IsRead b → IsRead (tree.joined o a b)

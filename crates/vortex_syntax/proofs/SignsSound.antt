@@ -338,6 +338,14 @@ behind_sign l fs out sign.ShiftLeft s before e a =
     joining_sound operator.ShiftLeft l fs out s before e a
 behind_sign l fs out sign.ShiftRight s before e a =
     joining_sound operator.ShiftRight l fs out s before e a
+behind_sign l fs out sign.BitNot s before e a =
+    joining_sound operator.Matches l fs out s before e a
+behind_sign l fs out sign.MatchAnyCase s before e a =
+    joining_sound operator.MatchesAnyCase l fs out s before e a
+behind_sign l fs out sign.NotMatch s before e a =
+    joining_sound operator.NotMatches l fs out s before e a
+behind_sign l fs out sign.NotMatchAnyCase s before e a =
+    joining_sound operator.NotMatchesAnyCase l fs out s before e a
 behind_sign l fs out sign.Close s before e a = let b = settled 0 l fs out in
     close_sound b.level b.frames b.steps s before e (settled_operand 0 l fs out before [] a)
 behind_sign l fs out sign.Comma s before e a = let b = settled 0 l fs out in

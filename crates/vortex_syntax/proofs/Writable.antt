@@ -1,6 +1,6 @@
 -- The tokens of a text can be written.
-use Rattle.std.proofs.Common.{◌≡◌, ℕ, Bool, true, false, cond, ◌==◌, ◌||◌, List, [], ◌∷◌, Option}
-use Rattle.std.proofs.Common.{Some, None, refl, ap, sym, subst, ◌∙◌}
+use Rattle.std.proofs.Common.{◌≡◌, ℕ, Bool, true, false, cond, ◌==◌, ◌&&◌, ◌||◌, List, [], ◌∷◌}
+use Rattle.std.proofs.Common.{Option, Some, None, refl, ap, sym, subst, ◌∙◌}
 use Rattle.std.specs.Prelude.{is_none}
 use Rattle.std.specs.List.{list_all}
 use Rattle.std.proofs.lemmas.Bool.{and_from, eqb-true, cond_both}
@@ -13,7 +13,8 @@ use Rattle.vortex_syntax.specs.Pieces.{Piece, gap, token, Cut, is_blank, begins_
 use Rattle.vortex_syntax.specs.Pieces.{behind, name_before, keyword_or_name, word_before}
 use Rattle.vortex_syntax.specs.Pieces.{number_before, begins_number, behind_number, front_number}
 use Rattle.vortex_syntax.specs.Pieces.{with_front, closed, quoted_by, sign_of_two, sign_of_one}
-use Rattle.vortex_syntax.specs.Pieces.{sign_before, or_else, longest_sign, minus_or_comment}
+use Rattle.vortex_syntax.specs.Pieces.{star_before, sign_of_three, sign_before, or_else}
+use Rattle.vortex_syntax.specs.Pieces.{longest_sign, minus_or_comment}
 use Rattle.vortex_syntax.specs.Pieces.{first_piece, behind_comment, gap_before, divide_or_comment}
 use Rattle.vortex_syntax.specs.Lexing.{Lexes, none, gap_first, token_first}
 use Rattle.vortex_syntax.specs.Writing.{doubled, is_word, is_bare, IsNumber, IsDoubled, IsWritable}
@@ -181,11 +182,23 @@ module _ (t : Token) (rest : List ℕ) where
   or_says None y f g = g
   or_says (Some x) y f g = f
 
+  star_says : (xs : List ℕ) → Says (star_before xs)
+  star_says [] = none_says
+  star_says (b ∷ bs) =
+      cond_both (b == 42) (Some (token (sign sign.NotMatchAnyCase), bs)) None Says
+      (λ k. token_says (sign sign.NotMatchAnyCase) bs tt) (λ k. none_says)
+
+  three_says : (b c : ℕ) (xs : List ℕ) → Says (sign_of_three b c xs)
+  three_says b c xs = cond_both ((b == 33) && (c == 126)) (star_before xs) None Says
+      (λ k. star_says xs) (λ k. none_says)
+
   longest_says : (b : ℕ) (xs : List ℕ) → Says (longest_sign b xs)
   longest_says b [] = sign_says [] (sign_of_one b)
   longest_says b (c ∷ cs) =
-      or_says (sign_before cs (sign_of_two b c)) (sign_before (c ∷ cs) (sign_of_one b))
-      (sign_says cs (sign_of_two b c)) (sign_says (c ∷ cs) (sign_of_one b))
+      let two = sign_before cs (sign_of_two b c) in
+      let one = sign_before (c ∷ cs) (sign_of_one b) in
+      or_says (sign_of_three b c cs) (or_else two one) (three_says b c cs)
+      (or_says two one (sign_says cs (sign_of_two b c)) (sign_says (c ∷ cs) (sign_of_one b)))
 
   piece_says : (bs : List ℕ) → Says (first_piece bs)
   unfolding first_piece

@@ -91,6 +91,18 @@ unfolding first_piece
 divide_piece [] s = refl
 divide_piece (c ∷ cs) s = let other : (c == 42) ≡ false = s.8 in rw other refl
 
+bit_not_piece : (rest : List ℕ) → Stops rest
+    → first_piece (126 ∷ rest) ≡ Some (token (sign sign.BitNot), rest)
+unfolding first_piece
+bit_not_piece [] s = refl
+bit_not_piece (c ∷ cs) s = let star : (c == 42) ≡ false = s.8 in rw star refl
+
+not_match_piece : (rest : List ℕ) → Stops rest
+    → first_piece (33 ∷ 126 ∷ rest) ≡ Some (token (sign sign.NotMatch), rest)
+unfolding first_piece
+not_match_piece [] s = refl
+not_match_piece (c ∷ cs) s = let star : (c == 42) ≡ false = s.8 in rw star refl
+
 -- the other signs
 plain_piece : (s : Sign) (rest : List ℕ) → Stops rest
     → first_piece (sign_text s ++ rest) ≡ Some (token (sign s), rest)
@@ -143,10 +155,12 @@ plain_piece sign.BitAnd (c ∷ cs) s = refl
 plain_piece sign.BitOr rest s = bit_or_piece rest s
 plain_piece sign.BitXor [] s = refl
 plain_piece sign.BitXor (c ∷ cs) s = refl
-plain_piece sign.BitNot [] s = refl
-plain_piece sign.BitNot (c ∷ cs) s = refl
+plain_piece sign.BitNot rest s = bit_not_piece rest s
 plain_piece sign.ShiftLeft rest s = refl
 plain_piece sign.ShiftRight rest s = refl
+plain_piece sign.MatchAnyCase rest s = refl
+plain_piece sign.NotMatch rest s = not_match_piece rest s
+plain_piece sign.NotMatchAnyCase rest s = refl
 plain_piece sign.Open rest s = open_piece rest
 plain_piece sign.Close [] s = refl
 plain_piece sign.Close (c ∷ cs) s = refl

@@ -171,7 +171,14 @@ abbrev pub quoted_by : (List ℕ → Token) → Option (List ℕ × List ℕ) �
 quoted_by make None = None
 quoted_by make (Some x) = Some (token (make x.0), x.1)
 
--- the two-character signs, and the one-character signs
+-- the three-character sign, a star after `!~`; the two-character signs, and the one-character signs
+abbrev pub star_before : List ℕ → Cut
+star_before [] = None
+star_before (b ∷ bs) = if b == 42 then Some (token (sign sign.NotMatchAnyCase), bs) else None
+
+abbrev pub sign_of_three : ℕ → ℕ → List ℕ → Cut
+sign_of_three b c bs = if (b == 33) && (c == 126) then star_before bs else None
+
 abbrev pub sign_of_two : ℕ → ℕ → Option Sign
 sign_of_two b c =
     if b == 60 then (if c == 61 then Some sign.LessOrEqual
@@ -179,10 +186,12 @@ sign_of_two b c =
     else (if c == 60 then Some sign.ShiftLeft else None)))
     else (if b == 62 then (if c == 61 then Some sign.GreaterOrEqual
     else (if c == 62 then Some sign.ShiftRight else None))
-    else (if b == 33 then (if c == 61 then Some sign.NotEqual else None)
+    else (if b == 33 then (if c == 61 then Some sign.NotEqual
+    else (if c == 126 then Some sign.NotMatch else None))
+    else (if b == 126 then (if c == 42 then Some sign.MatchAnyCase else None)
     else (if b == 61 then (if c == 61 then Some sign.Equal else None)
     else (if b == 58 then (if c == 58 then Some sign.Typed else None)
-    else (if b == 124 then (if c == 124 then Some sign.Concat else None) else None)))))
+    else (if b == 124 then (if c == 124 then Some sign.Concat else None) else None))))))
 
 abbrev pub sign_of_one : ℕ → Option Sign
 sign_of_one b =
@@ -211,7 +220,8 @@ or_else (Some x) other = Some x
 abbrev pub longest_sign : ℕ → List ℕ → Cut
 longest_sign b [] = sign_before [] (sign_of_one b)
 longest_sign b (c ∷ bs) =
-    or_else (sign_before bs (sign_of_two b c)) (sign_before (c ∷ bs) (sign_of_one b))
+    or_else (sign_of_three b c bs)
+    (or_else (sign_before bs (sign_of_two b c)) (sign_before (c ∷ bs) (sign_of_one b)))
 
 -- two minus signs begin a comment, which ends with its line
 abbrev pub minus_or_comment : List ℕ → Cut

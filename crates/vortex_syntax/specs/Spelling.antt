@@ -36,6 +36,10 @@ operator_sign operator.BitOr = sign.BitOr
 operator_sign operator.BitXor = sign.BitXor
 operator_sign operator.ShiftLeft = sign.ShiftLeft
 operator_sign operator.ShiftRight = sign.ShiftRight
+operator_sign operator.Matches = sign.BitNot
+operator_sign operator.MatchesAnyCase = sign.MatchAnyCase
+operator_sign operator.NotMatches = sign.NotMatch
+operator_sign operator.NotMatchesAnyCase = sign.NotMatchAnyCase
 
 -- the operators except And, by their signs
 abbrev pub operator_of : Sign → Option WrittenOperator
@@ -57,6 +61,10 @@ operator_of sign.BitOr = Some operator.BitOr
 operator_of sign.BitXor = Some operator.BitXor
 operator_of sign.ShiftLeft = Some operator.ShiftLeft
 operator_of sign.ShiftRight = Some operator.ShiftRight
+operator_of sign.BitNot = Some operator.Matches
+operator_of sign.MatchAnyCase = Some operator.MatchesAnyCase
+operator_of sign.NotMatch = Some operator.NotMatches
+operator_of sign.NotMatchAnyCase = Some operator.NotMatchesAnyCase
 operator_of _ = None
 
 abbrev pub type_token : List ℕ → Bool → Token

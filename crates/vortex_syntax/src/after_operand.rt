@@ -37,6 +37,10 @@ fn operator_of(sign: Sign) -> Option<WrittenOperator>
         Sign::BitXor => Some(WrittenOperator::BitXor),
         Sign::ShiftLeft => Some(WrittenOperator::ShiftLeft),
         Sign::ShiftRight => Some(WrittenOperator::ShiftRight),
+        Sign::BitNot => Some(WrittenOperator::Matches),
+        Sign::MatchAnyCase => Some(WrittenOperator::MatchesAnyCase),
+        Sign::NotMatch => Some(WrittenOperator::NotMatches),
+        Sign::NotMatchAnyCase => Some(WrittenOperator::NotMatchesAnyCase),
         _ => None,
     }
 }

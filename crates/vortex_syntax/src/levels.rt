@@ -48,7 +48,11 @@ pub fn own(operator: WrittenOperator) -> u8
         | WrittenOperator::BitOr
         | WrittenOperator::BitXor
         | WrittenOperator::ShiftLeft
-        | WrittenOperator::ShiftRight => CONCAT,
+        | WrittenOperator::ShiftRight
+        | WrittenOperator::Matches
+        | WrittenOperator::MatchesAnyCase
+        | WrittenOperator::NotMatches
+        | WrittenOperator::NotMatchesAnyCase => CONCAT,
         WrittenOperator::Add | WrittenOperator::Sub => SUM,
         WrittenOperator::Mul | WrittenOperator::Div | WrittenOperator::Mod => PRODUCT,
         _ => COMPARISON,
@@ -66,7 +70,11 @@ pub fn left(operator: WrittenOperator) -> u8
         | WrittenOperator::BitOr
         | WrittenOperator::BitXor
         | WrittenOperator::ShiftLeft
-        | WrittenOperator::ShiftRight => CONCAT,
+        | WrittenOperator::ShiftRight
+        | WrittenOperator::Matches
+        | WrittenOperator::MatchesAnyCase
+        | WrittenOperator::NotMatches
+        | WrittenOperator::NotMatchesAnyCase => CONCAT,
         WrittenOperator::Add | WrittenOperator::Sub => SUM,
         WrittenOperator::Mul | WrittenOperator::Div | WrittenOperator::Mod => PRODUCT,
         _ => PREDICATE,
@@ -84,7 +92,11 @@ pub fn right(operator: WrittenOperator) -> u8
         | WrittenOperator::BitOr
         | WrittenOperator::BitXor
         | WrittenOperator::ShiftLeft
-        | WrittenOperator::ShiftRight => BIT_NOT,
+        | WrittenOperator::ShiftRight
+        | WrittenOperator::Matches
+        | WrittenOperator::MatchesAnyCase
+        | WrittenOperator::NotMatches
+        | WrittenOperator::NotMatchesAnyCase => BIT_NOT,
         WrittenOperator::Add | WrittenOperator::Sub => PRODUCT,
         WrittenOperator::Mul | WrittenOperator::Div | WrittenOperator::Mod => SIGN,
         _ => PREDICATE,

@@ -4,8 +4,8 @@ ghost use Rattle.vortex_syntax.specs.Keywords.{same_word, keyword_of};
 ghost use Rattle.vortex_syntax.specs.Tokens.{token_in};
 ghost use Rattle.vortex_syntax.specs.Pieces.{piece_in, is_blank, begins_word, is_in, front, behind};
 ghost use Rattle.vortex_syntax.specs.Pieces.{name_before, keyword_or_name, word_before, number_before, closed};
-ghost use Rattle.vortex_syntax.specs.Pieces.{quoted_by, sign_of_two, sign_of_one, longest_sign};
-ghost use Rattle.vortex_syntax.specs.Pieces.{first_piece, behind_fraction};
+ghost use Rattle.vortex_syntax.specs.Pieces.{quoted_by, sign_of_three, sign_of_two, sign_of_one};
+ghost use Rattle.vortex_syntax.specs.Pieces.{longest_sign, first_piece, behind_fraction};
 ghost use Rattle.vortex_syntax.specs.Pieces.{behind_sign, begins_digits, begins_exponent};
 ghost use Rattle.vortex_syntax.specs.Pieces.{behind_exponent, begins_number, behind_number};
 ghost use Rattle.vortex_syntax.specs.Pieces.{front_number, is_decimal_word, is_text_word};
@@ -313,6 +313,20 @@ fn split_quoted(quote: u8, text: &[u8]) -> Option<(&[u8], &[u8])>
     Some((&text[..n], &text[n + 1..]))
 }
 
+/// The sign of three characters at the start, by its first two and what follows them.
+fn sign_of_three(first: u8, second: u8, rest: &[u8]) -> Option<(Piece<'_>, &[u8])>
+    ensures piece { option_map (λ x. (piece_in x.0, x.1.now)) result
+        ≡ sign_of_three first second rest.now }
+    ensures shorter { IfSome result (λ x. length x.1.now ≤ length rest.now) }
+{
+    match (first, second, rest) {
+        (b'!', b'~', [b'*', behind @ ..]) => {
+            Some((Piece::Token(Token::Sign(Sign::NotMatchAnyCase)), behind))
+        }
+        _ => None,
+    }
+}
+
 fn sign_of_two(first: u8, second: u8) -> Option<Sign>
     ensures { result ≡ sign_of_two first second }
 {
@@ -323,6 +337,8 @@ fn sign_of_two(first: u8, second: u8) -> Option<Sign>
         (b'>', b'=') => Some(Sign::GreaterOrEqual),
         (b'>', b'>') => Some(Sign::ShiftRight),
         (b'!', b'=') => Some(Sign::NotEqual),
+        (b'!', b'~') => Some(Sign::NotMatch),
+        (b'~', b'*') => Some(Sign::MatchAnyCase),
         (b'=', b'=') => Some(Sign::Equal),
         (b':', b':') => Some(Sign::Typed),
         (b'|', b'|') => Some(Sign::Concat),
@@ -351,15 +367,18 @@ fn sign_of_one(byte: u8) -> Option<Sign>
     }
 }
 
-/// The sign at the start, of two characters if there is one.
+/// The sign at the start, of three characters if there is one, or else of two if there is one.
 fn longest_sign(first: u8, rest: &[u8]) -> Option<(Piece<'_>, &[u8])>
     ensures piece { option_map (λ x. (piece_in x.0, x.1.now)) result ≡ longest_sign first rest.now }
     ensures shorter { IfSome result (λ x. length x.1.now ≤ length rest.now) }
 {
-    if let [second, behind @ ..] = rest
-        && let Some(sign) = sign_of_two(first, *second)
-    {
-        return Some((Piece::Token(Token::Sign(sign)), behind));
+    if let [second, behind @ ..] = rest {
+        if let Some(found) = sign_of_three(first, *second, behind) {
+            return Some(found);
+        }
+        if let Some(sign) = sign_of_two(first, *second) {
+            return Some((Piece::Token(Token::Sign(sign)), behind));
+        }
     }
     let sign = sign_of_one(first)?;
     Some((Piece::Token(Token::Sign(sign)), rest))

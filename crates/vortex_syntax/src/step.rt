@@ -23,6 +23,14 @@ pub enum WrittenOperator {
     BitXor,
     ShiftLeft,
     ShiftRight,
+    /// `~`.
+    Matches,
+    /// `~*`.
+    MatchesAnyCase,
+    /// `!~`.
+    NotMatches,
+    /// `!~*`.
+    NotMatchesAnyCase,
 }
 
 /// What IS tests for.

@@ -46,10 +46,16 @@ pub enum Sign {
     BitOr,
     /// The number sign.
     BitXor,
-    /// The tilde.
+    /// The tilde, which is an operator between two operands too.
     BitNot,
     ShiftLeft,
     ShiftRight,
+    /// `~*`.
+    MatchAnyCase,
+    /// `!~`.
+    NotMatch,
+    /// `!~*`.
+    NotMatchAnyCase,
     Open,
     Close,
     Comma,

@@ -1,4 +1,4 @@
-use Rattle.std.proofs.Common.{◌≡◌, ◌+◌, ◌-◌, ◌∷◌, ◌++◌, [], map, take, drop, length, List, ℕ, Vec}
+use Rattle.std.proofs.Common.{◌+◌, ◌-◌, ◌∷◌, ◌++◌, [], map, take, drop, length, ℕ, Vec}
 use Rattle.std.proofs.Common.{Global, sym, ap, ◌∙◌, arith, length-drop}
 use Rattle.std.proofs.lemmas.List.{map-append, take_rest}
 use Rattle.vortex_syntax.specs.Tokens.{token_in}
