@@ -11,7 +11,7 @@ const SUBQUERIES: &str = "no subqueries: a in (1, 2) compares with a list of val
 pub(crate) const CLOCKS: &str =
     "no current time and no zones: compare with a date or a timestamp, as '2024-02-29'::date";
 
-const REGULAR: &str = "no operators for regular expressions: write regexp_like(s, 'a+')";
+const REGULAR: &str = "write s ~ 'a+', or s ~* 'a+' where case does not count";
 
 const COLLATIONS: &str = "no collations: texts compare by their bytes";
 
@@ -179,14 +179,6 @@ fn told_before(word: &[u8], behind: &[u8]) -> &'static str {
     ""
 }
 
-/// Whether the text ends with what ends an operand.
-fn ends_operand(before: &[u8]) -> bool {
-    match before.iter().rev().find(|byte| !byte.is_ascii_whitespace()) {
-        Some(byte) => is_word_byte(*byte) || matches!(*byte, b')' | b'\'' | b'"'),
-        None => false,
-    }
-}
-
 /// What the signs at the end of the first text and at the start of the second mean elsewhere.
 fn told_of_signs(before: &[u8], behind: &[u8]) -> &'static str {
     match (before, behind) {
@@ -194,8 +186,6 @@ fn told_of_signs(before: &[u8], behind: &[u8]) -> &'static str {
         (_, [b'&', b'&', ..]) | ([.., b'&'], [b'&', ..]) => "write and",
         (_, [b'!', b'<', ..]) => "write >=",
         (_, [b'!', b'>', ..]) => "write <=",
-        (_, [b'!', b'~', ..]) => REGULAR,
-        (_, [b'~', ..]) if ends_operand(before) => REGULAR,
         (_, [b'!', ..]) => "is not or <> meant?",
         (_, [b'[', ..]) => ARRAYS,
         (_, [b'^', ..]) | ([.., b'*'], [b'*', ..]) => POWERS,
