@@ -12,6 +12,7 @@ pub(crate) const AFTER_HELP: &str = "Rows are CSV. EXPRESSION is one answer or m
   = <> != < <= > >=                  two values of one type; texts by their bytes
   a between x and y                  both ends count; not between; between symmetric
   a like 'b%', a ilike 'B_'          not like, not ilike; like p escape '!'
+  s ~ 'a+', s ~* 'a+'                a regular expression matches, by ~* in any case; not: !~ !~*
   a in (x, y), a is null, a is true  not in, is not; a is distinct from b
   and or not                         three-valued, as in SQL
   case when a > 0 then x else y end  the value of the first condition that is true
@@ -22,7 +23,8 @@ pub(crate) const AFTER_HELP: &str = "Rows are CSV. EXPRESSION is one answer or m
   round(x, 2), sqrt(x)               numbers; floor ceil trunc abs sign; n::f64 is a float
   day + 30, at + interval '3 days'   dates and timestamps: year quarter month week day dow doy hour
                                      minute second epoch date_trunc make_date add_months(day, 1)
-                                     extract(year from at)
+                                     extract(year from at) to_char(day, 'YYYY-MM')
+                                     to_date(s, 'DD/MM/YYYY') to_timestamp
   cast(a as int), a::int             s::date, s::f64, n::text, x::decimal(12,2); try_cast gives
                                      null where a cast fails
 Types are bool, i8 to i64, u8 to u64, f32, f64, decimal(12,2), date, timestamp and utf8; a ? after

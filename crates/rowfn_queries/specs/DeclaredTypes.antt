@@ -7,9 +7,10 @@ use Rattle.vortex_types.specs.LogicalTypes.{LogicalType}
 use Rattle.vortex_syntax.specs.declared.token.Sign.TheVariants as sign
 use Rattle.vortex_syntax.specs.SizeDigits.{sizes_of}
 use Rattle.vortex_syntax.specs.Tokens.{Token, name, nullable, function, number, sign}
-use Rattle.vortex_cells.specs.TypeWords.{type_named}
 use Rattle.vortex_logical.specs.declared.kind.Kind.{Kind}
-use Rattle.vortex_logical.specs.Kinds.{kind_named, decimal_kind, digit_of, teen_of}
+use Rattle.vortex_logical.specs.Kinds.{decimal_kind, digit_of, teen_of}
+use Rattle.vortex_expressions.specs.TypeNames.{named_type}
+use Rattle.vortex_expressions.specs.KindCasts.{word_kind}
 use Rattle.rowfn_queries.specs.declared.scope.ScopeReason.TheVariants as reason
 use Rattle.rowfn_queries.specs.declared.types.WrittenType.{WrittenType}
 use Rattle.rowfn_queries.specs.ColumnTypes.{KindedType, plain, type_in, of_kind}
@@ -42,14 +43,14 @@ abbrev pub if_known : ℕ → Option KindedType → Outcome TypeAt
 if_known further None = refuses reason.UnknownType
 if_known further (Some t) = answers (record { column = t; further = further })
 
--- the type of scripts, else the kind
+-- a type of expressions, else the kind
 abbrev pub or_kind : Bool → Option LogicalType → Option Kind → Option KindedType
 or_kind n (Some t) k = Some (plain t)
 or_kind n None k = option_and_then (of_kind n) k
 
--- the type of that name, with null or without
+-- the type of that name, one of SQL's too, with null or without
 abbrev pub declared_type : Bool → List ℕ → Option KindedType
-declared_type n w = or_kind n (type_named n w) (kind_named w)
+declared_type n w = or_kind n (named_type n w) (word_kind w)
 
 abbrev pub type_of_name : Bool → List ℕ → Outcome TypeAt
 type_of_name n w = and_then (token_text w) (λ v. if_known 0 (declared_type n v))

@@ -112,8 +112,9 @@ impl fmt::Display for DeclarationError {
                     "f32, f64, date, timestamp and decimal(p,s) of p digits, 1 to 18, s of ",
                 )?;
                 f.write_str(
-                    "them after the point; with ? where they have null: f64?, decimal?(p,s)",
-                )
+                    "them after the point, or SQL's int, text, ..; with ? where they have null: ",
+                )?;
+                f.write_str("f64?, decimal?(p,s)")
             }
             ScopeReason::NoPlace => {
                 write!(

@@ -1,4 +1,4 @@
-//! The types of declared columns: `i64`, `utf8?`, `date`, `decimal(12,2)`, `decimal?(12,2)`.
+//! The types of declared columns: `i64`, `utf8?`, `text`, `date`, `decimal(12,2)`, `decimal?(12,2)`.
 ghost use Rattle.std.specs.Prelude.{◌≡◌, ◌≤◌, map, length, IfOk, OnSome, string_bytes};
 ghost use Rattle.std.specs.Option.{option_map};
 ghost use Rattle.vortex_types.specs.TypeOf.{type_of, allows_null};
@@ -17,10 +17,10 @@ use crate::column_type::ColumnType;
 use crate::scope::ScopeReason;
 use std::alloc::Global;
 use std::str;
-use vortex_cells::types::type_named;
 use vortex_columns::Nullability;
+use vortex_expressions::{named_type, word_kind};
 use vortex_logical::digits::DecimalDigits;
-use vortex_logical::kind::{Kind, kind_named};
+use vortex_logical::kind::Kind;
 use vortex_syntax::{Sign, Token, sizes_of};
 
 /// A type as it is written, and how many tokens of it follow its first.
@@ -58,14 +58,14 @@ pub(crate) fn token_text(alloc: Global, bytes: &[u8]) -> Result<String, ScopeRea
     }
 }
 
-/// The type of that name: one of scripts, else a kind.
+/// The type of that name in expressions, where types also have SQL's names; else the kind.
 fn declared_type(name: &str, nullability: Nullability) -> Option<ColumnType>
     ensures { option_map (λ t. type_in t) result
         ≡ declared_type (allows_null nullability) name.now }
 {
-    match type_named(name, nullability) {
+    match named_type(name, nullability) {
         Some(dtype) => Some(ColumnType::plain(dtype)),
-        None => ColumnType::of_kind(kind_named(name)?, nullability),
+        None => ColumnType::of_kind(word_kind(name)?, nullability),
     }
 }
 

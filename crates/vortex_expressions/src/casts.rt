@@ -67,8 +67,9 @@ fn sql_type(word: &str, nullability: Nullability) -> Option<DType>
     }
 }
 
-/// The type of that name: one of this language, or SQL's.
-fn named_type(word: &str, nullability: Nullability) -> Option<DType>
+/// The type of that name: one of this language, as `i64`, or SQL's in either case, as `bigint`;
+/// none for others.
+pub fn named_type(word: &str, nullability: Nullability) -> Option<DType>
     ensures { option_map (λ t. type_of t) result
         ≡ names.named_type (allows_null nullability) word.now }
 {

@@ -263,7 +263,7 @@ impl<'a> TextFailure<'a> {
     fn type_text(&self) -> VortexResult<String> {
         let found = found_at(self.text, self.byte);
         let mut out = format!(in self.alloc;
-            "no type {found}; types are bool, utf8, i8, i16, i32, i64, u8, u16, u32 and u64, with ? where they have null"
+            "no type {found}; types are bool, utf8, i8, i16, i32, i64, u8, u16, u32 and u64, or SQL's int, text, .., with ? where they have null"
         )?;
         if !self.kinds.is_empty() {
             out.push_str("; and f64, f32, date, timestamp, decimal(12,2) and interval")?;

@@ -98,8 +98,9 @@ fn sized_kind(name: &[u8]) -> Option<Kind>
     digits_kind(count_of(precision), count_of(scale))
 }
 
-/// The kind of that name, in either case.
-fn word_kind(word: &str) -> Option<Kind>
+/// The kind of that name, in either case: `date`, `timestamp`, `f64`, also as `float8`, `float` and
+/// `double`, `f32`, also as `float4` and `real`, and decimals with their sizes; none for others.
+pub fn word_kind(word: &str) -> Option<Kind>
     ensures { result ≡ specs.word_kind word.now }
 {
     if is_same_word(word, "date") {
