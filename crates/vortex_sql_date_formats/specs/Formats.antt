@@ -1,0 +1,61 @@
+-- Formats of dates and timestamps as lists of items.
+use Rattle.std.specs.Prelude.{◌-◌, ◌||◌, ◌∷◌, ◌==◌, ℕ, zero, suc, [], Bool, List, Option, Some}
+use Rattle.std.specs.Prelude.{None, codes, if◌then◌else◌, nat_eq, not}
+use Rattle.std.specs.Char.{is_ascii_alphanumeric}
+use Rattle.std.specs.List.{starts_with}
+use Rattle.std.specs.Option.{option_or}
+use Rattle.vortex_sql_date_formats.specs.declared.formats.FormatItem.{FormatItem}
+use Rattle.vortex_sql_date_formats.specs.declared.formats.FormatItem.TheVariants as item
+
+-- a word is written in capital letters or in small ones
+abbrev pub begins : List ℕ → List ℕ → List ℕ → Bool
+begins bs w v = starts_with nat_eq bs w || starts_with nat_eq bs v
+
+-- no letter, no digit, no double quote and no backslash stands for itself
+abbrev pub is_literal : ℕ → Bool
+is_literal b = not (is_ascii_alphanumeric b || (b == 34) || (b == 92))
+
+abbrev pub literal : ℕ → FormatItem
+literal b = if is_literal b then item.Literal b else item.Unknown
+
+-- the item whose word a format begins with, and how many bytes that has
+abbrev pub date_word : List ℕ → Option (FormatItem × ℕ)
+date_word bs =
+    if begins bs (codes "YYYY") (codes "yyyy") then Some (item.Year, 4)
+    else if begins bs (codes "MM") (codes "mm") then Some (item.Month, 2)
+    else if begins bs (codes "DDD") (codes "ddd") then Some (item.DayOfYear, 3)
+    else if begins bs (codes "DD") (codes "dd") then Some (item.Day, 2)
+    else if begins bs (codes "Q") (codes "q") then Some (item.Quarter, 1)
+    else if starts_with nat_eq bs (codes "Mon") then Some (item.MonthName, 3)
+    else None
+
+-- three S begin a word of PostgreSQL that is not taken, and a T may stand in double quotes
+abbrev pub time_word : List ℕ → Option (FormatItem × ℕ)
+time_word bs =
+    if begins bs (codes "HH24") (codes "hh24") then Some (item.Hour, 4)
+    else if begins bs (codes "MI") (codes "mi") then Some (item.Minute, 2)
+    else if begins bs (codes "SSS") (codes "sss") then Some (item.Unknown, 3)
+    else if begins bs (codes "SS") (codes "ss") then Some (item.Second, 2)
+    else if begins bs (codes "MS") (codes "ms") then Some (item.Millisecond, 2)
+    else if begins bs (codes "US") (codes "us") then Some (item.Microsecond, 2)
+    else if starts_with nat_eq bs (34 ∷ 84 ∷ 34 ∷ []) then Some (item.Literal 84, 3)
+    else None
+
+abbrev pub word : List ℕ → Option (FormatItem × ℕ)
+word bs = option_or (date_word bs) (time_word bs)
+
+-- the first item of a format, a byte or a word, and how many bytes of the format follow that byte
+-- in the word
+abbrev pub first_item : Option (FormatItem × ℕ) → ℕ → FormatItem × ℕ
+first_item (Some p) b = (p.0, p.1 - 1)
+first_item None b = (literal b, 0)
+
+-- the items of a format, of which so many bytes are passed over first
+unfoldable pub items_after : ℕ → List ℕ → List FormatItem
+items_after k [] = []
+items_after zero (b ∷ bs) =
+    (first_item (word (b ∷ bs)) b).0 ∷ items_after (first_item (word (b ∷ bs)) b).1 bs
+items_after (suc k) (b ∷ bs) = items_after k bs
+
+abbrev pub items_of : List ℕ → List FormatItem
+items_of bs = items_after 0 bs

@@ -1,0 +1,10 @@
+pub mod Fields
+pub mod FormatFaults
+pub mod Formats
+pub mod InstantRanges
+pub mod ReadDigits
+pub mod ReadFormats
+pub mod ReadInstants
+pub mod TextsByFormats
+pub mod TimesByFormats
+pub mod WrittenFormats

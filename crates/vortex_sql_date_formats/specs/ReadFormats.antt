@@ -1,0 +1,47 @@
+-- Texts as their formats read them.
+use Rattle.std.specs.Prelude.{ℕ, [], ◌∷◌, ◌==◌, Bool, true, false, List, Option, Some, None}
+use Rattle.std.specs.Prelude.{if◌then◌else◌, option_and_then}
+use Rattle.vortex_sql_date_formats.specs.declared.fields.Fields.{Fields}
+use Rattle.vortex_sql_date_formats.specs.declared.formats.FormatItem.{FormatItem}
+use Rattle.vortex_sql_date_formats.specs.declared.formats.FormatItem.TheVariants as item
+use Rattle.vortex_sql_date_formats.specs.Fields.{filled}
+use Rattle.vortex_sql_date_formats.specs.ReadDigits.{fraction_of, number_of}
+
+abbrev pub is_number : FormatItem → Bool
+is_number item.MonthName = false
+is_number (item.Literal b) = false
+is_number item.Unknown = false
+is_number i = true
+
+abbrev pub begins_number : List FormatItem → Bool
+begins_number [] = false
+begins_number (i ∷ is) = is_number i
+
+-- a number before another has all its digits, and else at least one
+abbrev pub least : Bool → ℕ → ℕ
+least full width = if full then width else 1
+
+abbrev pub after_byte : ℕ → List ℕ → Option (ℕ × List ℕ)
+after_byte b [] = None
+after_byte b (c ∷ bs) = if c == b then Some (0, bs) else None
+
+-- the number that a text has for an item, and the text after it
+abbrev pub item_number : FormatItem → Bool → List ℕ → Option (ℕ × List ℕ)
+item_number item.Year full bs = number_of 4 4 bs
+item_number item.Month full bs = number_of (least full 2) 2 bs
+item_number item.Day full bs = number_of (least full 2) 2 bs
+item_number item.Hour full bs = number_of (least full 2) 2 bs
+item_number item.Minute full bs = number_of (least full 2) 2 bs
+item_number item.Second full bs = number_of (least full 2) 2 bs
+item_number item.Millisecond full bs = fraction_of (least full 3) 3 1000 bs
+item_number item.Microsecond full bs = fraction_of (least full 6) 6 1 bs
+item_number (item.Literal b) full bs = after_byte b bs
+item_number i full bs = None
+
+-- the fields that a text has by the items, from left to right; nothing may be left
+abbrev pub read_items : List FormatItem → List ℕ → Fields → Option Fields
+read_items [] [] f = Some f
+read_items [] (b ∷ bs) f = None
+read_items (i ∷ is) bs f =
+    option_and_then (λ p. option_and_then (read_items is p.1) (filled i p.0 f))
+    (item_number i (begins_number is) bs)

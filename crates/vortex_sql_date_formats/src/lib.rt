@@ -1,0 +1,13 @@
+//! Dates and timestamps as texts by formats, and texts by formats as dates and timestamps, as
+//! functions of SQL.
+#![tactic(auto)]
+
+mod digits;
+pub mod faults;
+mod fields;
+mod formats;
+pub mod from_texts;
+mod instants;
+mod read;
+pub mod to_texts;
+mod written;

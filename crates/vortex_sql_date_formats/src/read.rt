@@ -1,0 +1,84 @@
+//! Texts as their formats read them.
+ghost use Rattle.std.specs.Prelude.{◌≡◌};
+ghost use Rattle.std.specs.Option.{option_map};
+ghost use Rattle.vortex_sql_date_formats.specs.Fields.{no_fields};
+ghost use Rattle.vortex_sql_date_formats.specs.Formats.{items_of};
+ghost use Rattle.vortex_sql_date_formats.specs.ReadFormats as specs;
+
+use crate::digits::{fraction_of, number_of};
+use crate::fields::{Fields, filled, no_fields};
+use crate::formats::{FormatItem, next_item};
+
+fn is_number(item: FormatItem) -> bool
+    ensures { result ≡ specs.is_number item }
+{
+    !matches!(
+        item,
+        FormatItem::MonthName | FormatItem::Literal(_) | FormatItem::Unknown
+    )
+}
+
+/// Whether the first item of a format is a number.
+fn begins_number(format: &[u8]) -> bool
+    ensures { result ≡ specs.begins_number (items_of format.now) }
+{
+    match next_item(format) {
+        Some((item, _)) => is_number(item),
+        None => false,
+    }
+}
+
+/// The least number of digits of a number that may have `width`: all where another number follows.
+fn least(is_full: bool, width: u8) -> u8
+    ensures { result ≡ specs.least is_full width }
+{
+    if is_full { width } else { 1 }
+}
+
+/// The text after a byte that it has to begin with.
+fn after_byte(byte: u8, text: &[u8]) -> Option<(u32, &[u8])>
+    ensures { option_map (λ p. (p.0, p.1.now)) result ≡ specs.after_byte byte text.now }
+{
+    match text {
+        [first, rest @ ..] if *first == byte => Some((0, rest)),
+        _ => None,
+    }
+}
+
+/// The number that a text has for an item, and the text after it.
+fn item_number(item: FormatItem, is_full: bool, text: &[u8]) -> Option<(u32, &[u8])>
+    ensures { option_map (λ p. (p.0, p.1.now)) result
+        ≡ specs.item_number item is_full text.now }
+{
+    match item {
+        FormatItem::Year => number_of(4, 4, text),
+        FormatItem::Month => number_of(least(is_full, 2), 2, text),
+        FormatItem::Day => number_of(least(is_full, 2), 2, text),
+        FormatItem::Hour => number_of(least(is_full, 2), 2, text),
+        FormatItem::Minute => number_of(least(is_full, 2), 2, text),
+        FormatItem::Second => number_of(least(is_full, 2), 2, text),
+        FormatItem::Millisecond => fraction_of(least(is_full, 3), 3, 1000, text),
+        FormatItem::Microsecond => fraction_of(least(is_full, 6), 6, 1, text),
+        FormatItem::Literal(byte) => after_byte(byte, text),
+        FormatItem::MonthName => None,
+        FormatItem::DayOfYear => None,
+        FormatItem::Quarter => None,
+        FormatItem::Unknown => None,
+    }
+}
+
+/// The fields that a text has by a format; none where it does not fit the format.
+pub(crate) fn read_fields(format: &[u8], text: &[u8]) -> Option<Fields>
+    ensures { result ≡ specs.read_items (items_of format.now) text.now no_fields }
+{
+    let mut fields = no_fields();
+    let mut items = format;
+    let mut rest = text;
+    while let Some((item, after)) = next_item(items) {
+        let (number, unread) = item_number(item, begins_number(after), rest)?;
+        fields = filled(fields, item, number)?;
+        items = after;
+        rest = unread;
+    }
+    if rest.is_empty() { Some(fields) } else { None }
+}
