@@ -30,6 +30,7 @@ use Rattle.vortex_sql_numbers.specs.declared.bits.BitOperator.TheVariants as bit
 use Rattle.vortex_sql_numbers.specs.declared.bits.Shift.TheVariants as shift
 use Rattle.vortex_standard.specs.declared.standard.Standard.{Standard}
 use Rattle.vortex_standard.specs.declared.standard.Standard.TheVariants as standard
+use Rattle.vortex_sql_patterns.specs.declared.functions.PatternFunction.TheVariants as pattern
 use Rattle.vortex_sql_choices.specs.declared.truth_tests.TruthTest.TheVariants.{IsTrue, IsFalse}
 use Rattle.vortex_sql_choices.specs.declared.truth_tests.TruthTest.TheVariants.{IsUnknown}
 use Rattle.vortex_sql_rows.specs.declared.types.Takes.{Takes}
@@ -53,7 +54,7 @@ use Rattle.vortex_expressions.specs.Functions.{values_in, call_kind, met_values,
 use Rattle.vortex_expressions.specs.Functions.{kinded_call, function_item, applied_item}
 use Rattle.vortex_expressions.specs.Functions.{standard_item, meant_item, made_date, applied_by}
 use Rattle.vortex_expressions.specs.Functions.{takes_whole, whole_item, kinds_item, kinded_item}
-use Rattle.vortex_expressions.specs.Functions.{joined_call, joining_item, located, read_by, named_item}
+use Rattle.vortex_expressions.specs.Functions.{joined_call, joining_item, located, format_word, read_by, named_item}
 use Rattle.vortex_syntax.specs.SizeDigits.{text_size_of}
 use Rattle.vortex_sql_texts.specs.declared.parts.Side.TheVariants.{Left}
 use Rattle.vortex_expressions.specs.Joining.{as_text, as_texts, joins}
@@ -72,7 +73,7 @@ use Rattle.vortex_syntax.specs.declared.step.BetweenKind.{BetweenKind}
 use Rattle.vortex_types.specs.TypeEquality.{alike_types}
 use Rattle.vortex_expressions.specs.Binding.{with_item, item_by, item_of, items_by, branches_by}
 use Rattle.vortex_expressions.specs.Binding.{tree_of, logical_of, ended, LogicalTree}
-use Rattle.vortex_logical.specs.declared.kind.Kind.TheVariants.{Date, Timestamp, Plain, F64}
+use Rattle.vortex_logical.specs.declared.kind.Kind.TheVariants.{Plain, F64}
 use Rattle.vortex_syntax.specs.Postfix.{has_operand, test_of}
 use Rattle.vortex_expressions.specs.Literals as literals
 use Rattle.vortex_expressions.specs.Answers.{name_of, written_name, answer_of, answers_of}
@@ -406,10 +407,10 @@ module _ (columns : Names) (sure_columns : (w : List ℕ) → Sure IsItem (colum
   sure_written signs.BitXor u is e h = sure_function (standard.BitOperator bits.Xor) u is h
   sure_written signs.ShiftLeft u is e h = sure_function (standard.Shift shift.Left) u is h
   sure_written signs.ShiftRight u is e h = sure_function (standard.Shift shift.Right) u is h
-  sure_written signs.Matches u is e h = sure_function standard.RegexpLike u is h
-  sure_written signs.MatchesAnyCase u is e h = sure_function standard.RegexpLike u is h
-  sure_written signs.NotMatches u is e h = sure_function standard.RegexpLike u is h
-  sure_written signs.NotMatchesAnyCase u is e h = sure_function standard.RegexpLike u is h
+  sure_written signs.Matches u is e h = sure_function (standard.PatternFunction pattern.Like) u is h
+  sure_written signs.MatchesAnyCase u is e h = sure_function (standard.PatternFunction pattern.AnyCase) u is h
+  sure_written signs.NotMatches u is e h = sure_function (standard.PatternFunction pattern.NotLike) u is h
+  sure_written signs.NotMatchesAnyCase u is e h = sure_function (standard.PatternFunction pattern.NotAnyCase) u is h
 
   sure_plain_joined : (o : written.WrittenOperator) (a b : Item) → IsItem a → IsItem b
       → Sure IsItem (calls.plain_joined o a b)
@@ -593,20 +594,18 @@ module _ (columns : Names) (sure_columns : (w : List ℕ) → Sure IsItem (colum
   sure_located (i ∷ j ∷ []) h = sure_item_call standard.StrPos (j ∷ i ∷ []) (h.1.0, (h.0, tt))
   sure_located (i ∷ j ∷ k ∷ is) h = sure_item_call standard.StrPos (i ∷ j ∷ k ∷ is) h
 
-  sure_read_by : (k : Kind) (f : Standard) (is : List Item) → AllItems is
-      → Sure IsItem (read_by k f is)
-  sure_read_by k f is h =
-      sure_then IsTyped IsItem (function_call f is) _ (sure_call_on f is h) (λ t k. k)
+  sure_read_by : (o : Option (Kind × Standard)) (is : List Item) → AllItems is
+      → Sure IsItem (read_by o is)
+  sure_read_by None is h = tt
+  sure_read_by (Some x) is h =
+      sure_then IsTyped IsItem (function_call x.1 is) _ (sure_call_on x.1 is h) (λ t k. k)
 
   sure_named_item : (o : Option Standard) (w : List ℕ) (is : List Item) → AllItems is
       → Sure IsItem (named_item o w is)
   sure_named_item (Some f) w is h = sure_joined_call f is h
   sure_named_item None w is h =
       sure_if IsItem (same_word w (codes "locate")) _ _ (sure_located is h)
-      (sure_if IsItem (same_word w (codes "to_date")) _ _
-      (sure_read_by Date standard.TextToDateBy is h)
-      (sure_if IsItem (same_word w (codes "to_timestamp")) _ _
-      (sure_read_by Timestamp standard.TextToTimestampBy is h) tt))
+      (sure_read_by (format_word w) is h)
 
   sure_joining : (w : List ℕ) (is : List Item) → AllItems is → Sure IsItem (joining_item w is)
   sure_joining w is h = sure_named_item (standard_named w) w is h

@@ -30,6 +30,7 @@ use Rattle.vortex_sql_numbers.specs.declared.bits.Shift.TheVariants as shift
 use Rattle.vortex_sql_texts.specs.declared.parts.Side.TheVariants.{Left}
 use Rattle.vortex_standard.specs.declared.standard.Standard.{Standard}
 use Rattle.vortex_standard.specs.declared.standard.Standard.TheVariants as standard
+use Rattle.vortex_sql_patterns.specs.declared.functions.PatternFunction.TheVariants as pattern
 use Rattle.vortex_syntax.specs.SizeDigits.{text_size_of}
 use Rattle.vortex_syntax.specs.declared.token.Sign.{Sign}
 use Rattle.vortex_syntax.specs.declared.token.Sign.TheVariants as sign
@@ -244,10 +245,10 @@ written_function written.BitOr = callable (standard.BitOperator bits.Or)
 written_function written.BitXor = callable (standard.BitOperator bits.Xor)
 written_function written.ShiftLeft = callable (standard.Shift shift.Left)
 written_function written.ShiftRight = callable (standard.Shift shift.Right)
-written_function written.Matches = callable standard.RegexpLike
-written_function written.MatchesAnyCase = callable standard.RegexpLike
-written_function written.NotMatches = callable standard.RegexpLike
-written_function written.NotMatchesAnyCase = callable standard.RegexpLike
+written_function written.Matches = callable (standard.PatternFunction pattern.Like)
+written_function written.MatchesAnyCase = callable (standard.PatternFunction pattern.AnyCase)
+written_function written.NotMatches = callable (standard.PatternFunction pattern.NotLike)
+written_function written.NotMatchesAnyCase = callable (standard.PatternFunction pattern.NotAnyCase)
 
 abbrev pub joined_type : syntax.WrittenOperator → List Item → Option LogicalType
 joined_type written.Or is = truth_type

@@ -134,18 +134,23 @@ abbrev pub located : List Item → Outcome Item
 located (i ∷ j ∷ []) = function_item standard.StrPos (j ∷ i ∷ [])
 located is = function_item standard.StrPos is
 
--- the date or the timestamp of a text by a format
-abbrev pub read_by : Kind → Standard → List Item → Outcome Item
-read_by k f is = and_then (function_call f is) (λ t. answers (kinded k t))
+-- the kind that a function of that name reads a text as, by a format, and the function
+abbrev pub format_word : List ℕ → Option (Kind × Standard)
+format_word w =
+    if same_word w (codes "to_date") then Some (Date, standard.TextToDateBy)
+    else (if same_word w (codes "to_timestamp") then Some (Timestamp, standard.TextToTimestampBy)
+    else (if same_word w (codes "try_to_date") then Some (Date, standard.TryTextToDateBy)
+    else (if same_word w (codes "try_to_timestamp")
+    then Some (Timestamp, standard.TryTextToTimestampBy) else None)))
+
+abbrev pub read_by : Option (Kind × Standard) → List Item → Outcome Item
+read_by None is = refuses NoFunction
+read_by (Some x) is = and_then (function_call x.1 is) (λ t. answers (kinded x.0 t))
 
 -- of names that no function has, over columns with kinds
 abbrev pub unnamed_item : List ℕ → List Item → Outcome Item
 unnamed_item w is =
-    if same_word w (codes "locate") then located is
-    else (if same_word w (codes "to_date") then read_by Date standard.TextToDateBy is
-    else (if same_word w (codes "to_timestamp")
-    then read_by Timestamp standard.TextToTimestampBy is
-    else refuses NoFunction))
+    if same_word w (codes "locate") then located is else read_by (format_word w) is
 
 abbrev pub named_item : Option Standard → List ℕ → List Item → Outcome Item
 named_item None w is = unnamed_item w is

@@ -26,7 +26,7 @@ use vortex_columns::{DType, Nullability, StructFields, VortexResult};
 use vortex_functions::{BoundExpression, ScalarFnRef};
 use vortex_logical::kind::Kind;
 use vortex_operators::Operator;
-use vortex_standard::{BitOperator, Shift, Standard, TruthTest};
+use vortex_standard::{BitOperator, PatternFunction, Shift, Standard, TruthTest};
 use vortex_syntax::{Sign, Test, Token, WrittenOperator as Written};
 
 /// The kind at a place in a list.
@@ -188,10 +188,12 @@ fn written_function(written: Written) -> ScalarFnRef<Standard>
         Written::BitXor => callable(Standard::BitOperator(BitOperator::Xor)),
         Written::ShiftLeft => callable(Standard::Shift(Shift::Left)),
         Written::ShiftRight => callable(Standard::Shift(Shift::Right)),
-        Written::Matches => callable(Standard::RegexpLike),
-        Written::MatchesAnyCase => callable(Standard::RegexpLike),
-        Written::NotMatches => callable(Standard::RegexpLike),
-        Written::NotMatchesAnyCase => callable(Standard::RegexpLike),
+        Written::Matches => callable(Standard::PatternFunction(PatternFunction::Like)),
+        Written::MatchesAnyCase => callable(Standard::PatternFunction(PatternFunction::AnyCase)),
+        Written::NotMatches => callable(Standard::PatternFunction(PatternFunction::NotLike)),
+        Written::NotMatchesAnyCase => callable(Standard::PatternFunction(
+            PatternFunction::NotAnyCase,
+        )),
     }
 }
 

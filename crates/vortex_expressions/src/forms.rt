@@ -12,7 +12,8 @@ use strsim::osa_distance;
 use vortex_columns::{DType, VortexResult};
 use vortex_logical::kind::Kind as LogicalKind;
 use vortex_standard::{
-    BitOperator, FUNCTIONS, FloatFunction, Kind, Shift, Standard, Takes, TruthTest, named,
+    BitOperator, FUNCTIONS, FloatFunction, Kind, PatternFunction, Shift, Standard, Takes,
+    TruthTest, named,
 };
 use vortex_syntax::{Call, Step, WrittenOperator};
 
@@ -181,10 +182,14 @@ fn operator_function(operator: WrittenOperator) -> Option<Standard> {
         WrittenOperator::BitXor => Some(Standard::BitOperator(BitOperator::Xor)),
         WrittenOperator::ShiftLeft => Some(Standard::Shift(Shift::Left)),
         WrittenOperator::ShiftRight => Some(Standard::Shift(Shift::Right)),
-        WrittenOperator::Matches => Some(Standard::RegexpLike),
-        WrittenOperator::MatchesAnyCase => Some(Standard::RegexpLike),
-        WrittenOperator::NotMatches => Some(Standard::RegexpLike),
-        WrittenOperator::NotMatchesAnyCase => Some(Standard::RegexpLike),
+        WrittenOperator::Matches => Some(Standard::PatternFunction(PatternFunction::Like)),
+        WrittenOperator::MatchesAnyCase => Some(Standard::PatternFunction(
+            PatternFunction::AnyCase,
+        )),
+        WrittenOperator::NotMatches => Some(Standard::PatternFunction(PatternFunction::NotLike)),
+        WrittenOperator::NotMatchesAnyCase => Some(Standard::PatternFunction(
+            PatternFunction::NotAnyCase,
+        )),
         _ => None,
     }
 }

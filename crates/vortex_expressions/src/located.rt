@@ -36,28 +36,40 @@ fn is_locate(name: &[u8]) -> bool
     is_word(name, b"locate")
 }
 
-/// The function that such a name means.
-pub(crate) fn meant_function(name: &[u8]) -> Option<Standard> {
-    if is_locate(name) {
-        Some(Standard::StrPos)
-    } else if is_word(name, b"to_date") {
-        Some(Standard::TextToDateBy)
-    } else if is_word(name, b"to_timestamp") {
-        Some(Standard::TextToTimestampBy)
+/// The kind that a function of that name reads a text as, by a format, and the function.
+fn format_word(word: &[u8]) -> Option<(Kind, Standard)>
+    ensures { result ≡ specs.format_word word.now }
+{
+    if is_word(word, b"to_date") {
+        Some((Kind::Date, Standard::TextToDateBy))
+    } else if is_word(word, b"to_timestamp") {
+        Some((Kind::Timestamp, Standard::TextToTimestampBy))
+    } else if is_word(word, b"try_to_date") {
+        Some((Kind::Date, Standard::TryTextToDateBy))
+    } else if is_word(word, b"try_to_timestamp") {
+        Some((Kind::Timestamp, Standard::TryTextToTimestampBy))
     } else {
         None
     }
 }
 
+/// The function that such a name means.
+pub(crate) fn meant_function(name: &[u8]) -> Option<Standard> {
+    if is_locate(name) {
+        return Some(Standard::StrPos);
+    }
+    let (_kind, function) = format_word(name)?;
+    Some(function)
+}
+
 /// The date or the timestamp of a text by a format.
-fn read_by(
-    alloc: Global,
-    kind: Kind,
-    function: Standard,
-    items: Vec<Item>,
-) -> Result<Item, BindStop>
-    ensures { Gives item_in result (specs.read_by kind function (map item_in items.items)) }
+fn read_by(alloc: Global, name: &[u8], items: Vec<Item>) -> Result<Item, BindStop>
+    ensures { Gives item_in result
+        (specs.read_by (specs.format_word name.now) (map item_in items.items)) }
 {
+    let Some((kind, function)) = format_word(name) else {
+        return Err(BindStop::Refused(Refusal::NoFunction));
+    };
     let tree = function_call(alloc, function, items)?;
     Ok(Item::Kinded(kind, tree))
 }
@@ -68,11 +80,7 @@ pub(crate) fn unnamed_item(alloc: Global, name: &[u8], items: Vec<Item>) -> Resu
 {
     if is_locate(name) {
         located(alloc, items)
-    } else if is_word(name, b"to_date") {
-        read_by(alloc, Kind::Date, Standard::TextToDateBy, items)
-    } else if is_word(name, b"to_timestamp") {
-        read_by(alloc, Kind::Timestamp, Standard::TextToTimestampBy, items)
     } else {
-        Err(BindStop::Refused(Refusal::NoFunction))
+        read_by(alloc, name, items)
     }
 }

@@ -7,4 +7,5 @@ pub mod ReadFormats
 pub mod ReadInstants
 pub mod TextsByFormats
 pub mod TimesByFormats
+pub mod TriedFormats
 pub mod WrittenFormats

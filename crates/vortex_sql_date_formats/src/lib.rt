@@ -10,4 +10,5 @@ pub mod from_texts;
 mod instants;
 mod read;
 pub mod to_texts;
+pub mod tried;
 mod written;

@@ -23,6 +23,7 @@ use Rattle.vortex_sql_dates.specs.declared.parts.Part.TheVariants as part
 use Rattle.vortex_sql_dates.specs.declared.truncations.Unit.{Unit}
 use Rattle.vortex_sql_dates.specs.declared.truncations.Unit.TheVariants as unit
 use Rattle.vortex_sql_pads.specs.declared.pads.Pad.TheVariants as pad
+use Rattle.vortex_sql_patterns.specs.declared.functions.PatternFunction.TheVariants as pattern
 use Rattle.vortex_sql_kind_texts.specs.declared.kinds.StoredKind.{StoredKind}
 use Rattle.vortex_sql_kind_texts.specs.declared.kinds.StoredKind.TheVariants as stored
 use Rattle.vortex_sql_kind_texts.specs.declared.kinds.WrittenKind.{WrittenKind}
@@ -240,7 +241,6 @@ first standard.ConcatAll = refl
 first standard.Initcap = refl
 first standard.ConcatWs = refl
 first standard.TryTextToTruth = refl
-first standard.RegexpLike = refl
 first standard.FloatNegate = refl
 first standard.IntToFloat = refl
 first standard.WidenFloat = refl
@@ -249,6 +249,12 @@ first standard.TimestampToDate = refl
 first standard.MakeDate = refl
 first standard.DateAddMonths = refl
 first standard.TimestampAddMonths = refl
+first standard.DateToChar = refl
+first standard.TimestampToChar = refl
+first standard.TextToDateBy = refl
+first standard.TextToTimestampBy = refl
+first standard.TryTextToDateBy = refl
+first standard.TryTextToTimestampBy = refl
 first standard.TextToDecimal = refl
 first standard.TryTextToDecimal = refl
 first standard.DecimalToText = refl
@@ -303,6 +309,13 @@ first (standard.TextToKind f) = first_reading f.kind
 first (standard.TryTextToKind f) = first_try_reading f.kind
 first (standard.KindToText f) = first_writing f.kind
 first (standard.DecimalRound f) = first_rounding f.rounding
+first (standard.PatternFunction pattern.Like) = refl
+first (standard.PatternFunction pattern.Substr) = refl
+first (standard.PatternFunction pattern.Instr) = refl
+first (standard.PatternFunction pattern.Count) = refl
+first (standard.PatternFunction pattern.AnyCase) = refl
+first (standard.PatternFunction pattern.NotLike) = refl
+first (standard.PatternFunction pattern.NotAnyCase) = refl
 
 -- a function's name names that function
 pub named_back : (f : Standard) → standard_named (name_of f) ≡ Some f

@@ -23,7 +23,10 @@ use Rattle.vortex_sql_choices.specs.NullIf.{nullif_row, nullif_lawful}
 use Rattle.vortex_sql_numbers.specs.Remainder.{remainder_row, remainder_lawful}
 use Rattle.vortex_sql_rows.specs.Row.{Row, LawfulRow, row_type, row_means}
 use Rattle.vortex_sql_numbers.specs.Sign.{sign_row, sign_lawful}
-use Rattle.vortex_sql_patterns.specs.RegexpLike.{regexp_like_row, regexp_like_lawful}
+use Rattle.vortex_sql_patterns.specs.PatternFunctions.{pattern_row, pattern_lawful}
+use Rattle.vortex_sql_date_formats.specs.TimesByFormats as times_by
+use Rattle.vortex_sql_date_formats.specs.TextsByFormats as texts_by
+use Rattle.vortex_sql_date_formats.specs.TriedFormats as tried_by
 use Rattle.vortex_sql_pads.specs.Capitals.{initcap_row, initcap_lawful}
 use Rattle.vortex_sql_pads.specs.Joins.{concat_ws_row, concat_ws_lawful}
 use Rattle.vortex_sql_pads.specs.Pads.{pad_row, pad_lawful}
@@ -85,7 +88,6 @@ row_of standard.ConcatAll = concat_all_row
 row_of standard.Initcap = initcap_row
 row_of standard.ConcatWs = concat_ws_row
 row_of standard.TryTextToTruth = try_truth_row
-row_of standard.RegexpLike = regexp_like_row
 row_of standard.FloatNegate = negate_row
 row_of standard.IntToFloat = conversions.from_int_row
 row_of standard.WidenFloat = conversions.widen_row
@@ -94,6 +96,12 @@ row_of standard.TimestampToDate = date_casts.day_row
 row_of standard.MakeDate = make_date_row
 row_of standard.DateAddMonths = months.date_row
 row_of standard.TimestampAddMonths = months.timestamp_row
+row_of standard.DateToChar = times_by.date_row
+row_of standard.TimestampToChar = times_by.timestamp_row
+row_of standard.TextToDateBy = texts_by.date_by_row
+row_of standard.TextToTimestampBy = texts_by.timestamp_by_row
+row_of standard.TryTextToDateBy = tried_by.try_date_row
+row_of standard.TryTextToTimestampBy = tried_by.try_timestamp_row
 row_of standard.TextToDecimal = from_texts.decimal_row
 row_of standard.TryTextToDecimal = tried.try_decimal_row
 row_of standard.DecimalToText = to_texts.decimal_row
@@ -127,6 +135,7 @@ row_of (standard.TextToKind f) = from_texts.text_row f.kind
 row_of (standard.TryTextToKind f) = tried.try_text_row f.kind
 row_of (standard.KindToText f) = to_texts.kind_row f.kind
 row_of (standard.DecimalRound f) = round_row f.rounding
+row_of (standard.PatternFunction f) = pattern_row f
 
 pub lawful_of : (f : Standard) → LawfulRow (row_of f)
 lawful_of standard.Coalesce = coalesce_lawful
@@ -154,7 +163,6 @@ lawful_of standard.ConcatAll = concat_all_lawful
 lawful_of standard.Initcap = initcap_lawful
 lawful_of standard.ConcatWs = concat_ws_lawful
 lawful_of standard.TryTextToTruth = try_truth_lawful
-lawful_of standard.RegexpLike = regexp_like_lawful
 lawful_of standard.FloatNegate = negate_lawful
 lawful_of standard.IntToFloat = conversions.from_int_lawful
 lawful_of standard.WidenFloat = conversions.widen_lawful
@@ -163,6 +171,12 @@ lawful_of standard.TimestampToDate = date_casts.day_lawful
 lawful_of standard.MakeDate = make_date_lawful
 lawful_of standard.DateAddMonths = months.date_lawful
 lawful_of standard.TimestampAddMonths = months.timestamp_lawful
+lawful_of standard.DateToChar = times_by.date_lawful
+lawful_of standard.TimestampToChar = times_by.timestamp_lawful
+lawful_of standard.TextToDateBy = texts_by.date_by_lawful
+lawful_of standard.TextToTimestampBy = texts_by.timestamp_by_lawful
+lawful_of standard.TryTextToDateBy = tried_by.try_date_lawful
+lawful_of standard.TryTextToTimestampBy = tried_by.try_timestamp_lawful
 lawful_of standard.TextToDecimal = from_texts.decimal_lawful
 lawful_of standard.TryTextToDecimal = tried.try_decimal_lawful
 lawful_of standard.DecimalToText = to_texts.decimal_lawful
@@ -196,6 +210,7 @@ lawful_of (standard.TextToKind f) = from_texts.text_lawful f.kind
 lawful_of (standard.TryTextToKind f) = tried.try_text_lawful f.kind
 lawful_of (standard.KindToText f) = to_texts.kind_lawful f.kind
 lawful_of (standard.DecimalRound f) = round_lawful f.rounding
+lawful_of (standard.PatternFunction f) = pattern_lawful f
 
 -- What follows comes of the list.
 

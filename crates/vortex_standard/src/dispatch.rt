@@ -116,10 +116,6 @@ macro_rules! with_row {
                 let $f = &Try { function: cast };
                 $rows
             }
-            Standard::RegexpLike => {
-                let $f = &vortex_sql_patterns::regexp_like::RegexpLike;
-                $patterns
-            }
             Standard::FloatNegate => {
                 let $f = &vortex_sql_floats::negation::FloatNegate;
                 $rows
@@ -154,6 +150,30 @@ macro_rules! with_row {
             }
             Standard::TimestampAddMonths => {
                 let $f = &vortex_sql_dates::months::TimestampAddMonths;
+                $rows
+            }
+            Standard::DateToChar => {
+                let $f = &vortex_sql_date_formats::to_texts::DateToChar;
+                $texts
+            }
+            Standard::TimestampToChar => {
+                let $f = &vortex_sql_date_formats::to_texts::TimestampToChar;
+                $texts
+            }
+            Standard::TextToDateBy => {
+                let $f = &TextToDateBy;
+                $rows
+            }
+            Standard::TextToTimestampBy => {
+                let $f = &TextToTimestampBy;
+                $rows
+            }
+            Standard::TryTextToDateBy => {
+                let $f = &Try { function: &TextToDateBy };
+                $rows
+            }
+            Standard::TryTextToTimestampBy => {
+                let $f = &Try { function: &TextToTimestampBy };
                 $rows
             }
             Standard::TextToDecimal => {
@@ -207,6 +227,7 @@ macro_rules! with_row {
             Standard::TextToKind($f) => $rows,
             Standard::KindToText($f) => $texts,
             Standard::DecimalRound($f) => $rows,
+            Standard::PatternFunction($f) => $patterns,
         }
     };
 }

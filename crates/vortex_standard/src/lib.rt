@@ -26,6 +26,7 @@ pub use vortex_sql_numbers::bits::{BitOperator, Shift};
 pub use vortex_sql_numbers::integer_casts::{Cast, Widen};
 pub use vortex_sql_numbers::truth_casts::TruthToInt;
 pub use vortex_sql_pads::pads::Pad;
+pub use vortex_sql_patterns::functions::PatternFunction;
 pub use vortex_sql_rows::faults::RowFault;
 pub use vortex_sql_rows::ranges::has_all_of;
 pub use vortex_sql_rows::types::{Gives, Kind, Nulls, Takes, Types};

@@ -18,6 +18,7 @@ use vortex_sql_calls::call::{execute_rows, row_dtype};
 use vortex_sql_calls::maker::{execute_texts, text_dtype};
 use vortex_sql_choices::extremes::Extreme;
 use vortex_sql_choices::truth_tests::TruthTest;
+use vortex_sql_date_formats::from_texts::{TextToDateBy, TextToTimestampBy};
 use vortex_sql_dates::parts::{DatePart, TimestampPart};
 use vortex_sql_dates::truncations::{DateTrunc, TimestampTrunc};
 use vortex_sql_float_columns::execute_float_operator;
@@ -34,6 +35,7 @@ use vortex_sql_numbers::bits::{BitOperator, Shift};
 use vortex_sql_numbers::integer_casts::{Cast, Widen};
 use vortex_sql_numbers::truth_casts::TruthToInt;
 use vortex_sql_pads::pads::Pad;
+use vortex_sql_patterns::functions::PatternFunction;
 use vortex_sql_rows::row::{RowFn, TextFn};
 use vortex_sql_rows::types::Takes;
 use vortex_sql_texts::letters::Letters;
@@ -71,7 +73,6 @@ pub enum Standard {
     Initcap,
     ConcatWs,
     TryTextToTruth,
-    RegexpLike,
     FloatNegate,
     IntToFloat,
     WidenFloat,
@@ -80,6 +81,12 @@ pub enum Standard {
     MakeDate,
     DateAddMonths,
     TimestampAddMonths,
+    DateToChar,
+    TimestampToChar,
+    TextToDateBy,
+    TextToTimestampBy,
+    TryTextToDateBy,
+    TryTextToTimestampBy,
     TextToDecimal,
     TryTextToDecimal,
     DecimalToText,
@@ -113,6 +120,7 @@ pub enum Standard {
     TryTextToKind(TextToKind),
     KindToText(KindToText),
     DecimalRound(DecimalRound),
+    PatternFunction(PatternFunction),
 }
 
 impl Standard {

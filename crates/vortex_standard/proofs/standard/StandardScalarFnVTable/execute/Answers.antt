@@ -39,3 +39,19 @@ returns-in-TryDecimalScaled g c =
     let made = c.execute_rows-in-TryDecimalScaled.result in
     subst (λ (f : Standard). ReturnsRows (row_of f) inputs n made) (sym c.in-TryDecimalScaled.is)
     c.execute_rows-in-TryDecimalScaled.ensures
+
+pub returns-in-TryTextToDateBy : goal.returns-in-TryTextToDateBy
+returns-in-TryTextToDateBy g c =
+    let inputs = g.A.ExecutionArgs.inputs c.args.args.now in
+    let n = g.A.ExecutionArgs.rows c.args.args.now in
+    let made = c.execute_rows-in-TryTextToDateBy.result in
+    subst (λ (f : Standard). ReturnsRows (row_of f) inputs n made) (sym c.in-TryTextToDateBy.is)
+    c.execute_rows-in-TryTextToDateBy.ensures
+
+pub returns-in-TryTextToTimestampBy : goal.returns-in-TryTextToTimestampBy
+returns-in-TryTextToTimestampBy g c =
+    let inputs = g.A.ExecutionArgs.inputs c.args.args.now in
+    let n = g.A.ExecutionArgs.rows c.args.args.now in
+    let made = c.execute_rows-in-TryTextToTimestampBy.result in
+    subst (λ (f : Standard). ReturnsRows (row_of f) inputs n made) (sym c.in-TryTextToTimestampBy.is)
+    c.execute_rows-in-TryTextToTimestampBy.ensures
