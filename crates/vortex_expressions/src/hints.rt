@@ -58,7 +58,7 @@ const BEFORE: [(&str, &[u8], &str); 7] = [
 ];
 
 /// Functions that other languages have.
-const FUNCTIONS: [(&str, &str); 61] = [
+const FUNCTIONS: [(&str, &str); 60] = [
     ("sum", AGGREGATES),
     ("count", AGGREGATES),
     ("avg", AGGREGATES),
@@ -119,10 +119,6 @@ const FUNCTIONS: [(&str, &str); 61] = [
     ("split", "write split_part(s, ',', 1)"),
     ("substring_index", "write split_part(s, ',', 1)"),
     ("title", "write initcap(s)"),
-    (
-        "regexp_substr",
-        "no parts by patterns: write split_part(s, ',', 1)",
-    ),
     ("string_agg", AGGREGATES),
     ("pow", POWERS),
     ("power", POWERS),

@@ -1,16 +1,13 @@
-//! Compiled patterns, and what they match.
-ghost use Rattle.std.specs.Prelude.{◌≡◌, ℕ, List, None};
-ghost use Rattle.regex.specs.Strings.{regex_pattern, matcher_pattern};
+//! Compiled patterns.
+ghost use Rattle.std.specs.Prelude.{◌≡◌, None};
+ghost use Rattle.regex.specs.Strings.{regex_pattern};
 ghost use Rattle.vortex_errors.specs.Answers.{Answers};
 ghost use Rattle.vortex_errors.specs.declared.error.VortexError.TheVariants.{Custom};
-ghost use Rattle.vortex_types.specs.Values.{truth};
-ghost use Rattle.vortex_interface.specs.Outcomes.{gives};
 ghost use Rattle.vortex_sql_rows.specs.declared.faults.RowFault.TheVariants.{NoPattern};
 ghost use Rattle.vortex_sql_rows.specs.Faults.{fault_number};
 ghost use Rattle.vortex_sql_patterns.specs.Patterns.{pattern_in, IsPatternOf};
-ghost use Rattle.vortex_sql_patterns.specs.RegexpLike.{regexp_like};
 
-use regex::{Error, Matcher, Regex};
+use regex::{Error, Regex};
 use std::alloc::Global;
 use vortex_columns::{VortexError, VortexResult};
 use vortex_sql_rows::faults::RowFault;
@@ -26,13 +23,4 @@ pub(crate) fn compile(alloc: Global, pattern: &str) -> VortexResult<Regex>
         Err(Error::Syntax(_)) => Err(VortexError::Custom(RowFault::NoPattern.number())),
         Err(_) => Err(VortexError::OutOfMemory),
     }
-}
-
-/// Whether a part of a text matches a compiled pattern.
-pub(crate) fn is_match(matcher: &mut Matcher<'_>, text: &str) -> bool
-    ensures same { matcher_pattern matcher.new ≡ matcher_pattern matcher.old }
-    ensures value { (ps : List ℕ) → IsPatternOf ps (matcher_pattern matcher.old)
-        → regexp_like text.now ps ≡ gives (truth result) }
-{
-    matcher.is_match(text)
 }

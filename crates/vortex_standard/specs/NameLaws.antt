@@ -23,6 +23,7 @@ use Rattle.vortex_sql_dates.specs.declared.parts.Part.TheVariants as part
 use Rattle.vortex_sql_dates.specs.declared.truncations.Unit.{Unit}
 use Rattle.vortex_sql_dates.specs.declared.truncations.Unit.TheVariants as unit
 use Rattle.vortex_sql_pads.specs.declared.pads.Pad.TheVariants as pad
+use Rattle.vortex_sql_patterns.specs.declared.functions.PatternFunction.TheVariants as pattern
 use Rattle.vortex_sql_kind_texts.specs.declared.kinds.StoredKind.{StoredKind}
 use Rattle.vortex_sql_kind_texts.specs.declared.kinds.StoredKind.TheVariants as stored
 use Rattle.vortex_sql_kind_texts.specs.declared.kinds.WrittenKind.{WrittenKind}
@@ -230,7 +231,6 @@ first standard.ConcatAll = refl
 first standard.Initcap = refl
 first standard.ConcatWs = refl
 first standard.TryTextToTruth = refl
-first standard.RegexpLike = refl
 first standard.FloatNegate = refl
 first standard.IntToFloat = refl
 first standard.WidenFloat = refl
@@ -292,6 +292,10 @@ first (standard.TextToKind f) = first_reading f.kind
 first (standard.TryTextToKind f) = first_try_reading f.kind
 first (standard.KindToText f) = first_writing f.kind
 first (standard.DecimalRound f) = first_rounding f.rounding
+first (standard.PatternFunction pattern.Like) = refl
+first (standard.PatternFunction pattern.Substr) = refl
+first (standard.PatternFunction pattern.Instr) = refl
+first (standard.PatternFunction pattern.Count) = refl
 
 -- a function's name names that function
 pub named_back : (f : Standard) → standard_named (name_of f) ≡ Some f

@@ -23,7 +23,7 @@ use Rattle.vortex_sql_choices.specs.NullIf.{nullif_row, nullif_lawful}
 use Rattle.vortex_sql_numbers.specs.Remainder.{remainder_row, remainder_lawful}
 use Rattle.vortex_sql_rows.specs.Row.{Row, LawfulRow, row_type, row_means}
 use Rattle.vortex_sql_numbers.specs.Sign.{sign_row, sign_lawful}
-use Rattle.vortex_sql_patterns.specs.RegexpLike.{regexp_like_row, regexp_like_lawful}
+use Rattle.vortex_sql_patterns.specs.PatternFunctions.{pattern_row, pattern_lawful}
 use Rattle.vortex_sql_pads.specs.Capitals.{initcap_row, initcap_lawful}
 use Rattle.vortex_sql_pads.specs.Joins.{concat_ws_row, concat_ws_lawful}
 use Rattle.vortex_sql_pads.specs.Pads.{pad_row, pad_lawful}
@@ -84,7 +84,6 @@ row_of standard.ConcatAll = concat_all_row
 row_of standard.Initcap = initcap_row
 row_of standard.ConcatWs = concat_ws_row
 row_of standard.TryTextToTruth = try_truth_row
-row_of standard.RegexpLike = regexp_like_row
 row_of standard.FloatNegate = negate_row
 row_of standard.IntToFloat = conversions.from_int_row
 row_of standard.WidenFloat = conversions.widen_row
@@ -125,6 +124,7 @@ row_of (standard.TextToKind f) = from_texts.text_row f.kind
 row_of (standard.TryTextToKind f) = tried.try_text_row f.kind
 row_of (standard.KindToText f) = to_texts.kind_row f.kind
 row_of (standard.DecimalRound f) = round_row f.rounding
+row_of (standard.PatternFunction f) = pattern_row f
 
 pub lawful_of : (f : Standard) → LawfulRow (row_of f)
 lawful_of standard.Coalesce = coalesce_lawful
@@ -152,7 +152,6 @@ lawful_of standard.ConcatAll = concat_all_lawful
 lawful_of standard.Initcap = initcap_lawful
 lawful_of standard.ConcatWs = concat_ws_lawful
 lawful_of standard.TryTextToTruth = try_truth_lawful
-lawful_of standard.RegexpLike = regexp_like_lawful
 lawful_of standard.FloatNegate = negate_lawful
 lawful_of standard.IntToFloat = conversions.from_int_lawful
 lawful_of standard.WidenFloat = conversions.widen_lawful
@@ -193,6 +192,7 @@ lawful_of (standard.TextToKind f) = from_texts.text_lawful f.kind
 lawful_of (standard.TryTextToKind f) = tried.try_text_lawful f.kind
 lawful_of (standard.KindToText f) = to_texts.kind_lawful f.kind
 lawful_of (standard.DecimalRound f) = round_lawful f.rounding
+lawful_of (standard.PatternFunction f) = pattern_lawful f
 
 -- What follows comes of the list.
 

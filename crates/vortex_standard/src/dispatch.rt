@@ -116,10 +116,6 @@ macro_rules! with_row {
                 let $f = &Try { function: cast };
                 $rows
             }
-            Standard::RegexpLike => {
-                let $f = &vortex_sql_patterns::regexp_like::RegexpLike;
-                $patterns
-            }
             Standard::FloatNegate => {
                 let $f = &vortex_sql_floats::negation::FloatNegate;
                 $rows
@@ -203,6 +199,7 @@ macro_rules! with_row {
             Standard::TextToKind($f) => $rows,
             Standard::KindToText($f) => $texts,
             Standard::DecimalRound($f) => $rows,
+            Standard::PatternFunction($f) => $patterns,
         }
     };
 }

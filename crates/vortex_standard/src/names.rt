@@ -23,6 +23,7 @@ use vortex_sql_numbers::bits::{BitOperator, Shift};
 use vortex_sql_numbers::integer_casts::{Cast, Widen};
 use vortex_sql_numbers::truth_casts::TruthToInt;
 use vortex_sql_pads::pads::Pad;
+use vortex_sql_patterns::functions::PatternFunction;
 use vortex_sql_texts::letters::Letters;
 use vortex_sql_texts::parts::Side;
 use vortex_sql_texts::text_casts::TextToInt;
@@ -30,7 +31,7 @@ use vortex_sql_texts::texts::Measure;
 use vortex_sql_texts::trims::Trim;
 
 /// The functions that texts are written with, each once.
-pub const FUNCTIONS: [Standard; 95] = [
+pub const FUNCTIONS: [Standard; 98] = [
     Standard::Coalesce,
     Standard::NullIf,
     Standard::Case,
@@ -56,7 +57,6 @@ pub const FUNCTIONS: [Standard; 95] = [
     Standard::Initcap,
     Standard::ConcatWs,
     Standard::TryTextToTruth,
-    Standard::RegexpLike,
     Standard::Extreme(Extreme::Greatest),
     Standard::Extreme(Extreme::Least),
     Standard::TruthTest(TruthTest::IsTrue),
@@ -126,6 +126,10 @@ pub const FUNCTIONS: [Standard; 95] = [
     Standard::Letters(Letters::Upper),
     Standard::Pad(Pad::Left),
     Standard::Pad(Pad::Right),
+    Standard::PatternFunction(PatternFunction::Like),
+    Standard::PatternFunction(PatternFunction::Substr),
+    Standard::PatternFunction(PatternFunction::Instr),
+    Standard::PatternFunction(PatternFunction::Count),
 ];
 
 /// The functions on stored keys, each once: what arithmetic over columns of floats and parts of

@@ -34,6 +34,7 @@ use vortex_sql_numbers::bits::{BitOperator, Shift};
 use vortex_sql_numbers::integer_casts::{Cast, Widen};
 use vortex_sql_numbers::truth_casts::TruthToInt;
 use vortex_sql_pads::pads::Pad;
+use vortex_sql_patterns::functions::PatternFunction;
 use vortex_sql_rows::row::{RowFn, TextFn};
 use vortex_sql_rows::types::Takes;
 use vortex_sql_texts::letters::Letters;
@@ -71,7 +72,6 @@ pub enum Standard {
     Initcap,
     ConcatWs,
     TryTextToTruth,
-    RegexpLike,
     FloatNegate,
     IntToFloat,
     WidenFloat,
@@ -112,6 +112,7 @@ pub enum Standard {
     TryTextToKind(TextToKind),
     KindToText(KindToText),
     DecimalRound(DecimalRound),
+    PatternFunction(PatternFunction),
 }
 
 impl Standard {
