@@ -55,6 +55,7 @@ ASKED = [
     "1 in ()",
     r"regexp_like('aa', '(a)\1')",
     r"regexp_like(name, '\ba')",
+    "regexp_substr('ab', 'a|ab')",
     ("'É' ilike 'é'", "'É' ilike 'é'", "'É' like 'é'"),
     "upper('é')",
     "upper('ß')",

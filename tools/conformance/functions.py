@@ -265,6 +265,9 @@ TEXTS = [
     Form("concat", "utf8 utf8+", "utf8", calls("concat", same=True), applied("concat"),
          lambda node, *operands: "(" + " || ".join(f"coalesce({one}, '')" for one in operands) + ")", is_strict=False, nulls="never"),
     Form("regexp_like", "utf8 regex", "bool", calls("regexp_like", same=True), applied("regexp_like"), literals="each"),
+    Form("regexp_substr", "utf8 regex", "utf8", calls("regexp_substr", same=True), applied("regexp_substr"), literals="each", nulls="always"),
+    Form("regexp_instr", "utf8 regex", "i64", calls("regexp_instr", same=True), counted("regexp_instr"), literals="each"),
+    Form("regexp_count", "utf8 regex", "i64", calls("regexp_count", same=True), counted("regexp_count"), literals="each"),
 ]
 
 

@@ -124,10 +124,6 @@ const FUNCTIONS: [(&str, &str); 60] = [
     ("split", "write split_part(s, ',', 1)"),
     ("substring_index", "write split_part(s, ',', 1)"),
     ("title", "write initcap(s)"),
-    (
-        "regexp_substr",
-        "no parts by patterns: write split_part(s, ',', 1)",
-    ),
     ("string_agg", AGGREGATES),
     ("pow", POWERS),
     ("power", POWERS),

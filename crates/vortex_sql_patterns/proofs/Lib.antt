@@ -1,2 +1,4 @@
+mod Counts
 mod Rows
 mod SameMatches
+mod TextRoom

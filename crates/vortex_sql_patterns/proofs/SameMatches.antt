@@ -1,9 +1,10 @@
 -- What a compiled pattern matches.
 use Rattle.std.proofs.Common.{◌≡◌, ◌≢◌, ◌≤◌, ◌<◌, ◌⊎◌, inl, inr, ℕ, true, List, Option, Some, None}
-use Rattle.std.proofs.Common.{is_some, IsSomeAnd, length, get_or, refl, ap, sym, ◌∙◌, cond, subst}
-use Rattle.std.specs.Prelude.{chars, IfSome}
+use Rattle.std.proofs.Common.{IsSomeAnd, length, get_or, refl, ap, sym, ◌∙◌, cond, subst}
+use Rattle.std.specs.Prelude.{chars, not, IfSome}
+use mathlib.Core.Path.{fun_ext}
 use Rattle.std.proofs.lemmas.Bool.{le-leb, lt-leb}
-use Rattle.regex.specs.Patterns.{Re, SameCaptures, default_config, find_str, Reads, Refuses}
+use Rattle.regex.specs.Patterns.{Re, SameCaptures, default_config, Reads, Refuses}
 use Rattle.regex.specs.Strings.{regex_pattern, regex_source, regex_config, IsReadFromSource}
 use Rattle.regex.specs.Names.{names_of}
 use Rattle.regex.specs.Failures.{IsRightKind}
@@ -12,7 +13,7 @@ use Rattle.regex.specs.declared.error.Error.{Error}
 use Rattle.regex.specs.declared.error.Error.TheVariants.{Syntax}
 use Rattle.regex_syntax.specs.declared.error.Error as parser
 use Rattle.regex.specs.declared.string.regex.Regex.{Regex}
-use Rattle.regex.proofs.ForCallers.{is_match_alike}
+use Rattle.regex.proofs.ForCallers.{is_match_alike, span_alike}
 use Rattle.regex_syntax.specs.Brackets.{Nested}
 use Rattle.regex_syntax.specs.Grammar.{Names, group_count, read}
 use Rattle.regex_syntax.specs.declared.error.ErrorKind.{ErrorKind}
@@ -20,7 +21,10 @@ use Rattle.regex_syntax.specs.declared.error.ErrorKind.TheVariants.{OutOfMemory,
 use Rattle.vortex_types.specs.Values.{truth}
 use Rattle.vortex_interface.specs.Outcomes.{gives}
 use Rattle.vortex_sql_patterns.specs.Patterns.{IsPatternOf, pattern_in, shallow}
-use Rattle.vortex_sql_patterns.specs.RegexpLike.{matched, regexp_like}
+use Rattle.vortex_sql_patterns.specs.PatternFunctions.{answered, answer_to, asked, counted, IsReadBy}
+use Rattle.vortex_sql_patterns.specs.PatternFunctions.{count_in, part, place}
+use Rattle.vortex_sql_patterns.specs.declared.functions.PatternFunction.{PatternFunction}
+use Rattle.vortex_sql_patterns.specs.declared.functions.PatternFunction.TheVariants as function
 
 -- what the grammar reads, where it is nested at most so deep, and else none
 shallow_read : (o : Option (Nested Re × Names)) (a : Re) (names : Names)
@@ -55,8 +59,25 @@ no_pattern ps x e is right refusal =
     refused (read default_config (chars ps)) e.kind (subst (IsRightKind default_config ps) is right)
     (refusal e is)
 
--- an expression that matches as the pattern does has a match in the same texts
-pub same_match : (bs ps : List ℕ) (re : Re) → IsPatternOf ps re → ((k : ℕ) → get_or bs k 0 < 256)
-    → regexp_like bs ps ≡ gives (truth (is_some (find_str re bs 0)))
-same_match bs ps re (as_read, e, same) bytes =
-    ap (matched bs) e ∙ ap (λ b. gives (truth b)) (sym (is_match_alike same bs bytes true 0))
+-- of an expression that matches as the pattern does, the same is found in a text
+module _ (bs : List ℕ) (bytes : (k : ℕ) → get_or bs k 0 < 256) (re as_read : Re)
+    (same : SameCaptures re as_read) where
+  asked_alike : (f : PatternFunction) → asked f bs as_read ≡ asked f bs re
+  asked_alike function.Like =
+      ap (λ b. gives (truth b)) (sym (is_match_alike same bs bytes true 0))
+  asked_alike function.AnyCase =
+      ap (λ b. gives (truth b)) (sym (is_match_alike same bs bytes true 0))
+  asked_alike function.NotLike =
+      ap (λ b. gives (truth (not b))) (sym (is_match_alike same bs bytes true 0))
+  asked_alike function.NotAnyCase =
+      ap (λ b. gives (truth (not b))) (sym (is_match_alike same bs bytes true 0))
+  asked_alike function.Substr = ap (part bs) (sym (span_alike same bs bytes true 0))
+  asked_alike function.Instr =
+      ap (λ o. counted (place bs o)) (sym (span_alike same bs bytes true 0))
+  asked_alike function.Count =
+      ap (λ next. counted (count_in bs next)) (fun_ext (λ at. sym (span_alike same bs bytes true at)))
+
+pub same_answer : (f : PatternFunction) (bs ps : List ℕ) (re : Re) → IsReadBy f ps re
+    → ((k : ℕ) → get_or bs k 0 < 256) → answer_to f bs ps ≡ asked f bs re
+same_answer f bs ps re (as_read, e, same) bytes =
+    ap (answered f bs) e ∙ asked_alike bs bytes re as_read same f

@@ -1,2 +1,2 @@
+pub mod PatternFunctions
 pub mod Patterns
-pub mod RegexpLike

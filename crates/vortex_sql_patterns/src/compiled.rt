@@ -1,23 +1,22 @@
-//! Compiled patterns, and what they match.
-ghost use Rattle.std.specs.Prelude.{◌≡◌, ℕ, List, None};
-ghost use Rattle.regex.specs.Strings.{regex_pattern, matcher_pattern};
-ghost use Rattle.vortex_errors.specs.Answers.{Answers};
+//! Compiled patterns.
+ghost use Rattle.std.specs.Prelude.{◌≡◌, None, string_bytes};
+ghost use Rattle.regex.specs.Strings.{regex_pattern};
+ghost use Rattle.vortex_errors.specs.Answers.{Answers, AnswersUnlessMemory};
 ghost use Rattle.vortex_errors.specs.declared.error.VortexError.TheVariants.{Custom};
-ghost use Rattle.vortex_types.specs.Values.{truth};
-ghost use Rattle.vortex_interface.specs.Outcomes.{gives};
 ghost use Rattle.vortex_sql_rows.specs.declared.faults.RowFault.TheVariants.{NoPattern};
 ghost use Rattle.vortex_sql_rows.specs.Faults.{fault_number};
 ghost use Rattle.vortex_sql_patterns.specs.Patterns.{pattern_in, IsPatternOf};
-ghost use Rattle.vortex_sql_patterns.specs.RegexpLike.{regexp_like};
+ghost use Rattle.vortex_sql_patterns.specs.PatternFunctions.{in_any_case, read_by, IsReadBy};
 
-use regex::{Error, Matcher, Regex};
+use crate::functions::PatternFunction;
+use regex::{Error, Regex};
 use std::alloc::Global;
 use vortex_columns::{VortexError, VortexResult};
 use vortex_sql_rows::faults::RowFault;
 
 /// Compiles a pattern; E10 where the text is no pattern. One that would take more than 10 MiB is
 /// want of memory, since no definition says how large a pattern is compiled.
-pub(crate) fn compile(alloc: Global, pattern: &str) -> VortexResult<Regex>
+fn compile(alloc: Global, pattern: &str) -> VortexResult<Regex>
     ensures { Answers result (λ r. IsPatternOf pattern.now (regex_pattern r))
         (λ e. (pattern_in pattern.now ≡ None) × (e ≡ Custom (fault_number NoPattern))) }
 {
@@ -28,11 +27,30 @@ pub(crate) fn compile(alloc: Global, pattern: &str) -> VortexResult<Regex>
     }
 }
 
-/// Whether a part of a text matches a compiled pattern.
-pub(crate) fn is_match(matcher: &mut Matcher<'_>, text: &str) -> bool
-    ensures same { matcher_pattern matcher.new ≡ matcher_pattern matcher.old }
-    ensures value { (ps : List ℕ) → IsPatternOf ps (matcher_pattern matcher.old)
-        → regexp_like text.now ps ≡ gives (truth result) }
+/// The pattern after `(?i)`.
+fn in_any_case(alloc: Global, pattern: &str) -> VortexResult<String>
+    ensures { AnswersUnlessMemory result (λ s. string_bytes s ≡ in_any_case pattern.now) }
 {
-    matcher.is_match(text)
+    let mut text = String::from_str(alloc, "(?i)")?;
+    text.push_str(pattern)?;
+    Ok(text)
+}
+
+/// Compiles the pattern that the function reads; E10 where it reads none.
+pub(crate) fn compile_by(
+    alloc: Global,
+    function: PatternFunction,
+    pattern: &str,
+) -> VortexResult<Regex>
+    ensures { Answers result (λ r. IsReadBy function pattern.now (regex_pattern r))
+        (λ e. (pattern_in (read_by function pattern.now) ≡ None)
+        × (e ≡ Custom (fault_number NoPattern))) }
+{
+    match function {
+        PatternFunction::AnyCase | PatternFunction::NotAnyCase => {
+            let text = in_any_case(alloc, pattern)?;
+            compile(alloc, text.as_str())
+        }
+        _ => compile(alloc, pattern),
+    }
 }

@@ -1,6 +1,8 @@
 //! SQL's functions of regular expressions.
 #![tactic(auto)]
 
+mod answers;
 mod compiled;
+pub mod functions;
 mod matched;
-pub mod regexp_like;
+mod searches;

@@ -1,14 +1,14 @@
 use Rattle.std.proofs.Common.{◌≤◌, ◌-◌, length}
 use Rattle.vortex_sql_calls.specs.Calls.{AnsweredRows}
-use Rattle.vortex_sql_patterns.specs.RegexpLike.{regexp_like_of}
+use Rattle.vortex_sql_patterns.specs.PatternFunctions.{outcome_of}
 use Rattle.vortex_sql_patterns.proofs.matched.matched_cells.Given as goal
 
 -- the results of the rows so far
 abbrev pub invariant-rows : goal.invariant-rows
 invariant-rows g l = record {
   most : length l.rows.items ≤ g.A.ExecutionArgs.rows l.args;
-  answered : AnsweredRows regexp_like_of (g.A.ExecutionArgs.inputs l.args) (length l.rows.items)
-      l.rows.items;
+  answered : AnsweredRows (outcome_of l.function) (g.A.ExecutionArgs.inputs l.args)
+      (length l.rows.items) l.rows.items;
 }
 
 abbrev pub decreases-rows : goal.decreases-rows
