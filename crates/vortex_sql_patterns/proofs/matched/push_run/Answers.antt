@@ -4,7 +4,7 @@ use Rattle.vortex_columns.specs.declared.cell.Cell.TheVariants as cell
 use Rattle.vortex_columns.specs.Cells.{cell_value}
 use Rattle.vortex_interface.specs.Outcomes.{values_at, IsCallFault}
 use Rattle.vortex_sql_calls.specs.Calls.{AnsweredRows}
-use Rattle.vortex_sql_patterns.specs.PatternFunctions.{answer_to, outcome_of}
+use Rattle.vortex_sql_patterns.specs.PatternFunctions.{answer_to, outcome_of, IsReadBy}
 use Rattle.vortex_sql_calls.proofs.Rows.{pushed}
 use Rattle.vortex_sql_rows.specs.AnsweredRows.{AnswersRow}
 use Rattle.vortex_sql_patterns.proofs.Rows.{memory_alone, no_pattern_at, of_texts, passed_on}
