@@ -9,5 +9,7 @@ mod formats;
 pub mod from_texts;
 mod instants;
 mod read;
+#[cfg(test)]
+mod tests;
 pub mod to_texts;
 mod written;
