@@ -160,7 +160,7 @@ fn other_texts_are_faults(rt: HostRuntime) {
         ("24-01-01", "YYYY-MM-DD"),
         ("2024-01-01 ", "YYYY-MM-DD"),
         ("2024-01-", "YYYY-MM-DD"),
-        ("2024011", "YYYYMMDD"),
+        ("20241", "YYYYMMDD"),
         ("2024-12-31 24:00:00", "YYYY-MM-DD HH24:MI:SS"),
         ("2024-12-31 23:60:00", "YYYY-MM-DD HH24:MI:SS"),
         ("1 Mai 2024", "DD Mon YYYY"),

@@ -46,6 +46,9 @@ use Rattle.vortex_sql_dates.specs.PartLaws.{date_part_lawful, timestamp_part_law
 use Rattle.vortex_sql_dates.specs.Truncations.{date_trunc_row, date_trunc_lawful}
 use Rattle.vortex_sql_dates.specs.Truncations.{timestamp_trunc_row, timestamp_trunc_lawful}
 use Rattle.vortex_sql_dates.specs.Months as months
+use Rattle.vortex_sql_date_formats.specs.TextsByFormats.{date_by_row, date_by_lawful}
+use Rattle.vortex_sql_date_formats.specs.TextsByFormats.{timestamp_by_row, timestamp_by_lawful}
+use Rattle.vortex_sql_date_formats.specs.TimesByFormats as by_formats
 use Rattle.vortex_sql_kind_texts.specs.DecimalRounding.{round_row, round_lawful}
 use Rattle.vortex_sql_kind_texts.specs.DecimalScales.{scaled_row, scaled_lawful}
 use Rattle.vortex_sql_kind_texts.specs.KindTexts as to_texts
@@ -93,6 +96,10 @@ row_of standard.TimestampToDate = date_casts.day_row
 row_of standard.MakeDate = make_date_row
 row_of standard.DateAddMonths = months.date_row
 row_of standard.TimestampAddMonths = months.timestamp_row
+row_of standard.DateToChar = by_formats.date_row
+row_of standard.TimestampToChar = by_formats.timestamp_row
+row_of standard.TextToDateBy = date_by_row
+row_of standard.TextToTimestampBy = timestamp_by_row
 row_of standard.TextToDecimal = from_texts.decimal_row
 row_of standard.TryTextToDecimal = tried.try_decimal_row
 row_of standard.DecimalToText = to_texts.decimal_row
@@ -161,6 +168,10 @@ lawful_of standard.TimestampToDate = date_casts.day_lawful
 lawful_of standard.MakeDate = make_date_lawful
 lawful_of standard.DateAddMonths = months.date_lawful
 lawful_of standard.TimestampAddMonths = months.timestamp_lawful
+lawful_of standard.DateToChar = by_formats.date_lawful
+lawful_of standard.TimestampToChar = by_formats.timestamp_lawful
+lawful_of standard.TextToDateBy = date_by_lawful
+lawful_of standard.TextToTimestampBy = timestamp_by_lawful
 lawful_of standard.TextToDecimal = from_texts.decimal_lawful
 lawful_of standard.TryTextToDecimal = tried.try_decimal_lawful
 lawful_of standard.DecimalToText = to_texts.decimal_lawful

@@ -156,6 +156,22 @@ macro_rules! with_row {
                 let $f = &vortex_sql_dates::months::TimestampAddMonths;
                 $rows
             }
+            Standard::DateToChar => {
+                let $f = &vortex_sql_date_formats::to_texts::DateToChar;
+                $texts
+            }
+            Standard::TimestampToChar => {
+                let $f = &vortex_sql_date_formats::to_texts::TimestampToChar;
+                $texts
+            }
+            Standard::TextToDateBy => {
+                let $f = &vortex_sql_date_formats::from_texts::TextToDateBy;
+                $rows
+            }
+            Standard::TextToTimestampBy => {
+                let $f = &vortex_sql_date_formats::from_texts::TextToTimestampBy;
+                $rows
+            }
             Standard::TextToDecimal => {
                 let $f = &TextToDecimal;
                 $rows

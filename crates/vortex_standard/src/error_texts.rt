@@ -5,6 +5,7 @@ ghost use Rattle.vortex_standard.specs.ErrorTexts.{number_text};
 
 use std::fmt;
 use vortex_columns::VortexError;
+use vortex_sql_date_formats::faults::format_fault_text;
 use vortex_sql_dates::made::no_date_text;
 use vortex_sql_float_functions::functions::root_text;
 use vortex_sql_rows::faults::RowFault;
@@ -15,7 +16,9 @@ fn number_text(number: u64) -> Option<&'static str>
 {
     match RowFault::of_number(number) {
         Some(fault) => Some(fault.text()),
-        None => root_text(number).or(no_date_text(number)),
+        None => root_text(number)
+            .or(no_date_text(number))
+            .or(format_fault_text(number)),
     }
 }
 
@@ -36,8 +39,8 @@ impl<'a> ErrorText<'a> {
         ErrorText { error }
     }
 
-    /// The fault of a row: that with the number that E10 has. That of a root, and that of a date,
-    /// are none of them.
+    /// The fault of a row: that with the number that E10 has. Those of a root, of a date and of a
+    /// format are none of them.
     pub fn fault(self) -> Option<RowFault>
         ensures { result ≡ fault_in self.entry.error.now }
     {

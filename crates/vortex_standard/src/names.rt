@@ -130,7 +130,7 @@ pub const FUNCTIONS: [Standard; 95] = [
 
 /// The functions on stored keys, each once: what arithmetic over columns of floats and parts of
 /// dates and timestamps call.
-pub const KEY_FUNCTIONS: [Standard; 109] = [
+pub const KEY_FUNCTIONS: [Standard; 113] = [
     Standard::FloatNegate,
     Standard::IntToFloat,
     Standard::WidenFloat,
@@ -249,6 +249,10 @@ pub const KEY_FUNCTIONS: [Standard; 109] = [
     Standard::TimestampTrunc(TimestampTrunc { unit: Unit::Second }),
     Standard::DateAddMonths,
     Standard::TimestampAddMonths,
+    Standard::DateToChar,
+    Standard::TimestampToChar,
+    Standard::TextToDateBy,
+    Standard::TextToTimestampBy,
     Standard::TextToDecimal,
     Standard::TryTextToDecimal,
     Standard::DecimalToText,
