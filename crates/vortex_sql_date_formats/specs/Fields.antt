@@ -26,6 +26,9 @@ unless_filled (Some n) f = None
 abbrev pub filled : FormatItem → ℕ → Fields → Option Fields
 filled item.Year n f = unless_filled f.year (record f { year = Some n })
 filled item.Month n f = unless_filled f.month (record f { month = Some n })
+filled item.MonthName n f = unless_filled f.month (record f { month = Some n })
+filled item.UpperMonthName n f = unless_filled f.month (record f { month = Some n })
+filled item.LowerMonthName n f = unless_filled f.month (record f { month = Some n })
 filled item.Day n f = unless_filled f.day (record f { day = Some n })
 filled item.Hour n f = unless_filled f.hour (record f { hour = Some n })
 filled item.Minute n f = unless_filled f.minute (record f { minute = Some n })

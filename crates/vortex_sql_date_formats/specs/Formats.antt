@@ -26,7 +26,13 @@ date_word bs =
     else if begins bs (codes "DDD") (codes "ddd") then Some (item.DayOfYear, 3)
     else if begins bs (codes "DD") (codes "dd") then Some (item.Day, 2)
     else if begins bs (codes "Q") (codes "q") then Some (item.Quarter, 1)
-    else if starts_with nat_eq bs (codes "Mon") then Some (item.MonthName, 3)
+    else None
+
+abbrev pub name_word : List ℕ → Option (FormatItem × ℕ)
+name_word bs =
+    if starts_with nat_eq bs (codes "Mon") then Some (item.MonthName, 3)
+    else if starts_with nat_eq bs (codes "MON") then Some (item.UpperMonthName, 3)
+    else if starts_with nat_eq bs (codes "mon") then Some (item.LowerMonthName, 3)
     else None
 
 -- three S begin a word of PostgreSQL that is not taken, and a T may stand in double quotes
@@ -42,7 +48,7 @@ time_word bs =
     else None
 
 abbrev pub word : List ℕ → Option (FormatItem × ℕ)
-word bs = option_or (date_word bs) (time_word bs)
+word bs = option_or (option_or (date_word bs) (name_word bs)) (time_word bs)
 
 -- the first item of a format, a byte or a word, and how many bytes of the format follow that byte
 -- in the word

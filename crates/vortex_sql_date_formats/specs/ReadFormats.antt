@@ -1,6 +1,9 @@
 -- Texts as their formats read them.
 use Rattle.std.specs.Prelude.{ℕ, [], ◌∷◌, ◌==◌, Bool, true, false, List, Option, Some, None}
-use Rattle.std.specs.Prelude.{if◌then◌else◌, option_and_then}
+use Rattle.std.specs.Prelude.{codes, if◌then◌else◌, nat_eq, option_and_then}
+use Rattle.std.specs.Char.{to_ascii_lowercase}
+use Rattle.std.specs.List.{starts_with}
+use Rattle.std.specs.Option.{option_map, option_or}
 use Rattle.vortex_sql_date_formats.specs.declared.fields.Fields.{Fields}
 use Rattle.vortex_sql_date_formats.specs.declared.formats.FormatItem.{FormatItem}
 use Rattle.vortex_sql_date_formats.specs.declared.formats.FormatItem.TheVariants as item
@@ -9,6 +12,8 @@ use Rattle.vortex_sql_date_formats.specs.ReadDigits.{fraction_of, number_of}
 
 abbrev pub is_number : FormatItem → Bool
 is_number item.MonthName = false
+is_number item.UpperMonthName = false
+is_number item.LowerMonthName = false
 is_number (item.Literal b) = false
 is_number item.Unknown = false
 is_number i = true
@@ -25,10 +30,44 @@ abbrev pub after_byte : ℕ → List ℕ → Option (ℕ × List ℕ)
 after_byte b [] = None
 after_byte b (c ∷ bs) = if c == b then Some (0, bs) else None
 
+-- the month whose name begins with small letters
+abbrev pub early_month : List ℕ → Option ℕ
+early_month bs =
+    if starts_with nat_eq bs (codes "jan") then Some 1
+    else if starts_with nat_eq bs (codes "feb") then Some 2
+    else if starts_with nat_eq bs (codes "mar") then Some 3
+    else if starts_with nat_eq bs (codes "apr") then Some 4
+    else if starts_with nat_eq bs (codes "may") then Some 5
+    else if starts_with nat_eq bs (codes "jun") then Some 6
+    else None
+
+abbrev pub late_month : List ℕ → Option ℕ
+late_month bs =
+    if starts_with nat_eq bs (codes "jul") then Some 7
+    else if starts_with nat_eq bs (codes "aug") then Some 8
+    else if starts_with nat_eq bs (codes "sep") then Some 9
+    else if starts_with nat_eq bs (codes "oct") then Some 10
+    else if starts_with nat_eq bs (codes "nov") then Some 11
+    else if starts_with nat_eq bs (codes "dec") then Some 12
+    else None
+
+-- three letters of any case
+unfoldable pub month_of : ℕ → ℕ → ℕ → Option ℕ
+month_of a b c =
+    let letters = to_ascii_lowercase a ∷ to_ascii_lowercase b ∷ to_ascii_lowercase c ∷ [] in
+    option_or (early_month letters) (late_month letters)
+
+abbrev pub named_month : List ℕ → Option (ℕ × List ℕ)
+named_month (a ∷ b ∷ c ∷ bs) = option_map (λ m. (m, bs)) (month_of a b c)
+named_month bs = None
+
 -- the number that a text has for an item, and the text after it
 abbrev pub item_number : FormatItem → Bool → List ℕ → Option (ℕ × List ℕ)
 item_number item.Year full bs = number_of 4 4 bs
 item_number item.Month full bs = number_of (least full 2) 2 bs
+item_number item.MonthName full bs = named_month bs
+item_number item.UpperMonthName full bs = named_month bs
+item_number item.LowerMonthName full bs = named_month bs
 item_number item.Day full bs = number_of (least full 2) 2 bs
 item_number item.Hour full bs = number_of (least full 2) 2 bs
 item_number item.Minute full bs = number_of (least full 2) 2 bs

@@ -1,6 +1,7 @@
 -- What a format writes of a day of the calendar and a time of that day.
 use Rattle.std.specs.Prelude.{◌+◌, ◌/◌, ◌%◌, ◌&&◌, ◌∷◌, ℕ, [], Bool, true, false, List, codes}
-use Rattle.std.specs.Prelude.{if◌then◌else◌, ◌==◌, length, not}
+use Rattle.std.specs.Prelude.{if◌then◌else◌, ◌==◌, length, map, not}
+use Rattle.std.specs.Char.{to_ascii_lowercase, to_ascii_uppercase}
 use Rattle.std.specs.List.{flat_map, list_all}
 use Rattle.vortex_sql_date_formats.specs.declared.formats.FormatItem.{FormatItem}
 use Rattle.vortex_sql_date_formats.specs.declared.formats.FormatItem.TheVariants as item
@@ -29,6 +30,8 @@ abbrev pub item_text : CivilTime → FormatItem → List ℕ
 item_text c item.Year = last_digits 4 c.year
 item_text c item.Month = last_digits 2 c.month
 item_text c item.MonthName = month_name c.month
+item_text c item.UpperMonthName = map to_ascii_uppercase (month_name c.month)
+item_text c item.LowerMonthName = map to_ascii_lowercase (month_name c.month)
 item_text c item.Day = last_digits 2 c.day
 item_text c item.DayOfYear = last_digits 3 c.ordinal
 item_text c item.Quarter = last_digits 1 ((c.month + 2) / 3)

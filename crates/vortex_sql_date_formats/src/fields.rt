@@ -51,6 +51,9 @@ pub(crate) fn filled(old: Fields, item: FormatItem, number: u32) -> Option<Field
     match item {
         FormatItem::Year => unless_filled(old.year, Fields { year: new, ..old }),
         FormatItem::Month => unless_filled(old.month, Fields { month: new, ..old }),
+        FormatItem::MonthName => unless_filled(old.month, Fields { month: new, ..old }),
+        FormatItem::UpperMonthName => unless_filled(old.month, Fields { month: new, ..old }),
+        FormatItem::LowerMonthName => unless_filled(old.month, Fields { month: new, ..old }),
         FormatItem::Day => unless_filled(old.day, Fields { day: new, ..old }),
         FormatItem::Hour => unless_filled(old.hour, Fields { hour: new, ..old }),
         FormatItem::Minute => unless_filled(old.minute, Fields { minute: new, ..old }),
@@ -58,7 +61,6 @@ pub(crate) fn filled(old: Fields, item: FormatItem, number: u32) -> Option<Field
         FormatItem::Millisecond => unless_filled(old.micros, Fields { micros: new, ..old }),
         FormatItem::Microsecond => unless_filled(old.micros, Fields { micros: new, ..old }),
         FormatItem::Literal(_) => Some(old),
-        FormatItem::MonthName => None,
         FormatItem::DayOfYear => None,
         FormatItem::Quarter => None,
         FormatItem::Unknown => None,

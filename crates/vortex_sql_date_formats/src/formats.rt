@@ -11,6 +11,10 @@ pub enum FormatItem {
     Month,
     /// `Mon`: the first three letters of the month's English name, as `Feb`.
     MonthName,
+    /// `MON`: the same in capital letters, as `FEB`.
+    UpperMonthName,
+    /// `mon`: the same in small letters, as `feb`.
+    LowerMonthName,
     /// `DD`: the day of the month, two digits.
     Day,
     /// `DDD`: the day of the year, three digits.
@@ -75,8 +79,22 @@ fn date_word(format: &[u8]) -> Option<(FormatItem, usize)>
         Some((FormatItem::Day, 2))
     } else if begins(format, b"Q", b"q") {
         Some((FormatItem::Quarter, 1))
-    } else if format.starts_with(b"Mon") {
+    } else {
+        None
+    }
+}
+
+/// The name of a month whose word a format begins with, and how many bytes that has.
+fn name_word(format: &[u8]) -> Option<(FormatItem, usize)>
+    ensures value { result ≡ specs.name_word format.now }
+    ensures bound { IfSome result (λ p. (1 ≤ p.1) × (p.1 ≤ length format.now)) }
+{
+    if format.starts_with(b"Mon") {
         Some((FormatItem::MonthName, 3))
+    } else if format.starts_with(b"MON") {
+        Some((FormatItem::UpperMonthName, 3))
+    } else if format.starts_with(b"mon") {
+        Some((FormatItem::LowerMonthName, 3))
     } else {
         None
     }
@@ -111,7 +129,9 @@ fn word(format: &[u8]) -> Option<(FormatItem, usize)>
     ensures value { result ≡ specs.word format.now }
     ensures bound { IfSome result (λ p. (1 ≤ p.1) × (p.1 ≤ length format.now)) }
 {
-    date_word(format).or(time_word(format))
+    date_word(format)
+        .or(name_word(format))
+        .or(time_word(format))
 }
 
 /// The first item of a format and the format after it; none at its end.

@@ -9,6 +9,8 @@ mod formats;
 pub mod from_texts;
 mod instants;
 mod read;
+#[cfg(test)]
+mod tests;
 pub mod to_texts;
 pub mod tried;
 mod written;

@@ -14,7 +14,11 @@ fn is_number(item: FormatItem) -> bool
 {
     !matches!(
         item,
-        FormatItem::MonthName | FormatItem::Literal(_) | FormatItem::Unknown
+        FormatItem::MonthName
+            | FormatItem::UpperMonthName
+            | FormatItem::LowerMonthName
+            | FormatItem::Literal(_)
+            | FormatItem::Unknown
     )
 }
 
@@ -45,6 +49,71 @@ fn after_byte(byte: u8, text: &[u8]) -> Option<(u32, &[u8])>
     }
 }
 
+/// The month from January to June whose name begins with these small letters.
+fn early_month(letters: &[u8]) -> Option<u32>
+    ensures { result ≡ specs.early_month letters.now }
+{
+    if letters.starts_with(b"jan") {
+        Some(1)
+    } else if letters.starts_with(b"feb") {
+        Some(2)
+    } else if letters.starts_with(b"mar") {
+        Some(3)
+    } else if letters.starts_with(b"apr") {
+        Some(4)
+    } else if letters.starts_with(b"may") {
+        Some(5)
+    } else if letters.starts_with(b"jun") {
+        Some(6)
+    } else {
+        None
+    }
+}
+
+/// The same from July to December.
+fn late_month(letters: &[u8]) -> Option<u32>
+    ensures { result ≡ specs.late_month letters.now }
+{
+    if letters.starts_with(b"jul") {
+        Some(7)
+    } else if letters.starts_with(b"aug") {
+        Some(8)
+    } else if letters.starts_with(b"sep") {
+        Some(9)
+    } else if letters.starts_with(b"oct") {
+        Some(10)
+    } else if letters.starts_with(b"nov") {
+        Some(11)
+    } else if letters.starts_with(b"dec") {
+        Some(12)
+    } else {
+        None
+    }
+}
+
+/// The month whose name begins with these three letters, of any case.
+#[tactic(auto, unfolding(crate::specs::ReadFormats::month_of))]
+fn month_of(a: u8, b: u8, c: u8) -> Option<u32>
+    ensures { result ≡ specs.month_of a b c }
+{
+    let letters = [
+        a.to_ascii_lowercase(),
+        b.to_ascii_lowercase(),
+        c.to_ascii_lowercase(),
+    ];
+    early_month(&letters).or(late_month(&letters))
+}
+
+/// The month whose name's first three letters a text begins with, and the text after them.
+fn named_month(text: &[u8]) -> Option<(u32, &[u8])>
+    ensures { option_map (λ p. (p.0, p.1.now)) result ≡ specs.named_month text.now }
+{
+    match text {
+        [a, b, c, rest @ ..] => Some((month_of(*a, *b, *c)?, rest)),
+        _ => None,
+    }
+}
+
 /// The number that a text has for an item, and the text after it.
 fn item_number(item: FormatItem, is_full: bool, text: &[u8]) -> Option<(u32, &[u8])>
     ensures { option_map (λ p. (p.0, p.1.now)) result
@@ -60,7 +129,9 @@ fn item_number(item: FormatItem, is_full: bool, text: &[u8]) -> Option<(u32, &[u
         FormatItem::Millisecond => fraction_of(least(is_full, 3), 3, 1000, text),
         FormatItem::Microsecond => fraction_of(least(is_full, 6), 6, 1, text),
         FormatItem::Literal(byte) => after_byte(byte, text),
-        FormatItem::MonthName => None,
+        FormatItem::MonthName => named_month(text),
+        FormatItem::UpperMonthName => named_month(text),
+        FormatItem::LowerMonthName => named_month(text),
         FormatItem::DayOfYear => None,
         FormatItem::Quarter => None,
         FormatItem::Unknown => None,

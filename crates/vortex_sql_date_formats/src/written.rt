@@ -1,5 +1,6 @@
 //! Dates and timestamps as their formats write them.
-ghost use Rattle.std.specs.Prelude.{◌≡◌, ◌++◌, IfOk};
+ghost use Rattle.std.specs.Prelude.{◌≡◌, ◌++◌, IfOk, map};
+ghost use Rattle.std.specs.Char.{to_ascii_lowercase, to_ascii_uppercase};
 ghost use Rattle.std.specs.List.{list_all};
 ghost use Rattle.vortex_sql_date_formats.specs.Formats.{items_of};
 ghost use Rattle.vortex_logical.specs.DecimalTexts.{last_digits};
@@ -52,6 +53,28 @@ fn month_name(month: u8) -> &'static str
     }
 }
 
+/// Appends a text in capital letters.
+fn push_upper(text: &[u8], out: &mut Vec<u8>) -> Result<(), AllocError>
+    ensures { IfOk result
+        (λ _. out.new.items ≡ out.old.items ++ map to_ascii_uppercase text.now) }
+{
+    for byte in text {
+        out.push(byte.to_ascii_uppercase())?;
+    }
+    Ok(())
+}
+
+/// Appends a text in small letters.
+fn push_lower(text: &[u8], out: &mut Vec<u8>) -> Result<(), AllocError>
+    ensures { IfOk result
+        (λ _. out.new.items ≡ out.old.items ++ map to_ascii_lowercase text.now) }
+{
+    for byte in text {
+        out.push(byte.to_ascii_lowercase())?;
+    }
+    Ok(())
+}
+
 /// Appends what an item writes.
 fn push_item(item: FormatItem, at: CivilTime, out: &mut Vec<u8>) -> Result<(), AllocError>
     ensures { IfOk result (λ _. out.new.items ≡ out.old.items ++ specs.item_text at item) }
@@ -63,6 +86,8 @@ fn push_item(item: FormatItem, at: CivilTime, out: &mut Vec<u8>) -> Result<(), A
             out.extend_from_slice(month_name(at.month).as_bytes())?;
             Ok(())
         }
+        FormatItem::UpperMonthName => push_upper(month_name(at.month).as_bytes(), out),
+        FormatItem::LowerMonthName => push_lower(month_name(at.month).as_bytes(), out),
         FormatItem::Day => push_digits(u64::from(at.day), 2, out),
         FormatItem::DayOfYear => push_digits(u64::from(at.ordinal), 3, out),
         FormatItem::Quarter => push_digits((u64::from(at.month) + 2) / 3, 1, out),

@@ -1,0 +1,176 @@
+//! Rows beside what PostgreSQL 15 returned for them on 30 November 2026.
+
+use crate::faults::{OTHER_FORMAT, UNKNOWN_FORMAT};
+use crate::from_texts::{TextToDateBy, TextToTimestampBy};
+use crate::to_texts::{DateToChar, TimestampToChar};
+use vortex_columns::{Cell, PType, VortexError, VortexResult};
+use vortex_sql_rows::row::{RowFn, TextFn};
+
+fn is_number(answer: VortexResult<Cell<'_>>, expected: i128) -> bool {
+    match answer {
+        Ok(Cell::Int(number)) => number == expected,
+        _ => false,
+    }
+}
+
+fn is_text(answer: VortexResult<Option<String>>, expected: &str) -> bool {
+    match answer {
+        Ok(Some(text)) => text.as_str() == expected,
+        _ => false,
+    }
+}
+
+fn is_fault(answer: VortexResult<Cell<'_>>, expected: u64) -> bool {
+    match answer {
+        Err(VortexError::Custom(number)) => number == expected,
+        _ => false,
+    }
+}
+
+#[test]
+fn dates_have_these_texts(rt: HostRuntime) {
+    let rows: [(i128, &str, &str); 12] = [
+        (19782, "YYYY-MM-DD", "2024-02-29"),
+        (-719162, "YYYY-MM-DD", "0001-01-01"),
+        (2932896, "YYYY-MM-DD", "9999-12-31"),
+        (-1, "dd.mm.yyyy", "31.12.1969"),
+        (19782, "DDD/YYYY Q", "060/2024 1"),
+        (2932896, "DDD/YYYY Q", "365/9999 4"),
+        (19782, "Mon MON mon", "Feb FEB feb"),
+        (-1, "Mon MON mon", "Dec DEC dec"),
+        (19782, "YYYYMMDD\"T\"HH24MISS", "20240229T000000"),
+        (19782, "MonMM;DDD-DD;QQ;", "Feb02;060-29;11;"),
+        (19782, "YYYY年MM月", "2024年02月"),
+        (19782, ", ", ", "),
+    ];
+    for (day, format, text) in rows {
+        let cells = [Cell::Int(day), Cell::Text(format)];
+        assert!(rt; is_text(DateToChar.make(rt.alloc(), PType::I32, &cells), text));
+    }
+}
+
+#[test]
+fn timestamps_have_these_texts(rt: HostRuntime) {
+    let rows: [(i128, &str, &str); 4] = [
+        (
+            1709210096789012,
+            "YYYY-MM-DD\"T\"HH24:MI:SS.US",
+            "2024-02-29T12:34:56.789012",
+        ),
+        (1709210096789012, "hh24:MI, MS SSss", "12:34, 789 5656"),
+        (
+            -1,
+            "YYYY-MM-DD\"T\"HH24:MI:SS.US",
+            "1969-12-31T23:59:59.999999",
+        ),
+        (-1, "hh24:MI, MS", "23:59, 999"),
+    ];
+    for (micros, format, text) in rows {
+        let cells = [Cell::Int(micros), Cell::Text(format)];
+        assert!(rt; is_text(TimestampToChar.make(rt.alloc(), PType::I64, &cells), text));
+    }
+}
+
+#[test]
+fn formats_that_are_not_taken_are_faults(rt: HostRuntime) {
+    let formats: [&str; 9] = [
+        "",
+        "YYY",
+        "Yyyy",
+        "SSSS",
+        "Month",
+        "FMDD",
+        "DDth",
+        "\"at\" HH24",
+        "\\\"T\"",
+    ];
+    for format in formats {
+        let cells = [Cell::Int(0), Cell::Text(format)];
+        assert!(rt; DateToChar.make(rt.alloc(), PType::I32, &cells).is_err());
+    }
+    let readings: [&str; 7] = [
+        "DD/MM",
+        "YYYY DDD",
+        "YYYY Q",
+        "YYYY MM Mon",
+        "YYYY-MM-DD YYYY",
+        "YYYY MS US",
+        "YYYY HH12",
+    ];
+    for format in readings {
+        let cells = [Cell::Text("2024"), Cell::Text(format)];
+        let answer = TextToDateBy.answer(PType::I64, &cells);
+        assert!(rt; is_fault(answer, UNKNOWN_FORMAT));
+    }
+}
+
+#[test]
+fn texts_are_dates(rt: HostRuntime) {
+    let rows: [(&str, &str, i128); 8] = [
+        ("31/12/2024", "DD/MM/YYYY", 20088),
+        ("1/2/2024", "DD/MM/YYYY", 19754),
+        ("20240229", "YYYYMMDD", 19782),
+        ("2024", "YYYY", 19723),
+        ("2024-05", "YYYY-DD", 19727),
+        ("29feb2024", "DDMonYYYY", 19782),
+        ("1969-12-31 23:59", "YYYY-MM-DD HH24:MI", -1),
+        ("9999年1月9", "YYYY年MM月DD", 2932540),
+    ];
+    for (text, format, day) in rows {
+        let cells = [Cell::Text(text), Cell::Text(format)];
+        assert!(rt; is_number(TextToDateBy.answer(PType::I64, &cells), day));
+    }
+}
+
+#[test]
+fn texts_are_timestamps(rt: HostRuntime) {
+    let rows: [(&str, &str, i128); 5] = [
+        (
+            "2024-02-29T12:34:56.5",
+            "YYYY-MM-DD\"T\"HH24:MI:SS.MS",
+            1709210096500000,
+        ),
+        (
+            "2024-02-29 1:2:3.04",
+            "YYYY-MM-DD HH24:MI:SS.US",
+            1709168523040000,
+        ),
+        (
+            "20240229123456789012",
+            "YYYYMMDDHH24MISSUS",
+            1709210096789012,
+        ),
+        ("1 MAR 1969", "DD Mon YYYY", -26438400000000),
+        ("1969-12-31 23:59:59.999999", "YYYY-MM-DD HH24:MI:SS.US", -1),
+    ];
+    for (text, format, micros) in rows {
+        let cells = [Cell::Text(text), Cell::Text(format)];
+        let answer = TextToTimestampBy.answer(PType::I64, &cells);
+        assert!(rt; is_number(answer, micros));
+    }
+}
+
+#[test]
+fn other_texts_are_faults(rt: HostRuntime) {
+    let rows: [(&str, &str); 12] = [
+        ("2023-02-29", "YYYY-MM-DD"),
+        ("2024-13-01", "YYYY-MM-DD"),
+        ("2024-00-05", "YYYY-MM-DD"),
+        ("0000-01-01", "YYYY-MM-DD"),
+        ("24-01-01", "YYYY-MM-DD"),
+        ("2024-01-01 ", "YYYY-MM-DD"),
+        ("2024-01-", "YYYY-MM-DD"),
+        ("20241", "YYYYMMDD"),
+        ("2024-12-31 24:00:00", "YYYY-MM-DD HH24:MI:SS"),
+        ("2024-12-31 23:60:00", "YYYY-MM-DD HH24:MI:SS"),
+        ("1 Mai 2024", "DD Mon YYYY"),
+        ("", "YYYY"),
+    ];
+    for (text, format) in rows {
+        let cells = [Cell::Text(text), Cell::Text(format)];
+        let date = TextToDateBy.answer(PType::I64, &cells);
+        assert!(rt; is_fault(date, OTHER_FORMAT));
+        let timestamp = TextToTimestampBy.answer(PType::I64, &cells);
+        assert!(rt; is_fault(timestamp, OTHER_FORMAT));
+    }
+}
