@@ -689,7 +689,8 @@ module _ (scope : Fields) where
         m.first)) m.second
     item_over (placed p f a b) i e =
         let first = with_item (answers []) (item_of scope a) in
-        let m = then_is (with_item first (item_of scope b)) (λ is. applied_item f (reverse is)) i e in
+        let m =
+        then_is (with_item first (item_of scope b)) (λ is. applied_item f (reverse is)) i e in
         applied_over f (reverse m.a) i
         (all_reversed m.a (more_over first (item_of scope b)
         (more_over (answers []) (item_of scope a) none_over (item_over a)) (item_over b) m.a

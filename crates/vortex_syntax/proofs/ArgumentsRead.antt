@@ -13,7 +13,8 @@ use Rattle.vortex_syntax.specs.Frames as frame
 use Rattle.vortex_syntax.specs.Tokens.{Token, name, text, sign}
 use Rattle.vortex_syntax.specs.Syntax as tree
 use Rattle.vortex_syntax.specs.Syntax.{Syntax, Tested, Arguments, Branches}
-use Rattle.vortex_syntax.specs.Levels.{sign_level, level, takes_word, takes_from, takes_in, is_for, first_level, first_of}
+use Rattle.vortex_syntax.specs.Levels.{sign_level, level, takes_word, takes_from, takes_in, is_for}
+use Rattle.vortex_syntax.specs.Levels.{first_level, first_of}
 use Rattle.vortex_syntax.specs.Levels.{predicate_level, concat_level}
 use Rattle.vortex_syntax.specs.Levels.{atom_level, literal_level}
 use Rattle.vortex_syntax.specs.Spelling.{spelling, all_spelled}
@@ -87,13 +88,14 @@ next_waits f s (tree.argument args b) a h = omega (arith, s.more (argument_count
 
 -- arguments and their commas
 abbrev pub AreRead : Arguments → Type 0
-AreRead args = (f : ℕ → Frame) → Separates f → FirstWaits (f 0) args → (fs : List Frame) (out : List Step)
-    (rest : List Token)
+AreRead args = (f : ℕ → Frame) → Separates f → FirstWaits (f 0) args → (fs : List Frame)
+    (out : List Step) (rest : List Token)
     → want (f 0 ∷ fs) out (all_spelled args ++ rest)
     ≡ want (f (argument_count args) ∷ fs) (out ++ all_postfix args) rest
 
 pub read_no_arguments : AreRead tree.no_arguments
-read_no_arguments = λ f s waits fs out rest. ap (λ xs. want (f 0 ∷ fs) xs rest) (sym (append-nil out))
+read_no_arguments = λ f s waits fs out rest.
+    ap (λ xs. want (f 0 ∷ fs) xs rest) (sym (append-nil out))
 
 pub read_argument : (args : Arguments) (a : Syntax) → AreRead args → IsRead a
     → AreRead (tree.argument args a)

@@ -20,7 +20,8 @@ use Rattle.vortex_syntax.specs.Postfix.{Step, postfix}
 use Rattle.vortex_syntax.specs.Refusals.{Begins}
 use Rattle.vortex_syntax.proofs.Tables.{top_atom, top_sign, own_right, whole_atom, atom_ceiling}
 use Rattle.vortex_syntax.proofs.Held.{Held, opened, casting, negating, minusing, joining}
-use Rattle.vortex_syntax.proofs.Held.{plusing, inverting, extracting, parting, limiting, placing, first_fits}
+use Rattle.vortex_syntax.proofs.Held.{plusing, inverting, extracting, parting, limiting, placing}
+use Rattle.vortex_syntax.proofs.Held.{first_fits}
 use Rattle.vortex_syntax.proofs.Held.{distinguishing, lower, upper, matching, calling, listing}
 use Rattle.vortex_syntax.proofs.Held.{frame_of, written, choosing, asking, answering, defaulting}
 use Rattle.vortex_syntax.proofs.Held.{IsSound, frames_of, all_written, Nested, Plugged, plugged}

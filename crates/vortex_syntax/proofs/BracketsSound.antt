@@ -10,7 +10,8 @@ use Rattle.vortex_syntax.specs.declared.frame.Mode.TheVariants as mode
 use Rattle.vortex_syntax.specs.Tokens.{Token, name, sign}
 use Rattle.vortex_syntax.specs.Syntax as tree
 use Rattle.vortex_syntax.specs.Syntax.{Syntax, Arguments}
-use Rattle.vortex_syntax.specs.Levels.{Fits, predicate_level, atom_level, level, first_level, first_of}
+use Rattle.vortex_syntax.specs.Levels.{Fits, predicate_level, atom_level, level, first_level}
+use Rattle.vortex_syntax.specs.Levels.{first_of}
 use Rattle.vortex_syntax.specs.Spelling.{spelling, all_spelled, function_tokens}
 use Rattle.vortex_syntax.specs.Postfix.{Step, applied, listed, argument_count, postfix, all_postfix}
 use Rattle.vortex_syntax.specs.Reading.{State, state, close_behind, comma_behind}
@@ -179,7 +180,8 @@ close_sound l (frame.From f ∷ fs) out s before e a =
     (parted_is i.0 f i.1 a.tree fs out before (sound_as r.h (parting i.0 f i.1) i.2 r.sound) a.fits
     (holding_as r.h (parting i.0 f i.1) a.tree fs out before i.2 r.behind))
 close_sound l (frame.Place f ∷ fs) out s before e a =
-    let r = popped (frame.Place f) fs out before (postfix a.tree) (spelling a.tree ++ []) a.behind in
+    let r = popped (frame.Place f) fs out before (postfix a.tree) (spelling a.tree ++ [])
+    a.behind in
     let i = place_is f r.h r.is in
     along (state (mode.Have atom_level) fs (out ++ (applied f 2 ∷ []))) s
     (before ++ (sign sign.Close ∷ [])) e

@@ -16,7 +16,8 @@ use Rattle.vortex_syntax.specs.Tokens.{Token, name, text, sign}
 use Rattle.vortex_syntax.specs.Syntax as tree
 use Rattle.vortex_syntax.specs.Syntax.{Syntax, Arguments, Branches}
 use Rattle.vortex_syntax.specs.Levels.{left, level, Fits, AllFit, BranchesFit, is_level}
-use Rattle.vortex_syntax.specs.Levels.{concat_level, takes_word, takes_from, takes_in, is_for, first_level, first_of}
+use Rattle.vortex_syntax.specs.Levels.{concat_level, takes_word, takes_from, takes_in, is_for}
+use Rattle.vortex_syntax.specs.Levels.{first_level, first_of}
 use Rattle.vortex_syntax.specs.Spelling.{spelling, all_spelled, operator_sign}
 use Rattle.vortex_syntax.specs.Spelling.{distinct_tokens, in_tokens, like_sign, branches_spelled}
 use Rattle.vortex_syntax.specs.Spelling.{function_tokens, between_tokens, cast_sign}

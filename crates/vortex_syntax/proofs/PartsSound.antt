@@ -9,7 +9,7 @@ use Rattle.vortex_syntax.specs.declared.frame.Mode.TheVariants as mode
 use Rattle.vortex_syntax.specs.Tokens.{Token, name, sign}
 use Rattle.vortex_syntax.specs.Syntax as tree
 use Rattle.vortex_syntax.specs.Syntax.{Syntax}
-use Rattle.vortex_syntax.specs.Levels.{Fits, atom_level, takes_from, is_for, level, concat_level}
+use Rattle.vortex_syntax.specs.Levels.{Fits, atom_level, takes_from, is_for, concat_level}
 use Rattle.vortex_syntax.specs.Spelling.{spelling, function_tokens}
 use Rattle.vortex_syntax.specs.Postfix.{Step, applied, postfix}
 use Rattle.vortex_syntax.specs.Reading.{State, state, from_behind, for_behind, waits_in, place_of}
@@ -92,7 +92,8 @@ place_sound l (frame.Arguments f zero ∷ fs) out s before is e a =
 place_sound l fs out s before is e a = absurd cc
 
 pub placed_is : (p : Bool) (f : List ℕ) (s a : Syntax) (fs : List Frame) (out : List Step)
-    (before : List Token) → IsSound (placing p f s) → Fits a → Holding (placing p f s) a fs out before
+    (before : List Token) → IsSound (placing p f s) → Fits a
+    → Holding (placing p f s) a fs out before
     → HasOperand atom_level fs (out ++ (applied f 2 ∷ [])) (before ++ (sign sign.Close ∷ [])) []
 placed_is p f s a fs out before t fit b =
     completed (placing p f s) a (tree.placed p f s a) (applied f 2) sign.Close fs out before

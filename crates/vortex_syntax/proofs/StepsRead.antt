@@ -15,7 +15,8 @@ use Rattle.vortex_syntax.specs.Tokens.{Token, name, function, number, text, sign
 use Rattle.vortex_syntax.specs.Syntax as tree
 use Rattle.vortex_syntax.specs.Syntax.{Tested}
 use Rattle.vortex_syntax.specs.Levels.{typed_level, own, left, is_operand, operand_level, and_level}
-use Rattle.vortex_syntax.specs.Levels.{bit_not_level, IsTested, takes_word, takes_from, takes_in, is_for}
+use Rattle.vortex_syntax.specs.Levels.{bit_not_level, IsTested, takes_word, takes_from, takes_in}
+use Rattle.vortex_syntax.specs.Levels.{is_for}
 use Rattle.vortex_syntax.specs.Levels.{not_level, distinct_level, is_level, predicate_level}
 use Rattle.vortex_syntax.specs.Levels.{concat_level, atom_level, literal_level}
 use Rattle.vortex_syntax.specs.Spelling.{operator_sign, type_token, with_not, is_tokens, test_token}

@@ -1,5 +1,6 @@
 -- How the tables of levels are related.
-use Rattle.std.proofs.Common.{◌≡◌, ◌≢◌, ℕ, zero, ◌<◌, ◌≤◌, Bool, true, false, cond, nat_lt, nat_le, List, []}
+use Rattle.std.proofs.Common.{◌≡◌, ◌≢◌, ℕ, zero, ◌<◌, ◌≤◌, Bool, true, false, cond, nat_lt, nat_le}
+use Rattle.std.proofs.Common.{List, []}
 use Rattle.std.proofs.Common.{◌∷◌, refl, ap, arith, lit<, lit≤}
 use Rattle.std.proofs.lemmas.Bool.Decides.{nat_tests}
 use Rattle.vortex_syntax.specs.declared.step.WrittenOperator.{WrittenOperator}
@@ -15,7 +16,8 @@ use Rattle.vortex_syntax.specs.Reading.{waits_word, waits_in}
 use Rattle.vortex_syntax.specs.Levels.{level, operand_level, sign_level, typed_level, own, left}
 use Rattle.vortex_syntax.specs.Levels.{right, or_level, and_level, not_level, is_level}
 use Rattle.vortex_syntax.specs.Levels.{comparison_level, predicate_level, concat_level, sum_level}
-use Rattle.vortex_syntax.specs.Levels.{bit_not_level, product_level, atom_level, literal_level, takes_in, first_level}
+use Rattle.vortex_syntax.specs.Levels.{bit_not_level, product_level, atom_level, literal_level}
+use Rattle.vortex_syntax.specs.Levels.{takes_in, first_level}
 
 pub own_left : (o : WrittenOperator) → own o ≤ left o
 own_left operator.Or = lit≤ tt

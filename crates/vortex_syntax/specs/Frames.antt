@@ -14,9 +14,9 @@ use Rattle.vortex_syntax.specs.Postfix.{Step, called}
 
 -- Cast is by `try_cast` if the flag is true; Between is before its `and`, Bounded after it; Arguments
 -- is a call of that name, after as many arguments; Extract is one after a word and `from`; From is
--- one after an argument and `from`, For after one more and `for`; Place is one after an argument and
--- `in`; Items are those of IN, after as many; Case is before that part of a CASE, which has an operand if the flag is true, after as many
--- values
+-- one after an argument and `from`, For after one more and `for`; Place is one after an argument
+-- and `in`; Items are those of IN, after as many; Case is before that part of a CASE, which has an
+-- operand if the flag is true, after as many values
 pub data Frame : Type 0 where
   Open : Frame
   Cast : Bool → Frame

@@ -5,7 +5,8 @@ ghost use Rattle.vortex_syntax.specs.Frames.{frame_in};
 ghost use Rattle.vortex_syntax.specs.Frames as specs;
 
 use crate::levels::{
-    ATOM, BIT_NOT, COMPARISON, CONCAT, DISTINCT, LITERAL, NOT, OR, PREDICATE, SIGN, first_level, own, right,
+    ATOM, BIT_NOT, COMPARISON, CONCAT, DISTINCT, LITERAL, NOT, OR, PREDICATE, SIGN, first_level,
+    own, right,
 };
 use crate::step::{BetweenKind, Call, LikeKind, WrittenOperator};
 
