@@ -1,11 +1,12 @@
 -- The syntax of a call by its name: its level, its tokens, how it nests, and that it fits.
 use Rattle.std.proofs.Common.{◌≡◌, ℕ, suc, Bool, true, false, ◌&&◌, List, [], ◌∷◌, ◌++◌, refl, ap}
-use Rattle.std.proofs.Common.{◌∙◌, append_assoc, nat_lt}
+use Rattle.std.proofs.Common.{◌∙◌, append_assoc, nat_lt, cond, ◌≤◌, arith}
 use Rattle.vortex_syntax.specs.Nesting.{nesting_limit}
 use Rattle.vortex_syntax.specs.declared.token.Sign.TheVariants as sign
 use Rattle.vortex_syntax.specs.Tokens.{Token, function, sign}
 use Rattle.vortex_syntax.specs.Syntax.{Syntax, Arguments, no_arguments, argument}
-use Rattle.vortex_syntax.specs.Levels.{level, Fits, AllFit}
+use Rattle.vortex_syntax.specs.Levels.{level, Fits, AllFit, takes_in, first_level, first_of}
+use Rattle.vortex_syntax.specs.Levels.{concat_level, or_level}
 use Rattle.vortex_syntax.specs.Spelling.{spelling, all_spelled}
 use Rattle.vortex_expressions.specs.Writing.{applied_from, named_syntax}
 use Rattle.vortex_expressions.specs.WritingSteps.{nests_behind, all_nest_behind}
@@ -24,14 +25,21 @@ pub level_named : (w : List ℕ) (bs : List Syntax) → level (named_syntax w bs
 level_named w [] = refl
 level_named w (a ∷ bs) = level_from w no_arguments a bs
 
-fits_from : (w : List ℕ) (args : Arguments) (a : Syntax) (bs : List Syntax) → AllFit args → Fits a
-    → AllOf Fits bs → Fits (applied_from w args a bs)
-fits_from w args a [] h k j = (h, k)
-fits_from w args a (b ∷ bs) h k j = fits_from w (argument args a) b bs (h, k) j.0 j.1
+-- any tree may come first, but in a call of a function that takes `in`
+any_first : (w : List ℕ) (a : Syntax) → takes_in w ≡ false → first_level w ≤ level a
+any_first w a h =
+    let is : first_level w ≡ or_level = ap (λ b. cond b concat_level or_level) h in
+    omega (arith, is)
 
-pub fits_named : (w : List ℕ) (bs : List Syntax) → AllOf Fits bs → Fits (named_syntax w bs)
-fits_named w [] h = tt
-fits_named w (a ∷ bs) h = fits_from w no_arguments a bs tt h.0 h.1
+fits_from : (w : List ℕ) (args : Arguments) (a : Syntax) (bs : List Syntax) → takes_in w ≡ false
+    → AllFit args → Fits a → AllOf Fits bs → Fits (applied_from w args a bs)
+fits_from w args a [] u h k j = (h, k, any_first w (first_of args a) u)
+fits_from w args a (b ∷ bs) u h k j = fits_from w (argument args a) b bs u (h, k) j.0 j.1
+
+pub fits_named : (w : List ℕ) (bs : List Syntax) → takes_in w ≡ false → AllOf Fits bs
+    → Fits (named_syntax w bs)
+fits_named w [] u h = tt
+fits_named w (a ∷ bs) u h = fits_from w no_arguments a bs u tt h.0 h.1
 
 -- the tokens from one argument on, and of all arguments
 abbrev pub spelled_from : Syntax → List Syntax → List Token

@@ -34,7 +34,7 @@ use Rattle.vortex_syntax.specs.Syntax.{Syntax, operand, negative, typed, grouped
 use Rattle.vortex_syntax.specs.Syntax.{minus, tested, distinct, between, matched, listed, cast}
 use Rattle.vortex_syntax.specs.Syntax.{chosen, chosen_else, nullary, applied, Arguments}
 use Rattle.vortex_syntax.specs.Syntax.{plus, bit_not, null_tested, converted, titled, extracted}
-use Rattle.vortex_syntax.specs.Syntax.{parted, parted_for}
+use Rattle.vortex_syntax.specs.Syntax.{parted, parted_for, placed}
 use Rattle.vortex_syntax.specs.Syntax.{no_arguments, argument, Branches, without_operand}
 use Rattle.vortex_syntax.specs.Syntax.{of_operand, branch}
 use Rattle.vortex_expressions.specs.Literals as literal
@@ -686,6 +686,14 @@ module _ (scope : Fields) where
         applied_over f (reverse m.a) i
         (all_reversed m.a (more_over first (item_of scope a)
         (more_over (answers []) (item_of scope s) none_over (item_over s)) (item_over a) m.a
+        m.first)) m.second
+    item_over (placed p f a b) i e =
+        let first = with_item (answers []) (item_of scope a) in
+        let m =
+        then_is (with_item first (item_of scope b)) (λ is. applied_item f (reverse is)) i e in
+        applied_over f (reverse m.a) i
+        (all_reversed m.a (more_over first (item_of scope b)
+        (more_over (answers []) (item_of scope a) none_over (item_over a)) (item_over b) m.a
         m.first)) m.second
     item_over (parted_for p f s a w b) i e =
         let first = with_item (answers []) (item_of scope s) in

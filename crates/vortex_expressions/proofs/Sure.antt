@@ -188,6 +188,7 @@ module _ (columns : Names) (sure_columns : (w : List ℕ) → Sure IsItem (colum
   sure_literal (tree.extracted p g w a) f le = absurd (let k : ⊥ = omega (arith, le) in k)
   sure_literal (tree.parted p g s a) f le = absurd (let k : ⊥ = omega (arith, le) in k)
   sure_literal (tree.parted_for p g s a w b) f le = absurd (let k : ⊥ = omega (arith, le) in k)
+  sure_literal (tree.placed p g a b) f le = absurd (let k : ⊥ = omega (arith, le) in k)
 
   sure_typed : (w : List ℕ) (n : Bool) (i : Item) → IsLiteral i
       → Sure IsItem (calls.typed_item w n i)
@@ -719,6 +720,12 @@ module _ (columns : Names) (sure_columns : (w : List ℕ) → Sure IsItem (colum
         sure_then AllItems IsItem (with_item first (item_by columns a)) _
         (sure_more first (item_by columns a)
         (sure_more (answers []) (item_by columns s) tt (sure s f.1)) (sure a f.2))
+        (λ is h. sure_by columns.has_kinds g (reverse is) (all_reversed is h))
+    sure (tree.placed p g a b) f =
+        let first = with_item (answers []) (item_by columns a) in
+        sure_then AllItems IsItem (with_item first (item_by columns b)) _
+        (sure_more first (item_by columns b)
+        (sure_more (answers []) (item_by columns a) tt (sure a f.2)) (sure b f.3))
         (λ is h. sure_by columns.has_kinds g (reverse is) (all_reversed is h))
     sure (tree.parted_for p g s a w b) f =
         let first = with_item (answers []) (item_by columns s) in

@@ -34,6 +34,7 @@ use Rattle.vortex_expressions.specs.Writing.{matched_syntax, all_three, nth, shi
 use Rattle.vortex_expressions.specs.Writing.{syntax_of, syntaxes_of, all_present, named_syntax}
 use Rattle.vortex_expressions.specs.WritingSteps.{tree_level}
 use Rattle.vortex_expressions.proofs.Options.{some_is, both_is, three_is, mapped_is, where_is}
+use Rattle.vortex_expressions.proofs.FunctionNames.{placeless_name}
 use Rattle.vortex_expressions.proofs.NamedSyntax.{AllOf, level_named, fits_named}
 
 abbrev Trees : Type 0
@@ -276,7 +277,8 @@ mutual
   fits_of (call (custom f o) ts) a e = let m =
       mapped_is (named_syntax (name_of f)) (all_present (syntaxes_of ts)) a e in
       subst Fits m.made
-      (fits_named (name_of f) m.a (each_present Fits (syntaxes_of ts) m.a (all_fit ts) m.there))
+      (fits_named (name_of f) m.a (placeless_name f)
+      (each_present Fits (syntaxes_of ts) m.a (all_fit ts) m.there))
 
   all_fit : (ts : Trees) → AllSyntax Fits (syntaxes_of ts)
   all_fit no_trees = tt

@@ -15,7 +15,7 @@ use Rattle.vortex_syntax.specs.Syntax.{chosen, chosen_else, nullary, applied, Ar
 use Rattle.vortex_syntax.specs.Syntax.{no_arguments, argument, Branches, without_operand}
 use Rattle.vortex_syntax.specs.Syntax.{of_operand, branch, plus, bit_not, null_tested, converted, Tested}
 use Rattle.vortex_syntax.specs.Syntax.{titled, extracted, Null, True, False, Unknown}
-use Rattle.vortex_syntax.specs.Syntax.{parted, parted_for}
+use Rattle.vortex_syntax.specs.Syntax.{parted, parted_for, placed}
 use Rattle.vortex_syntax.specs.Levels.{is_operand, Fits, AllFit, BranchesFit}
 use Rattle.vortex_syntax.specs.Spelling.{spelling, all_spelled, branches_spelled, operator_sign}
 use Rattle.vortex_syntax.specs.Spelling.{type_token, in_tokens, null_test_sign}
@@ -223,6 +223,26 @@ limit_nests p f s a w b h k j = λ d us.
     ∙ sym (and_grouped first (second && third) (nests_from d us)))
     ∙ sym (and_grouped limit (first && (second && third)) (nests_from d us))
 
+place_grouped : (a b c d : List Token)
+    → (a ++ (b ++ (sign sign.In ∷ (c ++ (sign sign.Close ∷ []))))) ++ d
+    ≡ a ++ (b ++ (sign sign.In ∷ (c ++ (sign sign.Close ∷ d))))
+place_grouped a b c d = simp append_assoc
+
+place_nests : (p : Bool) (f : List ℕ) (a b : Syntax) → NestsAs a → NestsAs b
+    → NestsAs (placed p f a b)
+place_nests p f a b h k = λ d us.
+    let limit = nat_lt d nesting_limit in
+    let first = nests_behind (suc d) a in
+    let rest = nests_behind (suc d) b in
+    let close : List Token = sign sign.Close ∷ us in
+    let word : List Token = sign sign.In ∷ (spelling b ++ close) in
+    ap (nests_from d) (place_grouped (function_tokens p f) (spelling a) (spelling b) us)
+    ∙ function_nests p f d (spelling a ++ word)
+    ∙ ap (λ v. limit && v)
+    (h (suc d) word ∙ ap (λ v. first && v) (k (suc d) close)
+    ∙ sym (and_grouped first rest (nests_from d us)))
+    ∙ sym (and_grouped limit (first && rest) (nests_from d us))
+
 in_nests : (n : Bool) (d : ℕ) (us : List Token)
     → nests_from d (in_tokens n ++ us) ≡ (nat_lt d nesting_limit && nests_from (suc d) us)
 in_nests true d us = refl
@@ -412,6 +432,8 @@ mutual
   nests_spelled (extracted p g w a) f d us = extract_nests p g w a (nests_spelled a f.1) d us
   nests_spelled (parted p g s a) f d us =
       part_nests p g s a (nests_spelled s f.1) (nests_spelled a f.2) d us
+  nests_spelled (placed p g a b) f d us =
+      place_nests p g a b (nests_spelled a f.2) (nests_spelled b f.3) d us
   nests_spelled (parted_for p g s a w b) f d us =
       limit_nests p g s a w b (nests_spelled s f.2) (nests_spelled a f.3) (nests_spelled b f.4) d us
 

@@ -9,7 +9,7 @@ use Rattle.vortex_syntax.specs.Syntax.{minus, tested, distinct, between, matched
 use Rattle.vortex_syntax.specs.Syntax.{chosen, chosen_else, nullary, applied, Arguments}
 use Rattle.vortex_syntax.specs.Syntax.{no_arguments, argument, Branches, without_operand}
 use Rattle.vortex_syntax.specs.Syntax.{of_operand, branch, plus, bit_not, null_tested, converted}
-use Rattle.vortex_syntax.specs.Syntax.{titled, extracted, parted, parted_for}
+use Rattle.vortex_syntax.specs.Syntax.{titled, extracted, parted, parted_for, placed}
 use Rattle.vortex_syntax.specs.Tokens.{text}
 use Rattle.vortex_syntax.specs.declared.step.Test.TheVariants as test
 use Rattle.vortex_syntax.specs.Postfix as step
@@ -239,6 +239,18 @@ module _ (columns : Names) where
         (one_more [] (postfix s) (answers []) (item_by columns s) none_leave (leaves s)) (leaves a))
         (count_more first (item_by columns a) 1
         (count_more (answers []) (item_by columns s) 0 none_count))
+        (λ st. refl) ss st
+    leaves (placed p f a b) = λ ss st.
+        let last : Step = step.applied f 2 in
+        let first = with_item (answers []) (item_by columns a) in
+        ap (λ zs. run columns (zs ++ ss) st)
+        (sym (append_assoc (postfix a) (postfix b) (last ∷ [])))
+        ∙ call_leaves (postfix a ++ postfix b) (with_item first (item_by columns b)) last
+        (applied_by columns.has_kinds f) 2
+        (one_more (postfix a) (postfix b) first (item_by columns b)
+        (one_more [] (postfix a) (answers []) (item_by columns a) none_leave (leaves a)) (leaves b))
+        (count_more first (item_by columns b) 1
+        (count_more (answers []) (item_by columns a) 0 none_count))
         (λ st. refl) ss st
     leaves (parted_for p f s a w b) = λ ss st.
         let last : Step = step.applied f 3 in

@@ -6,7 +6,7 @@ use Rattle.vortex_syntax.specs.Syntax.{minus, tested, distinct, between, matched
 use Rattle.vortex_syntax.specs.Syntax.{chosen, chosen_else, nullary, applied, Arguments}
 use Rattle.vortex_syntax.specs.Syntax.{no_arguments, argument, Branches, without_operand}
 use Rattle.vortex_syntax.specs.Syntax.{of_operand, branch, plus, bit_not, null_tested, converted}
-use Rattle.vortex_syntax.specs.Syntax.{titled, extracted, parted, parted_for}
+use Rattle.vortex_syntax.specs.Syntax.{titled, extracted, parted, parted_for, placed}
 use Rattle.vortex_syntax.specs.Tokens.{text}
 use Rattle.vortex_syntax.specs.declared.step.Test.TheVariants as test
 use Rattle.vortex_syntax.specs.Grammar.{Reads}
@@ -82,6 +82,9 @@ module _ (columns : Names) where
     item_by (parted_for p f s a w b) =
         of_items (applied_by columns.has_kinds f)
         (with_item (with_item (with_item (answers []) (item_by s)) (item_by a)) (item_by b))
+    item_by (placed p f a b) =
+        of_items (applied_by columns.has_kinds f)
+        (with_item (with_item (answers []) (item_by a)) (item_by b))
 
     -- items after these; the last is first
     pub items_by : Outcome (List Item) → Arguments → Outcome (List Item)

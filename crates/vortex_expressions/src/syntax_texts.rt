@@ -44,6 +44,7 @@ fn is_operator(expected: Expected) -> bool {
             | Expected::OperatorOrComma
             | Expected::OperatorOrFrom
             | Expected::OperatorOrFor
+            | Expected::OperatorOrIn
             | Expected::OperatorOrAs
             | Expected::OperatorOrAnd
             | Expected::PredicateWord

@@ -297,6 +297,13 @@ mutual
       (both (suc d) (suc d) d (spelling s) (sign sign.From ∷ end) (tree_stays s f.1 (suc d))
       (first (suc d) d (sign sign.From) end refl
       (last (suc d) (suc d) (spelling a) (sign sign.Close) (tree_stays a f.2 (suc d)) refl)))
+  tree_stays (tree.placed p g s a) f d =
+      let end : List Token = spelling a ++ (sign sign.Close ∷ []) in
+      both d (suc d) d (function_tokens p g) (spelling s ++ (sign sign.In ∷ end))
+      (function_opens p g d)
+      (both (suc d) (suc d) d (spelling s) (sign sign.In ∷ end) (tree_stays s f.2 (suc d))
+      (first (suc d) d (sign sign.In) end refl
+      (last (suc d) (suc d) (spelling a) (sign sign.Close) (tree_stays a f.3 (suc d)) refl)))
   tree_stays (tree.parted_for p g s a w b) f d =
       let end : List Token = spelling b ++ (sign sign.Close ∷ []) in
       let limit : List Token = name w ∷ end in

@@ -13,7 +13,8 @@ use Rattle.vortex_syntax.specs.Frames as frame
 use Rattle.vortex_syntax.specs.Tokens.{Token, name, text, sign}
 use Rattle.vortex_syntax.specs.Syntax as tree
 use Rattle.vortex_syntax.specs.Syntax.{Syntax, Tested, Arguments, Branches}
-use Rattle.vortex_syntax.specs.Levels.{sign_level, level, takes_word, takes_from, is_for}
+use Rattle.vortex_syntax.specs.Levels.{sign_level, level, takes_word, takes_from, takes_in, is_for}
+use Rattle.vortex_syntax.specs.Levels.{first_level, first_of}
 use Rattle.vortex_syntax.specs.Levels.{predicate_level, concat_level}
 use Rattle.vortex_syntax.specs.Levels.{atom_level, literal_level}
 use Rattle.vortex_syntax.specs.Spelling.{spelling, all_spelled}
@@ -23,12 +24,13 @@ use Rattle.vortex_syntax.specs.Postfix.{Step, operand, applied, listed}
 use Rattle.vortex_syntax.specs.Postfix.{argument_count, postfix, all_postfix}
 use Rattle.vortex_syntax.proofs.Tables.{level_literal}
 use Rattle.vortex_syntax.proofs.Tables.{ceiling_below}
-use Rattle.vortex_syntax.proofs.Tables.{reach_at, unworded}
+use Rattle.vortex_syntax.proofs.Tables.{reach_at, unworded, taken_level, untaken_level}
 use Rattle.vortex_syntax.proofs.Closes.{want, have, IsRead}
 use Rattle.vortex_syntax.proofs.StepsRead.{step_function}
 use Rattle.vortex_syntax.proofs.StepsRead.{step_nullary, step_comma, step_applied, step_in}
 use Rattle.vortex_syntax.proofs.StepsRead.{step_item, step_listed, step_word, step_extracted}
 use Rattle.vortex_syntax.proofs.StepsRead.{step_from, step_for, step_parted, step_parted_for}
+use Rattle.vortex_syntax.proofs.StepsRead.{step_place, step_placed}
 
 pub regrouped_2 : (out a : List Step) (x : Step) → (out ++ a) ++ (x ∷ []) ≡ out ++ (a ++ (x ∷ []))
 regrouped_2 out a x = append_assoc out a (x ∷ [])
@@ -48,7 +50,7 @@ beneath a fs n h k = omega (arith, level_literal a, ceiling_below fs n h k)
 
 -- a frame for each number of arguments or items before the next
 pub record Separates (f : ℕ → Frame) : Type 0 where
-  pub any : (n : ℕ) → hole (f n) ≡ 0
+  pub more : (n : ℕ) → hole (f (suc n)) ≡ 0
   pub all : (n : ℕ) → literal_level ≤ ceiling (f n)
   pub comma : (n l : ℕ) (fs : List Frame) (out : List Step) (ts : List Token)
       → have l (f n ∷ fs) out (sign sign.Comma ∷ ts) ≡ want (f (suc n) ∷ fs) out ts
@@ -56,7 +58,7 @@ pub record Separates (f : ℕ → Frame) : Type 0 where
 arguments_separate : (w : List ℕ) → Separates (λ n. frame.Arguments w n)
 arguments_separate w =
     record {
-      any = λ n. refl;
+      more = λ n. refl;
       all = λ n. lit≤ tt;
       comma = λ n l fs out ts. step_comma w n l fs out ts;
     }
@@ -64,30 +66,46 @@ arguments_separate w =
 items_separate : (m : Bool) → Separates (λ n. frame.Items m n)
 items_separate m =
     record {
-      any = λ n. refl;
+      more = λ n. refl;
       all = λ n. lit≤ tt;
       comma = λ n l fs out ts. step_item m n l fs out ts;
     }
 
+-- the first of some arguments binds as tightly as a frame requires
+abbrev pub FirstWaits : Frame → Arguments → Type 0
+FirstWaits g tree.no_arguments = Unit {0}
+FirstWaits g (tree.argument args a) = hole g ≤ level (first_of args a)
+
+earlier : (g : Frame) (args : Arguments) (a : Syntax) → hole g ≤ level (first_of args a)
+    → FirstWaits g args
+earlier g tree.no_arguments a h = tt
+earlier g (tree.argument args b) a h = h
+
+next_waits : (f : ℕ → Frame) → Separates f → (args : Arguments) (a : Syntax)
+    → hole (f 0) ≤ level (first_of args a) → hole (f (argument_count args)) ≤ level a
+next_waits f s tree.no_arguments a h = h
+next_waits f s (tree.argument args b) a h = omega (arith, s.more (argument_count args))
+
 -- arguments and their commas
 abbrev pub AreRead : Arguments → Type 0
-AreRead args = (f : ℕ → Frame) → Separates f → (fs : List Frame) (out : List Step)
-    (rest : List Token)
+AreRead args = (f : ℕ → Frame) → Separates f → FirstWaits (f 0) args → (fs : List Frame)
+    (out : List Step) (rest : List Token)
     → want (f 0 ∷ fs) out (all_spelled args ++ rest)
     ≡ want (f (argument_count args) ∷ fs) (out ++ all_postfix args) rest
 
 pub read_no_arguments : AreRead tree.no_arguments
-read_no_arguments = λ f s fs out rest. ap (λ xs. want (f 0 ∷ fs) xs rest) (sym (append-nil out))
+read_no_arguments = λ f s waits fs out rest.
+    ap (λ xs. want (f 0 ∷ fs) xs rest) (sym (append-nil out))
 
 pub read_argument : (args : Arguments) (a : Syntax) → AreRead args → IsRead a
     → AreRead (tree.argument args a)
-read_argument args a ias ia = λ f s fs out rest.
+read_argument args a ias ia = λ f s waits fs out rest.
     let n = argument_count args in
     ap (want (f 0 ∷ fs) out)
     (append_assoc (all_spelled args) (spelling a ++ (sign sign.Comma ∷ [])) rest
     ∙ ap (λ ts. all_spelled args ++ ts) (append_assoc (spelling a) (sign sign.Comma ∷ []) rest))
-    ∙ ias f s fs out (spelling a ++ (sign sign.Comma ∷ rest))
-    ∙ ia (f n ∷ fs) (out ++ all_postfix args) (sign sign.Comma ∷ rest) (omega (arith, s.any n))
+    ∙ ias f s (earlier (f 0) args a waits) fs out (spelling a ++ (sign sign.Comma ∷ rest))
+    ∙ ia (f n ∷ fs) (out ++ all_postfix args) (sign sign.Comma ∷ rest) (next_waits f s args a waits)
     (omega (arith, level_literal a, s.all n)) (omega arith)
     ∙ s.comma n (level a) fs ((out ++ all_postfix args) ++ postfix a) rest
     ∙ ap (λ xs. want (f (suc n) ∷ fs) xs rest) (append_assoc out (all_postfix args) (postfix a))
@@ -98,9 +116,10 @@ read_nullary p w = λ fs out rest top under end.
     ∙ step_function p w fs out (sign sign.Close ∷ rest)
     ∙ step_nullary w fs out rest
 
-pub read_applied : (p : Bool) (w : List ℕ) (args : Arguments) (a : Syntax) → AreRead args → IsRead a
+pub read_applied : (p : Bool) (w : List ℕ) (args : Arguments) (a : Syntax)
+    → first_level w ≤ level (first_of args a) → AreRead args → IsRead a
     → IsRead (tree.applied p w args a)
-read_applied p w args a ias ia = λ fs out rest top under end.
+read_applied p w args a h ias ia = λ fs out rest top under end.
     let n = argument_count args in
     ap (want fs out)
     (append_assoc (function_tokens p w)
@@ -110,9 +129,11 @@ read_applied p w args a ias ia = λ fs out rest top under end.
     ∙ ap (want (frame.Arguments w 0 ∷ fs) out)
     (append_assoc (all_spelled args) (spelling a ++ (sign sign.Close ∷ [])) rest
     ∙ ap (λ ts. all_spelled args ++ ts) (append_assoc (spelling a) (sign sign.Close ∷ []) rest))
-    ∙ ias (λ m. frame.Arguments w m) (arguments_separate w) fs out
+    ∙ ias (λ m. frame.Arguments w m) (arguments_separate w) (earlier (frame.Arguments w 0) args a h)
+    fs out
     (spelling a ++ (sign sign.Close ∷ rest))
-    ∙ ia (frame.Arguments w n ∷ fs) (out ++ all_postfix args) (sign sign.Close ∷ rest) (omega arith)
+    ∙ ia (frame.Arguments w n ∷ fs) (out ++ all_postfix args) (sign sign.Close ∷ rest)
+    (next_waits (λ m. frame.Arguments w m) (arguments_separate w) args a h)
     (level_literal a) (omega arith)
     ∙ step_applied w n (level a) fs ((out ++ all_postfix args) ++ postfix a) rest
     ∙ ap (λ xs. have atom_level fs xs rest)
@@ -145,6 +166,18 @@ one_form f h = by (takes_word f) refl
         absurd (false≢true
         (sym (ap (λ v. bytes_eq v (codes "substring") || bytes_eq v (codes "substr")) is) ∙ h))
 
+-- no function takes both `in` and `from`
+one_word : (f : List ℕ) → takes_from f ≡ true → takes_in f ≡ false
+one_word f h = by (takes_in f) refl
+  where
+    by : (b : Bool) → takes_in f ≡ b → takes_in f ≡ false
+    by false e = e
+    by true e =
+        let w = map to_ascii_lowercase f in
+        let is : w ≡ codes "position" = grind (arith, e, bytes_eq-Decides w (codes "position")) in
+        absurd (false≢true
+        (sym (ap (λ v. bytes_eq v (codes "substring") || bytes_eq v (codes "substr")) is) ∙ h))
+
 word_reach : (f : List ℕ) → takes_from f ≡ true → (fs : List Frame) (ts : List Token)
     → reach_at (frame.Arguments f 0 ∷ fs) (sign sign.From ∷ ts) ≡ 0
 word_reach f h fs ts = unworded (frame.Arguments f 0 ∷ fs) (sign sign.From ∷ ts) (one_form f h)
@@ -156,7 +189,8 @@ from_read : (p : Bool) (f : List ℕ) (s : Syntax) → takes_from f ≡ true →
     ≡ want (frame.From f ∷ fs) (out ++ postfix s) end
 from_read p f s is ist fs out end =
     step_function p f fs out (spelling s ++ (sign sign.From ∷ end))
-    ∙ ist (frame.Arguments f 0 ∷ fs) out (sign sign.From ∷ end) (omega arith) (level_literal s)
+    ∙ ist (frame.Arguments f 0 ∷ fs) out (sign sign.From ∷ end)
+    (omega (arith, untaken_level f (one_word f is))) (level_literal s)
     (omega (arith, word_reach f is fs end))
     ∙ step_from f is (level s) fs (out ++ postfix s) end
 
@@ -199,6 +233,25 @@ read_parted_for p f s a w b is word ist ia ib = λ fs out rest top under end.
     ∙ ap (λ xs. have atom_level fs xs rest)
     (regrouped_4 out (postfix s) (postfix a) (postfix b) (applied f 3))
 
+placed_written : (a b c rest : List Token)
+    → (a ++ (b ++ (sign sign.In ∷ (c ++ (sign sign.Close ∷ []))))) ++ rest
+    ≡ a ++ (b ++ (sign sign.In ∷ (c ++ (sign sign.Close ∷ rest))))
+placed_written a b c rest = simp append_assoc
+
+pub read_placed : (p : Bool) (f : List ℕ) (a b : Syntax) → takes_in f ≡ true
+    → concat_level ≤ level a → IsRead a → IsRead b → IsRead (tree.placed p f a b)
+read_placed p f a b is h ia ib = λ fs out rest top under end.
+    let close : List Token = sign sign.Close ∷ rest in
+    let last : List Token = spelling b ++ close in
+    ap (want fs out) (placed_written (function_tokens p f) (spelling a) (spelling b) rest)
+    ∙ step_function p f fs out (spelling a ++ (sign sign.In ∷ last))
+    ∙ ia (frame.Arguments f 0 ∷ fs) out (sign sign.In ∷ last) (omega (arith, h, taken_level f is))
+    (level_literal a) (omega (arith, h))
+    ∙ step_place f is (level a) fs (out ++ postfix a) last
+    ∙ ib (frame.Place f ∷ fs) (out ++ postfix a) close (omega arith) (level_literal b) (omega arith)
+    ∙ step_placed f (level b) fs ((out ++ postfix a) ++ postfix b) rest
+    ∙ ap (λ xs. have atom_level fs xs rest) (regrouped_3 out (postfix a) (postfix b) (applied f 2))
+
 reach_in : (n : Bool) (fs : List Frame) (ts : List Token)
     → reach_at fs (in_tokens n ++ ts) ≡ predicate_level
 reach_in true fs ts = refl
@@ -222,7 +275,8 @@ read_listed n a args b h ia ias ib = λ fs out rest top under end.
     ∙ ia fs out (in_tokens n ++ items) (omega (arith, top, h))
     (beneath a fs predicate_level top (lit< tt)) (omega (arith, h, reach_in n fs items))
     ∙ step_in n (level a) fs first items h top
-    ∙ ias (λ m. frame.Items n m) (items_separate n) fs first last
+    ∙ ias (λ m. frame.Items n m) (items_separate n) (earlier (frame.Items n 0) args b (omega arith))
+    fs first last
     ∙ ib (frame.Items n k ∷ fs) (first ++ all_postfix args) close (omega arith) (level_literal b)
     (omega arith)
     ∙ step_listed n k (level b) fs ((first ++ all_postfix args) ++ postfix b) rest

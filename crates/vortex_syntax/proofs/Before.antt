@@ -19,7 +19,7 @@ use Rattle.vortex_syntax.specs.Spelling.{spelling, type_token, with_not, is_toke
 use Rattle.vortex_syntax.specs.Postfix.{Step, operand, cast, argument_count, postfix}
 use Rattle.vortex_syntax.specs.Reading.{State, Operand, settled}
 use Rattle.vortex_syntax.proofs.Held.{Held, opened, casting, lower, matching, calling, listing}
-use Rattle.vortex_syntax.proofs.Held.{extracting, parting, limiting}
+use Rattle.vortex_syntax.proofs.Held.{extracting, parting, limiting, placing}
 use Rattle.vortex_syntax.proofs.Held.{frame_of, written, held, IsSound, frames_of, all_written}
 use Rattle.vortex_syntax.proofs.Held.{all_held, Nested, Settles, settled_sound}
 
@@ -189,6 +189,14 @@ pub limit_is : (f : List ℕ) (h : Held) → frame.For f ≡ frame_of h
 limit_is f (limiting p g s a w) e =
     (p, s, a, w, ap (λ v. limiting p v s a w) (sym (for_name f g e)))
 limit_is f h e = absurd cc
+
+pub place_name : (f g : List ℕ) → frame.Place f ≡ frame.Place g → f ≡ g
+place_name f g e = cc
+
+pub place_is : (f : List ℕ) (h : Held) → frame.Place f ≡ frame_of h
+    → (p : Bool) × (a : Syntax) × (h ≡ placing p f a)
+place_is f (placing p g a) e = (p, a, ap (λ v. placing p v a) (sym (place_name f g e)))
+place_is f h e = absurd cc
 
 pub item_mark : (n m : Bool) (k i : ℕ) → frame.Items n k ≡ frame.Items m i → n ≡ m
 item_mark n m k i e = cc

@@ -20,7 +20,8 @@ use Rattle.vortex_syntax.specs.Postfix.{Step, postfix}
 use Rattle.vortex_syntax.specs.Refusals.{Begins}
 use Rattle.vortex_syntax.proofs.Tables.{top_atom, top_sign, own_right, whole_atom, atom_ceiling}
 use Rattle.vortex_syntax.proofs.Held.{Held, opened, casting, negating, minusing, joining}
-use Rattle.vortex_syntax.proofs.Held.{plusing, inverting, extracting, parting, limiting}
+use Rattle.vortex_syntax.proofs.Held.{plusing, inverting, extracting, parting, limiting, placing}
+use Rattle.vortex_syntax.proofs.Held.{first_fits}
 use Rattle.vortex_syntax.proofs.Held.{distinguishing, lower, upper, matching, calling, listing}
 use Rattle.vortex_syntax.proofs.Held.{frame_of, written, choosing, asking, answering, defaulting}
 use Rattle.vortex_syntax.proofs.Held.{IsSound, frames_of, all_written, Nested, Plugged, plugged}
@@ -80,6 +81,11 @@ limit_closed : (w : List ℕ) (a b c d : List Token)
     → ((a ++ (b ++ (sign sign.From ∷ (c ++ (name w ∷ []))))) ++ d) ++ (sign sign.Close ∷ [])
     ≡ a ++ (b ++ (sign sign.From ∷ (c ++ (name w ∷ (d ++ (sign sign.Close ∷ []))))))
 limit_closed w a b c d = simp append_assoc
+
+place_closed : (a b c : List Token)
+    → ((a ++ (b ++ (sign sign.In ∷ []))) ++ c) ++ (sign sign.Close ∷ [])
+    ≡ a ++ (b ++ (sign sign.In ∷ (c ++ (sign sign.Close ∷ []))))
+place_closed a b c = simp append_assoc
 
 filled : (h : Held) (e : Syntax) → IsSound h → Fits e → hole (frame_of h) ≤ level e
     → level e ≤ ceiling (frame_of h) → Filled h e
@@ -176,9 +182,16 @@ filled (limiting p g b a w) e s f le under = record {
   more = sign sign.Close ∷ [];
   tokens = limit_closed w (function_tokens p g) (spelling b) (spelling a) (spelling e);
 }
+filled (placing p g b) e s f le under = record {
+  tree = tree.placed p g b e;
+  fits = (s.0, s.1, s.2, f);
+  level = refl;
+  more = sign sign.Close ∷ [];
+  tokens = place_closed (function_tokens p g) (spelling b) (spelling e);
+}
 filled (calling p w args) e s f le under = record {
   tree = tree.applied p w args e;
-  fits = (s, f);
+  fits = (s.0, f, first_fits w args e s.1 le);
   level = refl;
   more = sign sign.Close ∷ [];
   tokens =

@@ -1,29 +1,30 @@
 -- What closing brackets and commas do to what was read.
 use Rattle.std.proofs.Common.{◌≡◌, ℕ, suc, Bool, List, [], ◌∷◌, ◌++◌, Some, ap, sym, subst, ◌∙◌}
-use Rattle.std.proofs.Common.{append_assoc, refl, lit≤}
+use Rattle.std.proofs.Common.{append_assoc, refl, lit≤, ◌≤◌}
 use Rattle.std.proofs.lemmas.List.{append-nil}
 use Rattle.vortex_syntax.specs.declared.token.Sign.{Sign}
 use Rattle.vortex_syntax.specs.declared.token.Sign.TheVariants as sign
-use Rattle.vortex_syntax.specs.Frames.{Frame}
+use Rattle.vortex_syntax.specs.Frames.{Frame, hole}
 use Rattle.vortex_syntax.specs.Frames as frame
 use Rattle.vortex_syntax.specs.declared.frame.Mode.TheVariants as mode
 use Rattle.vortex_syntax.specs.Tokens.{Token, name, sign}
 use Rattle.vortex_syntax.specs.Syntax as tree
 use Rattle.vortex_syntax.specs.Syntax.{Syntax, Arguments}
-use Rattle.vortex_syntax.specs.Levels.{Fits, AllFit, predicate_level, atom_level}
+use Rattle.vortex_syntax.specs.Levels.{Fits, predicate_level, atom_level, level, first_level}
+use Rattle.vortex_syntax.specs.Levels.{first_of}
 use Rattle.vortex_syntax.specs.Spelling.{spelling, all_spelled, function_tokens}
 use Rattle.vortex_syntax.specs.Postfix.{Step, applied, listed, argument_count, postfix, all_postfix}
 use Rattle.vortex_syntax.specs.Reading.{State, state, close_behind, comma_behind}
 use Rattle.vortex_syntax.proofs.Tables.{top_atom, atom_ceiling}
 use Rattle.vortex_syntax.proofs.Held.{Held, opened, calling, extracting, listing, written, held}
-use Rattle.vortex_syntax.proofs.Held.{parting, limiting}
+use Rattle.vortex_syntax.proofs.Held.{parting, limiting, placing, first_fits}
 use Rattle.vortex_syntax.proofs.Held.{IsSound}
 use Rattle.vortex_syntax.proofs.Before.{Behind, more, more_tokens, as_tokens, as_steps, pushed}
 use Rattle.vortex_syntax.proofs.Before.{popped, open_is, call_is, items_are, HasOperand, HoldsIn}
-use Rattle.vortex_syntax.proofs.Before.{along, operand_is, extract_is, part_is, limit_is}
+use Rattle.vortex_syntax.proofs.Before.{along, operand_is, extract_is, part_is, limit_is, place_is}
 use Rattle.vortex_syntax.proofs.Grown.{Holding, holding_as, sound_as, completed}
 use Rattle.vortex_syntax.proofs.ItemsSound.{item_is, listed_is}
-use Rattle.vortex_syntax.proofs.PartsSound.{parted_is, limited_is}
+use Rattle.vortex_syntax.proofs.PartsSound.{parted_is, limited_is, placed_is}
 
 pub grouped_is : (a : Syntax) (h : Held) (fs : List Frame) (out : List Step) (before : List Token)
     → Fits a → h ≡ opened
@@ -68,20 +69,25 @@ called_is p w args a h fs out before e r =
     subst (λ (v : Held). Behind fs out before (held v ++ postfix a)
     (written v ++ (spelling a ++ []))) e r
 
-pub all_fit_is : (p : Bool) (w : List ℕ) (args : Arguments) (h : Held) → h ≡ calling p w args
-    → IsSound h → AllFit args
-all_fit_is p w args h e s = subst (λ (v : Held). IsSound v) e s
+-- the first argument binds as tightly as required, where the last one does
+first_is : (p : Bool) (w : List ℕ) (n l : ℕ) (args : Arguments) (a : Syntax)
+    → n ≡ argument_count args → l ≡ level a → IsSound (calling p w args)
+    → hole (frame.Arguments w n) ≤ l → first_level w ≤ level (first_of args a)
+first_is p w n l args a e k s place =
+    first_fits w args a s.1
+    (subst (λ (m : ℕ). hole (frame.Arguments w m) ≤ level a) e
+    (subst (λ (m : ℕ). hole (frame.Arguments w n) ≤ m) k place))
 
 pub applied_is : (p : Bool) (w : List ℕ) (n : ℕ) (args : Arguments) (a : Syntax) (fs : List Frame)
-    (out : List Step) (before : List Token) → n ≡ argument_count args → AllFit args → Fits a
-    → Called p w args a fs out before
+    (out : List Step) (before : List Token) → n ≡ argument_count args
+    → Fits (tree.applied p w args a) → Called p w args a fs out before
     → HasOperand atom_level fs (out ++ (applied w (suc n) ∷ [])) (before ++
     (sign sign.Close ∷ [])) []
-applied_is p w n args a fs out before e s f b =
+applied_is p w n args a fs out before e f b =
     let last : List Step = applied w (suc n) ∷ [] in
     let close : List Token = sign sign.Close ∷ [] in
     let xs = (all_postfix args ++ postfix a) ++ last in
-    operand_is (tree.applied p w args a) fs (out ++ last) (before ++ close) (s, f) (top_atom fs)
+    operand_is (tree.applied p w args a) fs (out ++ last) (before ++ close) f (top_atom fs)
     (atom_ceiling fs)
     (as_steps fs (out ++ last) (before ++ close) xs (postfix (tree.applied p w args a))
     (spelling (tree.applied p w args a))
@@ -104,10 +110,10 @@ extracted_is p f w a fs out before fit b =
     fit (top_atom fs) (lit≤ tt) b
 
 pub argument_is : (p : Bool) (w : List ℕ) (n : ℕ) (args : Arguments) (a : Syntax) (fs : List Frame)
-    (out : List Step) (before : List Token) → n ≡ argument_count args → AllFit args → Fits a
-    → Called p w args a fs out before
+    (out : List Step) (before : List Token) → n ≡ argument_count args
+    → Fits (tree.applied p w args a) → Called p w args a fs out before
     → Behind (frame.Arguments w (suc n) ∷ fs) out (before ++ (sign sign.Comma ∷ [])) [] []
-argument_is p w n args a fs out before e s f b =
+argument_is p w n args a fs out before e f b =
     let comma : List Token = sign sign.Comma ∷ [] in
     subst (λ (m : ℕ). Behind (frame.Arguments w (suc m) ∷ fs) out (before ++ comma) [] []) (sym e)
     (pushed (calling p w (tree.argument args a)) fs out (before ++ comma)
@@ -115,7 +121,7 @@ argument_is p w n args a fs out before e s f b =
     ((written (calling p w args) ++ (spelling a ++ [])) ++ comma)
     (written (calling p w (tree.argument args a))) (in_call p w args a sign.Comma)
     (more_tokens fs out before (all_postfix args ++ postfix a)
-    (written (calling p w args) ++ (spelling a ++ [])) comma b)) (s, f) (top_atom fs))
+    (written (calling p w args) ++ (spelling a ++ [])) comma b)) ((f.0, f.1), f.2) (top_atom fs))
 
 pub comma_sound : (l : ℕ) (fs : List Frame) (out : List Step) (s : State) (before : List Token)
     → comma_behind fs out ≡ Some s → HasOperand l fs out before []
@@ -124,9 +130,11 @@ comma_sound l (frame.Arguments w n ∷ fs) out s before e a =
     let r = popped (frame.Arguments w n) fs out before (postfix a.tree) (spelling a.tree ++ [])
     a.behind in
     let i = call_is w n r.h r.is in
+    let sound = sound_as r.h (calling i.1 w i.0) i.2 r.sound in
     along (state mode.Want (frame.Arguments w (suc n) ∷ fs) out) s
     (before ++ (sign sign.Comma ∷ [])) e
-    (argument_is i.1 w n i.0 a.tree fs out before i.3 (all_fit_is i.1 w i.0 r.h i.2 r.sound) a.fits
+    (argument_is i.1 w n i.0 a.tree fs out before i.3
+    (sound.0, a.fits, first_is i.1 w n l i.0 a.tree i.3 a.level sound a.place)
     (called_is i.1 w i.0 a.tree r.h fs out before i.2 r.behind))
 comma_sound l (frame.Items n k ∷ fs) out s before e a =
     let r = popped (frame.Items n k) fs out before (postfix a.tree)
@@ -149,9 +157,11 @@ close_sound l (frame.Arguments w n ∷ fs) out s before e a =
     let r = popped (frame.Arguments w n) fs out before (postfix a.tree) (spelling a.tree ++ [])
     a.behind in
     let i = call_is w n r.h r.is in
+    let sound = sound_as r.h (calling i.1 w i.0) i.2 r.sound in
     along (state (mode.Have atom_level) fs (out ++ (applied w (suc n) ∷ []))) s
     (before ++ (sign sign.Close ∷ [])) e
-    (applied_is i.1 w n i.0 a.tree fs out before i.3 (all_fit_is i.1 w i.0 r.h i.2 r.sound) a.fits
+    (applied_is i.1 w n i.0 a.tree fs out before i.3
+    (sound.0, a.fits, first_is i.1 w n l i.0 a.tree i.3 a.level sound a.place)
     (called_is i.1 w i.0 a.tree r.h fs out before i.2 r.behind))
 close_sound l (frame.Extract f ∷ fs) out s before e a =
     let r = popped (frame.Extract f) fs out before (postfix a.tree) (spelling a.tree ++ [])
@@ -169,6 +179,14 @@ close_sound l (frame.From f ∷ fs) out s before e a =
     (before ++ (sign sign.Close ∷ [])) e
     (parted_is i.0 f i.1 a.tree fs out before (sound_as r.h (parting i.0 f i.1) i.2 r.sound) a.fits
     (holding_as r.h (parting i.0 f i.1) a.tree fs out before i.2 r.behind))
+close_sound l (frame.Place f ∷ fs) out s before e a =
+    let r = popped (frame.Place f) fs out before (postfix a.tree) (spelling a.tree ++ [])
+    a.behind in
+    let i = place_is f r.h r.is in
+    along (state (mode.Have atom_level) fs (out ++ (applied f 2 ∷ []))) s
+    (before ++ (sign sign.Close ∷ [])) e
+    (placed_is i.0 f i.1 a.tree fs out before (sound_as r.h (placing i.0 f i.1) i.2 r.sound) a.fits
+    (holding_as r.h (placing i.0 f i.1) a.tree fs out before i.2 r.behind))
 close_sound l (frame.For f ∷ fs) out s before e a =
     let r = popped (frame.For f) fs out before (postfix a.tree) (spelling a.tree ++ []) a.behind in
     let i = limit_is f r.h r.is in

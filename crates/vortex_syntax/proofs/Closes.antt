@@ -101,7 +101,7 @@ sign_closes l f fs out sign.Like ts h =
 sign_closes l f fs out sign.Ilike ts h =
     predicate_closes (frame.Like (specs.like_kind false true)) l f fs out ts h
 sign_closes l f fs out sign.In ts h =
-    ap (λ a. ran ts (specs.in_behind false a.level a.frames a.steps))
+    ap (λ a. ran ts (specs.place_behind a.level a.frames a.steps))
     (settled_one predicate_level l f fs out h)
 sign_closes l f fs out sign.Escape ts h =
     ap (λ a. ran ts (specs.escape_behind a.frames a.steps)) (settled_one concat_level l f fs out h)

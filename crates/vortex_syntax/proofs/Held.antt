@@ -16,7 +16,8 @@ use Rattle.vortex_syntax.specs.Tokens.{Token, name, text, sign}
 use Rattle.vortex_syntax.specs.Syntax as tree
 use Rattle.vortex_syntax.specs.Syntax.{Syntax, Arguments, Branches}
 use Rattle.vortex_syntax.specs.Levels.{left, level, Fits, AllFit, BranchesFit, is_level}
-use Rattle.vortex_syntax.specs.Levels.{concat_level, takes_word, takes_from, is_for}
+use Rattle.vortex_syntax.specs.Levels.{concat_level, takes_word, takes_from, takes_in, is_for}
+use Rattle.vortex_syntax.specs.Levels.{first_level, first_of}
 use Rattle.vortex_syntax.specs.Spelling.{spelling, all_spelled, operator_sign}
 use Rattle.vortex_syntax.specs.Spelling.{distinct_tokens, in_tokens, like_sign, branches_spelled}
 use Rattle.vortex_syntax.specs.Spelling.{function_tokens, between_tokens, cast_sign}
@@ -42,6 +43,7 @@ pub data Held : Type 0 where
   extracting : Bool → List ℕ → List ℕ → Held
   parting : Bool → List ℕ → Syntax → Held
   limiting : Bool → List ℕ → Syntax → Syntax → List ℕ → Held
+  placing : Bool → List ℕ → Syntax → Held
   listing : Bool → Syntax → Arguments → Held
   choosing : Held
   asking : Branches → Held
@@ -64,6 +66,7 @@ frame_of (calling p w args) = frame.Arguments w (argument_count args)
 frame_of (extracting p f w) = frame.Extract f
 frame_of (parting p f s) = frame.From f
 frame_of (limiting p f s a w) = frame.For f
+frame_of (placing p f a) = frame.Place f
 frame_of (listing n a args) = frame.Items n (argument_count args)
 frame_of choosing = frame.Case part.Operand false 0
 frame_of (asking bs) = frame.Case part.When (has_operand bs) (branch_count bs)
@@ -88,6 +91,7 @@ written (extracting p f w) = function_tokens p f ++ (name w ∷ sign sign.From �
 written (parting p f s) = function_tokens p f ++ (spelling s ++ (sign sign.From ∷ []))
 written (limiting p f s a w) =
     function_tokens p f ++ (spelling s ++ (sign sign.From ∷ (spelling a ++ (name w ∷ []))))
+written (placing p f a) = function_tokens p f ++ (spelling a ++ (sign sign.In ∷ []))
 written (listing n a args) = spelling a ++ (in_tokens n ++ all_spelled args)
 written choosing = sign sign.Case ∷ []
 written (asking bs) = branches_spelled bs ++ (sign sign.When ∷ [])
@@ -113,11 +117,23 @@ held (calling p w args) = all_postfix args
 held (extracting p f w) = operand (text w) ∷ []
 held (parting p f s) = postfix s
 held (limiting p f s a w) = postfix s ++ postfix a
+held (placing p f a) = postfix a
 held (listing n a args) = postfix a ++ all_postfix args
 held choosing = []
 held (asking bs) = branches_postfix bs
 held (answering bs c) = branches_postfix bs ++ postfix c
 held (defaulting bs c v) = (branches_postfix bs ++ postfix c) ++ postfix v
+
+-- the first of some arguments of a call binds as tightly as required there
+abbrev pub FirstFits : List ℕ → Arguments → Type 0
+FirstFits w tree.no_arguments = Unit {0}
+FirstFits w (tree.argument args a) = first_level w ≤ level (first_of args a)
+
+pub first_fits : (w : List ℕ) (args : Arguments) (a : Syntax) → FirstFits w args
+    → hole (frame.Arguments w (argument_count args)) ≤ level a
+    → first_level w ≤ level (first_of args a)
+first_fits w tree.no_arguments a s h = h
+first_fits w (tree.argument args b) a s h = s
 
 abbrev pub IsSound : Held → Type 0
 IsSound opened = Unit {0}
@@ -131,10 +147,11 @@ IsSound (distinguishing n a) = (is_level ≤ level a) × Fits a
 IsSound (lower n a) = (concat_level ≤ level a) × Fits a
 IsSound (upper n a b) = (concat_level ≤ level a) × (concat_level ≤ level b) × Fits a × Fits b
 IsSound (matching k a) = (concat_level ≤ level a) × Fits a
-IsSound (calling p w args) = AllFit args
+IsSound (calling p w args) = AllFit args × FirstFits w args
 IsSound (extracting p f w) = takes_word f ≡ true
 IsSound (parting p f s) = (takes_from f ≡ true) × Fits s
 IsSound (limiting p f s a w) = (takes_from f ≡ true) × (is_for w ≡ true) × Fits s × Fits a
+IsSound (placing p f a) = (takes_in f ≡ true) × (concat_level ≤ level a) × Fits a
 IsSound (listing n a args) = (concat_level ≤ level a) × Fits a × AllFit args
 IsSound choosing = Unit {0}
 IsSound (asking bs) = BranchesFit bs
@@ -217,6 +234,7 @@ plugged (calling p w args) e g s f le under = absurd (let k : ⊥ = omega (arith
 plugged (extracting p v w) e g s f le under = absurd (let k : ⊥ = omega (arith, g) in k)
 plugged (parting p v b) e g s f le under = absurd (let k : ⊥ = omega (arith, g) in k)
 plugged (limiting p v b a w) e g s f le under = absurd (let k : ⊥ = omega (arith, g) in k)
+plugged (placing p v b) e g s f le under = absurd (let k : ⊥ = omega (arith, g) in k)
 plugged (listing n a args) e g s f le under = absurd (let k : ⊥ = omega (arith, g) in k)
 plugged choosing e g s f le under = absurd (let k : ⊥ = omega (arith, g) in k)
 plugged (asking bs) e g s f le under = absurd (let k : ⊥ = omega (arith, g) in k)

@@ -71,6 +71,8 @@ signed_read (tree.parted true f s a) h k fs out ts = refl
 signed_read (tree.parted false f s a) h k fs out ts = refl
 signed_read (tree.parted_for true f s a w b) h k fs out ts = refl
 signed_read (tree.parted_for false f s a w b) h k fs out ts = refl
+signed_read (tree.placed true f a b) h k fs out ts = refl
+signed_read (tree.placed false f a b) h k fs out ts = refl
 signed_read (tree.chosen bs c v) h k fs out ts =
     case_signed bs
     (sign sign.When ∷ (spelling c ++ (sign sign.Then ∷ (spelling v ++ (sign sign.End ∷ [])))))

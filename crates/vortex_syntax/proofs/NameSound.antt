@@ -49,7 +49,7 @@ call_begun w fs out before b =
           ap (λ ts. ts ++ (sign sign.Open ∷ [])) b.tokens
           ∙ append_assoc (all_written b.hs) (name w ∷ []) (sign sign.Open ∷ []);
       nested = b.nested;
-    }) tt (top_atom fs)
+    }) (tt, tt) (top_atom fs)
 
 open_sound : (fs : List Frame) (out : List Step) (s : State) (before : List Token)
     → open_call fs out ≡ Some s → Holds mode.Named fs out before

@@ -131,7 +131,7 @@ other_wanted_sound fs out (sign u) s before e b = sign_wanted_sound fs out u s b
 other_wanted_sound fs out (function w) s before e b =
     along (state mode.Want (frame.Arguments w 0 ∷ fs) out) s (before ++ (function w ∷ [])) e
     (pushed (calling false w tree.no_arguments) fs out (before ++ (function w ∷ []))
-    (more_tokens fs out before [] [] (function w ∷ []) b) tt (top_atom fs))
+    (more_tokens fs out before [] [] (function w ∷ []) b) (tt, tt) (top_atom fs))
 other_wanted_sound fs out t s before e b = absurd cc
 
 name_sound : (fs : List Frame) (out : List Step) (w : List ℕ) (s : State)

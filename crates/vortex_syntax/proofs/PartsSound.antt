@@ -1,6 +1,6 @@
--- What `from` and `for` in a call do to what was read.
+-- What `from`, `for` and `in` in a call do to what was read.
 use Rattle.std.proofs.Common.{◌≡◌, ℕ, zero, Bool, List, [], ◌∷◌, ◌++◌, Some, refl, ap, ◌∙◌}
-use Rattle.std.proofs.Common.{append_assoc, lit≤}
+use Rattle.std.proofs.Common.{append_assoc, lit≤, true, ◌≤◌, subst, arith}
 use Rattle.std.proofs.lemmas.List.{append-nil}
 use Rattle.vortex_syntax.specs.declared.token.Sign.TheVariants as sign
 use Rattle.vortex_syntax.specs.Frames.{Frame}
@@ -9,12 +9,12 @@ use Rattle.vortex_syntax.specs.declared.frame.Mode.TheVariants as mode
 use Rattle.vortex_syntax.specs.Tokens.{Token, name, sign}
 use Rattle.vortex_syntax.specs.Syntax as tree
 use Rattle.vortex_syntax.specs.Syntax.{Syntax}
-use Rattle.vortex_syntax.specs.Levels.{Fits, atom_level, takes_from, is_for}
+use Rattle.vortex_syntax.specs.Levels.{Fits, atom_level, takes_from, is_for, concat_level}
 use Rattle.vortex_syntax.specs.Spelling.{spelling, function_tokens}
 use Rattle.vortex_syntax.specs.Postfix.{Step, applied, postfix}
-use Rattle.vortex_syntax.specs.Reading.{State, state, from_behind, for_behind}
-use Rattle.vortex_syntax.proofs.Tables.{top_atom}
-use Rattle.vortex_syntax.proofs.Held.{Held, calling, parting, limiting, IsSound}
+use Rattle.vortex_syntax.specs.Reading.{State, state, from_behind, for_behind, waits_in, place_of}
+use Rattle.vortex_syntax.proofs.Tables.{top_atom, taken_level}
+use Rattle.vortex_syntax.proofs.Held.{Held, calling, parting, limiting, placing, IsSound}
 use Rattle.vortex_syntax.proofs.Before.{popped, call_is, part_is, HasOperand, HoldsIn, along, chosen}
 use Rattle.vortex_syntax.proofs.Grown.{Holding, holding_as, sound_as, grown, completed}
 use Rattle.vortex_syntax.proofs.OperandsSound.{none_are}
@@ -27,6 +27,10 @@ in_limits : (w : List ℕ) (a b c d : List Token)
     → (a ++ (b ++ (sign sign.From ∷ (c ++ (name w ∷ []))))) ++ d
     ≡ a ++ (b ++ (sign sign.From ∷ (c ++ (name w ∷ d))))
 in_limits w a b c d = simp append_assoc
+
+in_places : (a b c d : List Token) → (a ++ (b ++ (sign sign.In ∷ c))) ++ d
+    ≡ a ++ (b ++ (sign sign.In ∷ (c ++ d)))
+in_places a b c d = simp append_assoc
 
 part_steps : (a b c : List Step) → (a ++ b) ++ c ≡ a ++ (b ++ c)
 part_steps a b c = append_assoc a b c
@@ -68,6 +72,34 @@ for_sound w l (frame.From f ∷ fs) out s before e a =
     (t.0, c.0, t.1, a.fits) (top_atom fs)
     (holding_as r.h first a.tree fs out before i.2 r.behind))
 for_sound w l fs out s before e a = absurd cc
+
+pub place_sound : (l : ℕ) (fs : List Frame) (out : List Step) (s : State) (before : List Token)
+    → waits_in fs ≡ true → place_of fs out ≡ Some s → HasOperand l fs out before []
+    → HoldsIn s (before ++ (sign sign.In ∷ []))
+place_sound l (frame.Arguments f zero ∷ fs) out s before is e a =
+    let r = popped (frame.Arguments f 0) fs out before (postfix a.tree) (spelling a.tree ++ [])
+    a.behind in
+    let i = call_is f 0 r.h r.is in
+    let first : Held = calling i.1 f tree.no_arguments in
+    let same : r.h ≡ first = i.2 ∙ ap (calling i.1 f) (none_are i.0 i.3) in
+    let tight : concat_level ≤ l = omega (arith, a.place, taken_level f is) in
+    let word : List Token = sign sign.In ∷ [] in
+    along (state mode.Want (frame.Place f ∷ fs) out) s (before ++ word) e
+    (grown first (placing i.1 f a.tree) a.tree (sign sign.In) fs out before refl
+    (ap (λ ts. ts ++ (spelling a.tree ++ word)) (append-nil (function_tokens i.1 f)))
+    (is, subst (λ (m : ℕ). concat_level ≤ m) a.level tight, a.fits) (top_atom fs)
+    (holding_as r.h first a.tree fs out before same r.behind))
+place_sound l fs out s before is e a = absurd cc
+
+pub placed_is : (p : Bool) (f : List ℕ) (s a : Syntax) (fs : List Frame) (out : List Step)
+    (before : List Token) → IsSound (placing p f s) → Fits a
+    → Holding (placing p f s) a fs out before
+    → HasOperand atom_level fs (out ++ (applied f 2 ∷ [])) (before ++ (sign sign.Close ∷ [])) []
+placed_is p f s a fs out before t fit b =
+    completed (placing p f s) a (tree.placed p f s a) (applied f 2) sign.Close fs out before
+    (part_steps (postfix s) (postfix a) (applied f 2 ∷ []))
+    (in_places (function_tokens p f) (spelling s) [] (spelling a ++ (sign sign.Close ∷ [])))
+    (t.0, t.1, t.2, fit) (top_atom fs) (lit≤ tt) b
 
 pub parted_is : (p : Bool) (f : List ℕ) (s a : Syntax) (fs : List Frame) (out : List Step)
     (before : List Token) → IsSound (parting p f s) → Fits a → Holding (parting p f s) a fs out before

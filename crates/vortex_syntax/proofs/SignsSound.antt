@@ -35,7 +35,7 @@ use Rattle.vortex_syntax.proofs.Before.{more, operand_more, operand_is}
 use Rattle.vortex_syntax.proofs.Tables.{atom_ceiling}
 use Rattle.vortex_syntax.proofs.CaseSound.{case_word_sound}
 use Rattle.vortex_syntax.proofs.BracketsSound.{comma_sound, close_sound}
-use Rattle.vortex_syntax.proofs.PartsSound.{from_sound, for_sound}
+use Rattle.vortex_syntax.proofs.PartsSound.{from_sound, for_sound, place_sound}
 use Rattle.vortex_syntax.proofs.BetweenSound.{waits, predicates, not_before, not_joined}
 use Rattle.vortex_syntax.proofs.BetweenSound.{between_sound, and_bound}
 
@@ -89,6 +89,13 @@ in_sound n l fs out s before e a =
       fits_below concat_level l t.0,
       fits_below (top_hole fs) predicate_level t.1,
     )
+
+place_if : (b : Bool) (l : ℕ) (fs : List Frame) (out : List Step) (s : State)
+    (before : List Token) → specs.waits_in fs ≡ b
+    → cond b (specs.place_of fs out) (specs.in_behind false l fs out) ≡ Some s
+    → HasOperand l fs out before [] → HoldsIn s (before ++ (sign sign.In ∷ []))
+place_if true l fs out s before is e a = place_sound l fs out s before is e a
+place_if false l fs out s before is e a = in_sound false l fs out s before e a
 
 pub predicate_sound : (n : Bool) (l : ℕ) (fs : List Frame) (out : List Step) (u : Sign) (s : State)
     (before : List Token) → predicate n l fs out u ≡ Some s
@@ -291,7 +298,7 @@ behind_sign l fs out sign.Like s before e a =
 behind_sign l fs out sign.Ilike s before e a =
     like_sound false true sign.Ilike l fs out s before refl e a
 behind_sign l fs out sign.In s before e a = let b = settled predicate_level l fs out in
-    in_sound false b.level b.frames b.steps s before e
+    place_if (specs.waits_in b.frames) b.level b.frames b.steps s before refl e
     (settled_operand predicate_level l fs out before [] a)
 behind_sign l fs out sign.When s before e a = let b = settled or_level l fs out in
     case_word_sound sign.When b.level b.frames b.steps s before e

@@ -15,7 +15,8 @@ use Rattle.vortex_syntax.specs.Tokens.{Token, name, function, number, text, sign
 use Rattle.vortex_syntax.specs.Syntax as tree
 use Rattle.vortex_syntax.specs.Syntax.{Tested}
 use Rattle.vortex_syntax.specs.Levels.{typed_level, own, left, is_operand, operand_level, and_level}
-use Rattle.vortex_syntax.specs.Levels.{bit_not_level, IsTested, takes_word, takes_from, is_for}
+use Rattle.vortex_syntax.specs.Levels.{bit_not_level, IsTested, takes_word, takes_from, takes_in}
+use Rattle.vortex_syntax.specs.Levels.{is_for}
 use Rattle.vortex_syntax.specs.Levels.{not_level, distinct_level, is_level, predicate_level}
 use Rattle.vortex_syntax.specs.Levels.{concat_level, atom_level, literal_level}
 use Rattle.vortex_syntax.specs.Spelling.{operator_sign, type_token, with_not, is_tokens, test_token}
@@ -29,7 +30,7 @@ use Rattle.std.proofs.Common.{cond}
 use Rattle.vortex_syntax.specs.Reading.{between_kind}
 use Rattle.vortex_syntax.specs.Reading.{word_after, next, finish, run, call_of, literal_of}
 use Rattle.vortex_syntax.specs.Reading.{mode_behind, word_of}
-use Rattle.vortex_syntax.proofs.Tables.{reach_at, at_most, over, atom_ceiling, no_word}
+use Rattle.vortex_syntax.proofs.Tables.{reach_at, at_most, over, atom_ceiling, no_word, not_placing}
 use Rattle.vortex_syntax.proofs.LastName.{name_last}
 use Rattle.vortex_syntax.proofs.Closes.{settled_none, shifts, ran, want, have}
 
@@ -48,10 +49,12 @@ and_joins l (frame.Join o ∷ fs) out h k =
 and_joins l (frame.Distinct n ∷ fs) out h k = absurd (let j : ⊥ = omega (arith, k) in j)
 and_joins l (frame.Bounded n ∷ fs) out h k = absurd (let j : ⊥ = omega (arith, k) in j)
 and_joins l (frame.Like n ∷ fs) out h k = absurd (let j : ⊥ = omega (arith, k) in j)
-and_joins l (frame.Arguments w n ∷ fs) out h k = rw (at_most and_level l h) refl
+and_joins l (frame.Arguments w n ∷ fs) out h k =
+    rw (at_most and_level l h, at_most (hole (frame.Arguments w n)) and_level k) refl
 and_joins l (frame.Extract w ∷ fs) out h k = rw (at_most and_level l h) refl
 and_joins l (frame.From w ∷ fs) out h k = rw (at_most and_level l h) refl
 and_joins l (frame.For w ∷ fs) out h k = rw (at_most and_level l h) refl
+and_joins l (frame.Place w ∷ fs) out h k = rw (at_most and_level l h) refl
 and_joins l (frame.Items m n ∷ fs) out h k = rw (at_most and_level l h) refl
 and_joins l (frame.Case p m n ∷ fs) out h k = rw (at_most and_level l h) refl
 
@@ -138,8 +141,10 @@ step_in true l fs out ts h k =
     ∙ rw (at_most concat_level l h, at_most (top_hole fs) predicate_level k) refl
 step_in false l fs out ts h k =
     let last : List Token = sign sign.Open ∷ ts in
-    ap (λ a. ran last (specs.in_behind false a.level a.frames a.steps))
+    ap (λ a. ran last (specs.place_behind a.level a.frames a.steps))
     (settled_none predicate_level l fs out k)
+    ∙ ap (λ b. ran last (cond b (specs.place_of fs out) (specs.in_behind false l fs out)))
+    (not_placing fs k)
     ∙ rw (at_most concat_level l h, at_most (top_hole fs) predicate_level k) refl
 
 pub step_bound : (k : BetweenKind) (l : ℕ) (fs : List Frame) (out : List Step) (ts : List Token)
@@ -413,6 +418,21 @@ pub step_parted_for : (f : List ℕ) (l : ℕ) (fs : List Frame) (out : List Ste
     ≡ have atom_level fs (out ++ (applied f 3 ∷ [])) ts
 unfolding run next word_after settled
 step_parted_for f l fs out ts = refl
+
+pub step_place : (f : List ℕ) → takes_in f ≡ true → (l : ℕ) (fs : List Frame) (out : List Step)
+    (ts : List Token)
+    → have l (frame.Arguments f 0 ∷ fs) out (sign sign.In ∷ ts)
+    ≡ want (frame.Place f ∷ fs) out ts
+unfolding run next word_after settled
+step_place f is l fs out ts =
+    let gs : List Frame = frame.Arguments f 0 ∷ fs in
+    ap (λ b. ran ts (cond b (specs.place_of gs out) (specs.in_behind false l gs out))) is
+
+pub step_placed : (f : List ℕ) (l : ℕ) (fs : List Frame) (out : List Step) (ts : List Token)
+    → have l (frame.Place f ∷ fs) out (sign sign.Close ∷ ts)
+    ≡ have atom_level fs (out ++ (applied f 2 ∷ [])) ts
+unfolding run next word_after settled
+step_placed f l fs out ts = refl
 
 pub step_item : (n : Bool) (k l : ℕ) (fs : List Frame) (out : List Step) (ts : List Token)
     → have l (frame.Items n k ∷ fs) out (sign sign.Comma ∷ ts)

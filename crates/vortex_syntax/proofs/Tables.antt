@@ -1,5 +1,6 @@
 -- How the tables of levels are related.
-use Rattle.std.proofs.Common.{◌≡◌, ◌≢◌, ℕ, ◌<◌, ◌≤◌, Bool, true, false, cond, nat_lt, nat_le, List, []}
+use Rattle.std.proofs.Common.{◌≡◌, ◌≢◌, ℕ, zero, ◌<◌, ◌≤◌, Bool, true, false, cond, nat_lt, nat_le}
+use Rattle.std.proofs.Common.{List, []}
 use Rattle.std.proofs.Common.{◌∷◌, refl, ap, arith, lit<, lit≤}
 use Rattle.std.proofs.lemmas.Bool.Decides.{nat_tests}
 use Rattle.vortex_syntax.specs.declared.step.WrittenOperator.{WrittenOperator}
@@ -11,11 +12,12 @@ use Rattle.vortex_syntax.specs.Frames as frame
 use Rattle.vortex_syntax.specs.Tokens.{Token, name, text, sign}
 use Rattle.vortex_syntax.specs.Syntax as tree
 use Rattle.vortex_syntax.specs.Syntax.{Syntax}
-use Rattle.vortex_syntax.specs.Reading.{waits_word}
+use Rattle.vortex_syntax.specs.Reading.{waits_word, waits_in}
 use Rattle.vortex_syntax.specs.Levels.{level, operand_level, sign_level, typed_level, own, left}
 use Rattle.vortex_syntax.specs.Levels.{right, or_level, and_level, not_level, is_level}
 use Rattle.vortex_syntax.specs.Levels.{comparison_level, predicate_level, concat_level, sum_level}
 use Rattle.vortex_syntax.specs.Levels.{bit_not_level, product_level, atom_level, literal_level}
+use Rattle.vortex_syntax.specs.Levels.{takes_in, first_level}
 
 pub own_left : (o : WrittenOperator) → own o ≤ left o
 own_left operator.Or = lit≤ tt
@@ -59,15 +61,21 @@ guard_hole (frame.Distinct m) = lit≤ tt
 guard_hole (frame.Between m) = lit≤ tt
 guard_hole (frame.Bounded m) = lit≤ tt
 guard_hole (frame.Like k) = lit≤ tt
-guard_hole (frame.Arguments w n) = lit≤ tt
+guard_hole (frame.Arguments w n) = omega arith
 guard_hole (frame.Extract w) = lit≤ tt
 guard_hole (frame.From w) = lit≤ tt
 guard_hole (frame.For w) = lit≤ tt
+guard_hole (frame.Place w) = lit≤ tt
 guard_hole (frame.Items m n) = lit≤ tt
 guard_hole (frame.Case p m n) = lit≤ tt
 
+first_sign : (b : Bool) → cond b concat_level or_level ≤ sign_level
+first_sign true = lit≤ tt
+first_sign false = lit≤ tt
+
 pub hole_sign : (f : Frame) → hole f ≤ sign_level
 hole_sign (frame.Join o) = right_sign o
+hole_sign (frame.Arguments w zero) = first_sign (takes_in w)
 hole_sign f = lit≤ tt
 
 pub top_sign : (fs : List Frame) → top_hole fs ≤ sign_level
@@ -182,6 +190,23 @@ is_unworded false h = refl
 
 pub no_word : (fs : List Frame) → cond (waits_word fs) 15 0 ≤ atom_level → waits_word fs ≡ false
 no_word fs h = is_unworded (waits_word fs) h
+
+-- the level of what `in` follows, in a call of a function that takes it
+pub taken_level : (f : List ℕ) → takes_in f ≡ true → first_level f ≡ concat_level
+taken_level f h = ap (λ b. cond b concat_level or_level) h
+
+pub untaken_level : (f : List ℕ) → takes_in f ≡ false → first_level f ≡ or_level
+untaken_level f h = ap (λ b. cond b concat_level or_level) h
+
+is_untaken : (b : Bool) → cond b concat_level or_level ≤ predicate_level → b ≡ false
+is_untaken true h = absurd (let k : ⊥ = omega (arith, h) in k)
+is_untaken false h = refl
+
+-- where IN may come, no `in` ends an argument
+pub not_placing : (fs : List Frame) → top_hole fs ≤ predicate_level → waits_in fs ≡ false
+not_placing [] h = refl
+not_placing (frame.Arguments f zero ∷ fs) h = is_untaken (takes_in f) h
+not_placing (f ∷ fs) h = refl
 
 sign_not_eleven : (s : Sign) → reach_of s ≢ sign_level
 sign_not_eleven sign.And h = absurd (let k : ⊥ = omega (arith, h) in k)

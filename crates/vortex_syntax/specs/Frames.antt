@@ -1,5 +1,5 @@
 -- Frames that wait for an operand while a text is read.
-use Rattle.std.specs.Prelude.{ℕ, List, [], ◌∷◌, Bool}
+use Rattle.std.specs.Prelude.{ℕ, zero, suc, List, [], ◌∷◌, Bool}
 use Rattle.vortex_syntax.specs.declared.step.WrittenOperator.{WrittenOperator}
 use Rattle.vortex_syntax.specs.declared.step.BetweenKind.{BetweenKind}
 use Rattle.vortex_syntax.specs.declared.step.LikeKind.{LikeKind}
@@ -9,14 +9,14 @@ use Rattle.vortex_syntax.specs.declared.frame.Frame.TheVariants as variant
 use Rattle.vortex_syntax.specs.declared.step.Call.TheVariants as call
 use Rattle.vortex_syntax.specs.Levels.{own, right, not_level, distinct_level, comparison_level}
 use Rattle.vortex_syntax.specs.Levels.{predicate_level, concat_level, sign_level, atom_level}
-use Rattle.vortex_syntax.specs.Levels.{bit_not_level, literal_level}
+use Rattle.vortex_syntax.specs.Levels.{bit_not_level, literal_level, first_level}
 use Rattle.vortex_syntax.specs.Postfix.{Step, called}
 
 -- Cast is by `try_cast` if the flag is true; Between is before its `and`, Bounded after it; Arguments
 -- is a call of that name, after as many arguments; Extract is one after a word and `from`; From is
--- one after an argument and `from`, For after one more and `for`; Items are those of IN, after as
--- many; Case is before that part of a CASE, which has an operand if the flag is true, after as many
--- values
+-- one after an argument and `from`, For after one more and `for`; Place is one after an argument
+-- and `in`; Items are those of IN, after as many; Case is before that part of a CASE, which has an
+-- operand if the flag is true, after as many values
 pub data Frame : Type 0 where
   Open : Frame
   Cast : Bool → Frame
@@ -33,6 +33,7 @@ pub data Frame : Type 0 where
   Extract : List ℕ → Frame
   From : List ℕ → Frame
   For : List ℕ → Frame
+  Place : List ℕ → Frame
   Items : Bool → ℕ → Frame
   Case : CasePart → Bool → ℕ → Frame
 
@@ -52,6 +53,7 @@ frame_in (variant.Arguments w n) = Arguments w.now n
 frame_in (variant.Extract w) = Extract w.now
 frame_in (variant.From w) = From w.now
 frame_in (variant.For w) = For w.now
+frame_in (variant.Place w) = Place w.now
 frame_in (variant.Items n k) = Items n k
 frame_in (variant.Case p n k) = Case p n k
 
@@ -68,10 +70,12 @@ hole (Distinct n) = comparison_level
 hole (Between k) = concat_level
 hole (Bounded k) = concat_level
 hole (Like k) = concat_level
-hole (Arguments w n) = 0
+hole (Arguments w zero) = first_level w
+hole (Arguments w (suc n)) = 0
 hole (Extract w) = 0
 hole (From w) = 0
 hole (For w) = 0
+hole (Place w) = 0
 hole (Items n k) = 0
 hole (Case p n k) = 0
 
@@ -106,6 +110,7 @@ guard (Arguments w n) = 0
 guard (Extract w) = 0
 guard (From w) = 0
 guard (For w) = 0
+guard (Place w) = 0
 guard (Items n k) = 0
 guard (Case p n k) = 0
 
@@ -126,6 +131,7 @@ whole (Arguments w n) = atom_level
 whole (Extract w) = atom_level
 whole (From w) = atom_level
 whole (For w) = atom_level
+whole (Place w) = atom_level
 whole (Items n k) = predicate_level
 whole (Case p n k) = atom_level
 
@@ -145,5 +151,6 @@ closing (Arguments w n) = called call.Not
 closing (Extract w) = called call.Not
 closing (From w) = called call.Not
 closing (For w) = called call.Not
+closing (Place w) = called call.Not
 closing (Items n k) = called call.Not
 closing (Case p n k) = called call.Not

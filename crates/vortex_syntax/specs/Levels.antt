@@ -1,5 +1,5 @@
 -- The precedence levels of SQL, as in PostgreSQL: what binds tighter has a higher level.
-use Rattle.std.specs.Prelude.{◌≡◌, ℕ, ◌≤◌, Bool, true, false, ◌||◌, List, codes}
+use Rattle.std.specs.Prelude.{◌≡◌, ℕ, ◌≤◌, Bool, true, false, ◌||◌, List, codes, if◌then◌else◌}
 use Rattle.vortex_syntax.specs.declared.step.WrittenOperator.{WrittenOperator}
 use Rattle.vortex_syntax.specs.declared.step.WrittenOperator.TheVariants as operator
 use Rattle.vortex_syntax.specs.declared.token.Sign.{Sign}
@@ -10,7 +10,7 @@ use Rattle.vortex_syntax.specs.Syntax.{Syntax, operand, negative, minus, typed, 
 use Rattle.vortex_syntax.specs.Syntax.{joined, tested, distinct, between, matched, listed, cast}
 use Rattle.vortex_syntax.specs.Syntax.{plus, bit_not, null_tested, Tested, Null, True, False}
 use Rattle.vortex_syntax.specs.Syntax.{Unknown, converted, titled, extracted, parted, parted_for}
-use Rattle.vortex_syntax.specs.Syntax.{nullary, chosen, chosen_else, applied, Arguments}
+use Rattle.vortex_syntax.specs.Syntax.{placed, nullary, chosen, chosen_else, applied, Arguments}
 use Rattle.vortex_syntax.specs.Syntax.{no_arguments, argument, Branches, without_operand}
 use Rattle.vortex_syntax.specs.Syntax.{of_operand, branch}
 
@@ -177,6 +177,7 @@ level (applied p w args a) = atom_level
 level (extracted p f w a) = atom_level
 level (parted p f s a) = atom_level
 level (parted_for p f s a w b) = atom_level
+level (placed p f a b) = atom_level
 
 -- the word of a test is the right one
 abbrev pub IsTested : Tested → Type 0
@@ -195,6 +196,18 @@ takes_from f = same_word f (codes "substring") || same_word f (codes "substr")
 
 abbrev pub is_for : List ℕ → Bool
 is_for w = same_word w (codes "for")
+
+-- the function that takes `in` after its first argument
+abbrev pub takes_in : List ℕ → Bool
+takes_in f = same_word f (codes "position")
+
+-- the least level of a first argument: what may stand before `in`, where the function takes it
+abbrev pub first_level : List ℕ → ℕ
+first_level f = if takes_in f then concat_level else or_level
+
+abbrev pub first_of : Arguments → Syntax → Syntax
+first_of no_arguments a = a
+first_of (argument args b) a = first_of args b
 
 -- each operand binds at least as tightly as required there
 abbrev mutual
@@ -222,11 +235,13 @@ abbrev mutual
   Fits (chosen bs c v) = BranchesFit bs × Fits c × Fits v
   Fits (chosen_else bs c v e) = BranchesFit bs × Fits c × Fits v × Fits e
   Fits (nullary p w) = Unit {0}
-  Fits (applied p w args a) = AllFit args × Fits a
+  Fits (applied p w args a) =
+      AllFit args × Fits a × (first_level w ≤ level (first_of args a))
   Fits (extracted p f w a) = (takes_word f ≡ true) × Fits a
   Fits (parted p f s a) = (takes_from f ≡ true) × Fits s × Fits a
   Fits (parted_for p f s a w b) =
       (takes_from f ≡ true) × (is_for w ≡ true) × Fits s × Fits a × Fits b
+  Fits (placed p f a b) = (takes_in f ≡ true) × (concat_level ≤ level a) × Fits a × Fits b
 
   pub AllFit : Arguments → Type 0
   AllFit no_arguments = Unit {0}

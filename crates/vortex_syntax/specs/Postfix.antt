@@ -93,6 +93,7 @@ abbrev mutual
   postfix (tree.parted p f s a) = postfix s ++ (postfix a ++ (applied f 2 ∷ []))
   postfix (tree.parted_for p f s a w b) =
       postfix s ++ (postfix a ++ (postfix b ++ (applied f 3 ∷ [])))
+  postfix (tree.placed p f a b) = postfix a ++ (postfix b ++ (applied f 2 ∷ []))
 
   pub all_postfix : Arguments → List Step
   all_postfix tree.no_arguments = []

@@ -23,7 +23,7 @@ use Rattle.vortex_syntax.specs.Levels.{own, left, or_level, and_level, not_level
 use Rattle.vortex_syntax.specs.Levels.{typed_level, distinct_level, is_level}
 use Rattle.vortex_syntax.specs.Levels.{predicate_level, concat_level, atom_level, literal_level}
 use Rattle.vortex_syntax.specs.Levels.{bit_not_level, is_operand, operand_level, takes_word}
-use Rattle.vortex_syntax.specs.Levels.{takes_from, is_for}
+use Rattle.vortex_syntax.specs.Levels.{takes_from, takes_in, is_for}
 use Rattle.vortex_syntax.specs.Spelling.{operator_of}
 use Rattle.vortex_syntax.specs.declared.reading.Reading.{Reading}
 use Rattle.vortex_syntax.specs.Frames as frame
@@ -119,6 +119,20 @@ in_behind n l fs out =
     if nat_le concat_level l && nat_le (top_hole fs) predicate_level
     then Some (state (mode.Listing n) fs out) else None
 
+-- an `in` ends the first argument of a function that takes it, or else is that of IN
+abbrev pub waits_in : List Frame → Bool
+waits_in [] = false
+waits_in (frame.Arguments f zero ∷ fs) = takes_in f
+waits_in (f ∷ fs) = false
+
+abbrev pub place_of : List Frame → List Step → Option State
+place_of [] out = None
+place_of (frame.Arguments f n ∷ fs) out = Some (state mode.Want (frame.Place f ∷ fs) out)
+place_of (f ∷ fs) out = None
+
+abbrev pub place_behind : ℕ → List Frame → List Step → Option State
+place_behind l fs out = if waits_in fs then place_of fs out else in_behind false l fs out
+
 abbrev pub close_behind : List Frame → List Step → Option State
 close_behind [] out = None
 close_behind (frame.Open ∷ fs) out = Some (state (mode.Have atom_level) fs out)
@@ -130,6 +144,8 @@ close_behind (frame.From w ∷ fs) out =
     Some (state (mode.Have atom_level) fs (out ++ (applied w 2 ∷ [])))
 close_behind (frame.For w ∷ fs) out =
     Some (state (mode.Have atom_level) fs (out ++ (applied w 3 ∷ [])))
+close_behind (frame.Place w ∷ fs) out =
+    Some (state (mode.Have atom_level) fs (out ++ (applied w 2 ∷ [])))
 close_behind (frame.Items n k ∷ fs) out =
     Some (state (mode.Have predicate_level) fs (out ++ (listed n (suc k) ∷ [])))
 close_behind (f ∷ fs) out = None
@@ -228,6 +244,8 @@ word_after level fs out sign.NotNull =
     let a = settled is_level level fs out in null_test_behind true a.level a.frames a.steps
 word_after level fs out sign.Not =
     let a = settled predicate_level level fs out in not_behind a.level a.frames a.steps
+word_after level fs out sign.In =
+    let a = settled predicate_level level fs out in place_behind a.level a.frames a.steps
 word_after level fs out sign.Close =
     let a = settled or_level level fs out in close_behind a.frames a.steps
 word_after level fs out sign.Comma =

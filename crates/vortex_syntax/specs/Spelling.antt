@@ -12,7 +12,7 @@ use Rattle.vortex_syntax.specs.Syntax.{Syntax, operand, negative, minus, typed, 
 use Rattle.vortex_syntax.specs.Syntax.{joined, tested, distinct, between, matched, listed, cast}
 use Rattle.vortex_syntax.specs.Syntax.{plus, bit_not, null_tested, Tested, Null, True, False}
 use Rattle.vortex_syntax.specs.Syntax.{Unknown, converted, titled, extracted, parted, parted_for}
-use Rattle.vortex_syntax.specs.Syntax.{nullary, chosen, chosen_else, applied, Arguments}
+use Rattle.vortex_syntax.specs.Syntax.{placed, nullary, chosen, chosen_else, applied, Arguments}
 use Rattle.vortex_syntax.specs.Syntax.{no_arguments, argument, Branches, without_operand}
 use Rattle.vortex_syntax.specs.Syntax.{of_operand, branch}
 
@@ -161,6 +161,9 @@ abbrev mutual
       function_tokens p f
       ++ (spelling s ++ (sign sign.From ∷ (spelling a
       ++ (name w ∷ (spelling b ++ (sign sign.Close ∷ []))))))
+  spelling (placed p f a b) =
+      function_tokens p f
+      ++ (spelling a ++ (sign sign.In ∷ (spelling b ++ (sign sign.Close ∷ []))))
 
   -- a comma follows each
   pub all_spelled : Arguments → List Token

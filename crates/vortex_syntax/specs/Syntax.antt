@@ -39,6 +39,8 @@ pub data Tested : Type 0 where
 -- parted: the function of that name, which takes `from`, of the trees before and after it; its
 -- bracket is as above
 -- parted_for: the same with a tree after a word that is `for`, ignoring case
+-- placed: the function of that name, which takes `in`, of the trees before and after it; its
+-- bracket is as above
 mutual
   pub data Syntax : Type 0 where
     operand : Token → Syntax
@@ -66,6 +68,7 @@ mutual
     extracted : Bool → List ℕ → List ℕ → Syntax → Syntax
     parted : Bool → List ℕ → Syntax → Syntax → Syntax
     parted_for : Bool → List ℕ → Syntax → Syntax → List ℕ → Syntax → Syntax
+    placed : Bool → List ℕ → Syntax → Syntax → Syntax
 
   -- the arguments or items before the last one
   pub data Arguments : Type 0 where

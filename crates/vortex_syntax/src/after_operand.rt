@@ -141,7 +141,7 @@ impl<'a> Reading<'a> {
                 self.emit(Step::Apply(name, one_more(count)?))?;
                 Ok(Some(Mode::Have(ATOM)))
             }
-            Some(Frame::Extract(name) | Frame::From(name)) => {
+            Some(Frame::Extract(name) | Frame::From(name) | Frame::Place(name)) => {
                 self.at = self.top_sign();
                 self.drop_top();
                 self.emit(Step::Apply(name, 2))?;
@@ -213,7 +213,7 @@ impl<'a> Reading<'a> {
     }
 
     /// `in`, which a bracket has to follow.
-    fn in_of(&mut self, negated: bool, level: u8) -> Option<Mode>
+    pub(crate) fn in_of(&mut self, negated: bool, level: u8) -> Option<Mode>
         ensures { option_map (seen self.new) result
             ≡ specs.in_behind negated level (frames_in self.old) (steps_in self.old) }
     {
@@ -283,6 +283,10 @@ impl<'a> Reading<'a> {
             Sign::Not => {
                 let level = self.settle(PREDICATE, level)?;
                 Ok(self.not_of(level))
+            }
+            Sign::In => {
+                let level = self.settle(PREDICATE, level)?;
+                self.place_or_list(level)
             }
             Sign::Close => {
                 let _level = self.settle(OR, level)?;

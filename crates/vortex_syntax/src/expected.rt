@@ -31,6 +31,8 @@ pub enum Expected {
     OperatorOrFrom,
     /// After an operand that follows `from` in a call, where `for` may come.
     OperatorOrFor,
+    /// After the first operand in the brackets of a function that takes `in`.
+    OperatorOrIn,
     /// After an operand in the brackets of `cast`.
     OperatorOrAs,
     /// After `case`.
@@ -90,6 +92,7 @@ impl Expected {
             Expected::OperatorOrComma => "an operator, a comma or )",
             Expected::OperatorOrFrom => "an operator, from, a comma or )",
             Expected::OperatorOrFor => "an operator, for or )",
+            Expected::OperatorOrIn => "an operator that binds tighter, in, a comma or )",
             Expected::OperatorOrAs => "an operator, or as and a type",
             Expected::OperandOrWhen => "an expression or when",
             Expected::OperatorOrWhen => "an operator or when",

@@ -5,7 +5,8 @@ ghost use Rattle.vortex_syntax.specs.Frames.{frame_in};
 ghost use Rattle.vortex_syntax.specs.Frames as specs;
 
 use crate::levels::{
-    ATOM, BIT_NOT, COMPARISON, CONCAT, DISTINCT, LITERAL, NOT, OR, PREDICATE, SIGN, own, right,
+    ATOM, BIT_NOT, COMPARISON, CONCAT, DISTINCT, LITERAL, NOT, OR, PREDICATE, SIGN, first_level,
+    own, right,
 };
 use crate::step::{BetweenKind, Call, LikeKind, WrittenOperator};
 
@@ -51,6 +52,8 @@ pub enum Frame<'a> {
     From(&'a [u8]),
     /// The same after one more argument and `for`.
     For(&'a [u8]),
+    /// A call of the function of that name, which takes `in`, after an argument and `in`.
+    Place(&'a [u8]),
     /// The bracket of IN, or of NOT IN, after as many items.
     Items(bool, usize),
     /// A CASE with an operand if the flag is true, after as many values.
@@ -96,12 +99,14 @@ pub fn hole(frame: Frame<'_>) -> u8
     ensures { result ≡ specs.hole (frame_in frame.entry) }
 {
     match frame {
+        Frame::Arguments(function, 0) => first_level(function),
         Frame::Open
         | Frame::Cast(_)
         | Frame::Arguments(..)
         | Frame::Extract(_)
         | Frame::From(_)
         | Frame::For(_)
+        | Frame::Place(_)
         | Frame::Items(..)
         | Frame::Case(..) => OR,
         Frame::Not => NOT,
@@ -118,7 +123,7 @@ pub fn guard(frame: Frame<'_>) -> u8
     ensures { result ≡ specs.guard (frame_in frame.entry) }
 {
     match frame {
-        Frame::Between(_) => OR,
+        Frame::Between(_) | Frame::Arguments(..) => OR,
         _ => hole(frame),
     }
 }
@@ -144,6 +149,7 @@ pub fn whole(frame: Frame<'_>) -> u8
         | Frame::Extract(_)
         | Frame::From(_)
         | Frame::For(_)
+        | Frame::Place(_)
         | Frame::Case(..) => ATOM,
         Frame::Not => NOT,
         Frame::Join(operator) => own(operator),
@@ -165,6 +171,7 @@ pub fn closing(frame: Frame<'_>) -> Call
         | Frame::Extract(_)
         | Frame::From(_)
         | Frame::For(_)
+        | Frame::Place(_)
         | Frame::Items(..)
         | Frame::Case(..) => Call::Not,
         Frame::Join(operator) => Call::Join(operator),

@@ -142,6 +142,20 @@ pub(crate) fn takes_from(function: &[u8]) -> bool
     is_same_word(function, b"substring") || is_same_word(function, b"substr")
 }
 
+/// The function that takes `in` after its first argument.
+pub(crate) fn takes_in(function: &[u8]) -> bool
+    ensures { result ≡ levels.takes_in function.now }
+{
+    is_same_word(function, b"position")
+}
+
+/// The least level of a first argument.
+pub(crate) fn first_level(function: &[u8]) -> u8
+    ensures { result ≡ levels.first_level function.now }
+{
+    if takes_in(function) { CONCAT } else { OR }
+}
+
 pub(crate) fn is_for(word: &[u8]) -> bool
     ensures { result ≡ levels.is_for word.now }
 {

@@ -1,9 +1,10 @@
-//! What `from` and `for` do to what is read, in a call of a function that takes them.
+//! What `from`, `for` and `in` do to what is read, in a call of a function that takes them.
+ghost use Rattle.std.specs.Prelude.{◌≡◌};
 ghost use Rattle.vortex_syntax.specs.Reading as specs;
 ghost use Rattle.vortex_syntax.specs.Reading.{frames_in, steps_in, Gives};
 
 use crate::frame::{Frame, Mode};
-use crate::levels::{is_for, takes_from};
+use crate::levels::{is_for, takes_from, takes_in};
 use crate::reading::Reading;
 use std::alloc::AllocError;
 
@@ -46,5 +47,42 @@ impl<'a> Reading<'a> {
             }
             _ => Ok(None),
         }
+    }
+
+    /// Whether `in` would end the first argument.
+    fn waits_in(&self) -> bool
+        ensures { result ≡ specs.waits_in (frames_in self.now) }
+    {
+        match self.top() {
+            Some(Frame::Arguments(function, 0)) => takes_in(function),
+            _ => false,
+        }
+    }
+
+    /// `in`, which ends the first argument.
+    fn place_of(&mut self) -> Result<Option<Mode>, AllocError>
+        ensures { Gives result self.new
+            (specs.place_of (frames_in self.old) (steps_in self.old)) }
+    {
+        match self.top() {
+            Some(Frame::Arguments(function, _)) => {
+                self.at = self.top_sign();
+                self.drop_top();
+                self.wait(Frame::Place(function))?;
+                Ok(Some(Mode::Want))
+            }
+            _ => Ok(None),
+        }
+    }
+
+    /// `in`, which ends the first argument of a function that takes it, or else is that of IN.
+    pub(crate) fn place_or_list(&mut self, level: u8) -> Result<Option<Mode>, AllocError>
+        ensures { Gives result self.new
+            (specs.place_behind level (frames_in self.old) (steps_in self.old)) }
+    {
+        if self.waits_in() {
+            return self.place_of();
+        }
+        Ok(self.in_of(false, level))
     }
 }

@@ -1,7 +1,7 @@
 //! What was expected where reading stops.
 use crate::expected::Expected;
 use crate::frame::{CasePart, Frame, Mode, hole};
-use crate::levels::{NOT, takes_from};
+use crate::levels::{NOT, takes_from, takes_in};
 use crate::reading::Reading;
 use crate::token::{Sign, Token};
 
@@ -29,7 +29,7 @@ fn is_unchained(sign: Sign) -> bool {
 /// What was expected instead of a sign after an operand: `expected`, with some exceptions.
 fn in_place_of(sign: Sign, expected: Expected) -> Expected {
     match (sign, expected) {
-        (_, Expected::OperatorOrAnd) => expected,
+        (_, Expected::OperatorOrAnd | Expected::OperatorOrIn) => expected,
         (Sign::As, Expected::OperatorOrName) => Expected::AnswerName,
         (Sign::Typed, _) => Expected::BracketsBeforeType,
         _ => {
@@ -57,12 +57,15 @@ impl<'a> Reading<'a> {
     fn expected_after(&self, whole: Expected) -> Expected {
         for frame in self.frames.iter().rev() {
             match frame {
-                Frame::Open | Frame::Extract(_) | Frame::For(_) => {
+                Frame::Open | Frame::Extract(_) | Frame::For(_) | Frame::Place(_) => {
                     return Expected::OperatorOrClose;
                 }
                 Frame::From(_) => return Expected::OperatorOrFor,
                 Frame::Arguments(function, 0) if takes_from(function) => {
                     return Expected::OperatorOrFrom;
+                }
+                Frame::Arguments(function, 0) if takes_in(function) => {
+                    return Expected::OperatorOrIn;
                 }
                 Frame::Cast(_) => return Expected::OperatorOrAs,
                 Frame::Arguments(..) | Frame::Items(..) => return Expected::OperatorOrComma,
