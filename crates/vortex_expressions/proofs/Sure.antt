@@ -54,7 +54,8 @@ use Rattle.vortex_expressions.specs.Functions.{values_in, call_kind, met_values,
 use Rattle.vortex_expressions.specs.Functions.{kinded_call, function_item, applied_item}
 use Rattle.vortex_expressions.specs.Functions.{standard_item, meant_item, made_date, applied_by}
 use Rattle.vortex_expressions.specs.Functions.{takes_whole, whole_item, kinds_item, kinded_item}
-use Rattle.vortex_expressions.specs.Functions.{joined_call, joining_item, located, format_word, read_by, named_item}
+use Rattle.vortex_expressions.specs.Functions.{joined_call, joining_item, is_locate, located, format_word, read_by}
+use Rattle.vortex_expressions.specs.Functions.{named_item}
 use Rattle.vortex_syntax.specs.SizeDigits.{text_size_of}
 use Rattle.vortex_sql_texts.specs.declared.parts.Side.TheVariants.{Left}
 use Rattle.vortex_expressions.specs.Joining.{as_text, as_texts, joins}
@@ -605,7 +606,7 @@ module _ (columns : Names) (sure_columns : (w : List ℕ) → Sure IsItem (colum
       → Sure IsItem (named_item o w is)
   sure_named_item (Some f) w is h = sure_joined_call f is h
   sure_named_item None w is h =
-      sure_if IsItem (same_word w (codes "locate")) _ _ (sure_located is h)
+      sure_if IsItem (is_locate w) _ _ (sure_located is h)
       (sure_read_by (format_word w) is h)
 
   sure_joining : (w : List ℕ) (is : List Item) → AllItems is → Sure IsItem (joining_item w is)

@@ -129,6 +129,10 @@ takes_whole f = true
 abbrev pub joined_call : Standard → List Item → Outcome Item
 joined_call f is = if joins f then joined_texts f is else function_item f is
 
+-- `position(a in b)` is `position(a, b)`
+abbrev pub is_locate : List ℕ → Bool
+is_locate w = same_word w (codes "locate") || same_word w (codes "position")
+
 -- the place of a text in another, which comes behind it
 abbrev pub located : List Item → Outcome Item
 located (i ∷ j ∷ []) = function_item standard.StrPos (j ∷ i ∷ [])
@@ -150,7 +154,7 @@ read_by (Some x) is = and_then (function_call x.1 is) (λ t. answers (kinded x.0
 -- of names that no function has, over columns with kinds
 abbrev pub unnamed_item : List ℕ → List Item → Outcome Item
 unnamed_item w is =
-    if same_word w (codes "locate") then located is else read_by (format_word w) is
+    if is_locate w then located is else read_by (format_word w) is
 
 abbrev pub named_item : Option Standard → List ℕ → List Item → Outcome Item
 named_item None w is = unnamed_item w is

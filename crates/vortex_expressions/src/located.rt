@@ -1,6 +1,5 @@
 //! Names that no function has, and that mean a call of one.
-ghost use Rattle.std.specs.Prelude.{◌≡◌, map, codes};
-ghost use Rattle.vortex_syntax.specs.Keywords.{same_word};
+ghost use Rattle.std.specs.Prelude.{◌≡◌, map};
 ghost use Rattle.vortex_expressions.specs.Functions as specs;
 ghost use Rattle.vortex_expressions.specs.Items.{item_in};
 ghost use Rattle.vortex_expressions.specs.Answering.{Gives};
@@ -29,11 +28,12 @@ fn located(alloc: Global, items: Vec<Item>) -> Result<Item, BindStop>
     }
 }
 
-/// Whether the name is that of `strpos` with its arguments turned.
+/// Whether the name is that of `strpos` with its arguments turned: `position(a in b)` is read as
+/// `position(a, b)`.
 fn is_locate(name: &[u8]) -> bool
-    ensures { result ≡ same_word name.now (codes "locate") }
+    ensures { result ≡ specs.is_locate name.now }
 {
-    is_word(name, b"locate")
+    is_word(name, b"locate") || is_word(name, b"position")
 }
 
 /// The kind that a function of that name reads a text as, by a format, and the function.
