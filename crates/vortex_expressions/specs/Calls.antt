@@ -172,9 +172,11 @@ abbrev pub typed_literal : List ℕ → Bool → literal.Literal → Outcome Ite
 typed_literal w n l = as_item (and_then (type_of_name w n) (typed_or_cast l))
 
 -- an interval, or a literal of the type of that name
+abbrev pub interval_or_typed : List ℕ → Bool → literal.Literal → Outcome Item
+interval_or_typed w n l = if is_interval_name w n then interval_item l else typed_literal w n l
+
 abbrev pub typed_plain : List ℕ → Bool → Item → Outcome Item
-typed_plain w n (literal l) =
-    if is_interval_name w n then interval_item l else typed_literal w n l
+typed_plain w n (literal l) = interval_or_typed w n l
 typed_plain w n i = typed_item w n i
 
 -- a literal of the kind or the type of that name

@@ -294,7 +294,7 @@ impl<'a> TextFailure<'a> {
             }
             calls::Refusal::NotOfKind(kind) => {
                 let mut out = String::new(alloc);
-                if !push_unread(&mut out, *kind, &self.items()?)? {
+                if !push_unread(&mut out, kind, &self.items()?)? {
                     out.push_str("a literal")?;
                 }
                 write!(out, " is no {kind}")?;

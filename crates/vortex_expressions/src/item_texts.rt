@@ -99,26 +99,24 @@ pub(crate) fn push_operands(out: &mut String, left: &Operand, right: &Operand) -
 }
 
 /// Whether it is a literal that is no value of the kind.
-fn is_unread(kind: Kind, item: &Item) -> bool {
+fn is_unread(kind: &Kind, item: &Item) -> bool {
     match item {
         Item::Literal(Literal::Number(word) | Literal::Text(word)) => {
-            read_cell(kind, word.as_bytes()).is_none()
+            read_cell(*kind, word.as_bytes()).is_none()
         }
         Item::Literal(Literal::Truth(_)) => true,
-        Item::Fraction(number) => read_cell(kind, number.as_bytes()).is_none(),
+        Item::Fraction(number) => read_cell(*kind, number.as_bytes()).is_none(),
         _ => false,
     }
 }
 
 /// The first literal among items that is no value of the kind, or else the last one; whether there
 /// is one.
-pub(crate) fn push_unread(out: &mut String, kind: Kind, items: &[Item]) -> VortexResult<bool> {
-    for item in items {
-        if is_unread(kind, item) {
-            return push_literals(out, slice::from_ref(item));
-        }
+pub(crate) fn push_unread(out: &mut String, kind: &Kind, items: &[Item]) -> VortexResult<bool> {
+    match items.iter().find(|item| is_unread(kind, *item)) {
+        Some(item) => push_literals(out, slice::from_ref(item)),
+        None => push_literals(out, items),
     }
-    push_literals(out, items)
 }
 
 /// The last literal among items; whether there is one.

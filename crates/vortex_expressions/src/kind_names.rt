@@ -197,17 +197,29 @@ fn typed_literal(
     Ok(Item::Bound(typed_or_cast(alloc, literal, dtype)?))
 }
 
+/// The interval of a literal, or the literal of the type of that name.
+fn interval_or_typed(
+    alloc: Global,
+    name: &[u8],
+    is_nullable: bool,
+    literal: Literal,
+) -> Result<Item, BindStop>
+    ensures { Gives item_in result
+        (calls.interval_or_typed name.now is_nullable (literal_in literal)) }
+{
+    if is_interval_name(name, is_nullable) {
+        interval_item(&literal)
+    } else {
+        typed_literal(alloc, name, is_nullable, literal)
+    }
+}
+
 /// An interval, or a literal of the type of that name.
 fn typed_plain(alloc: Global, name: &[u8], is_nullable: bool, item: Item) -> Result<Item, BindStop>
     ensures { Gives item_in result (calls.typed_plain name.now is_nullable (item_in item)) }
 {
-    if let Item::Literal(literal) = &item
-        && is_interval_name(name, is_nullable)
-    {
-        return interval_item(literal);
-    }
     match item {
-        Item::Literal(literal) => typed_literal(alloc, name, is_nullable, literal),
+        Item::Literal(literal) => interval_or_typed(alloc, name, is_nullable, literal),
         item => typed_item(alloc, name, is_nullable, item),
     }
 }
