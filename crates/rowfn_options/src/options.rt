@@ -122,10 +122,10 @@ fn is_file_name(text: &str) -> bool {
     is_word && ENDINGS.iter().any(|end| text.ends_with(end.as_bytes()))
 }
 
-/// Fails where the name of a file stands where the expression does.
-fn expect_expression(source: Source<'_>, command: &mut Command<'_>) -> Result<(), Error> {
-    match source {
-        Source::Text(text) if is_file_name(text) => {
+/// Fails where the name of a file stands where the expression does; a condition needs none.
+fn expect_expression(matches: &ArgMatches<'_>, command: &mut Command<'_>) -> Result<(), Error> {
+    match source_option(matches) {
+        Source::Text(text) if is_file_name(text) && !matches.contains_id("where") => {
             let message = "EXPRESSION: that is the name of a file; expected an expression \
                            before it, as in rowfn_stream 'a + b' table.csv";
             Err(refusal(command, ErrorKind::InvalidValue, message)?)
@@ -253,10 +253,10 @@ pub fn read_options<'a>(alloc: Global, words: &'a [String]) -> Result<Options<'a
     let mut command = command(alloc)?;
     let matches = command.try_get_matches_from_mut(words)?;
     let fields = fields_option(alloc, &matches, &mut command)?;
-    expect_expression(source_option(&matches), &mut command)?;
     let input = input_option(&matches, &mut command)?;
     let refused = refused_option(&matches, &mut command, input)?;
     let indexes = indexes_option(&matches, &mut command, input)?;
+    expect_expression(&matches, &mut command)?;
     Ok(options_of(&matches, fields, input, refused, indexes))
 }
 
