@@ -17,10 +17,18 @@ pub(crate) fn write_error<W: fmt::Write>(
     }
 }
 
-/// What a text is not, if the fault is that of a cast of a text: `is no date`.
+/// How the fault of a text ends that is read by a format.
+const BY_FORMAT: &str = "date format";
+
+/// What a text is not, if the fault is that of a cast of a text or of one that is read by a format:
+/// `is no date`.
 pub(crate) fn cast_reason(error: &VortexError) -> Option<&'static str> {
-    let (reason, _) = ErrorText::new(error).text()?.split_once(" in cast")?;
-    reason.strip_prefix("text that ")
+    let fault = ErrorText::new(error).text()?.strip_prefix("text that ")?;
+    match fault.split_once(" in cast") {
+        Some((reason, _)) => Some(reason),
+        None if fault.ends_with(BY_FORMAT) => Some(fault),
+        None => None,
+    }
 }
 
 /// Writes the beginning of a text that a cast cannot read, and what it is not.
@@ -33,9 +41,14 @@ pub(crate) fn write_cast<W: fmt::Write>(
     let (reported, is_cut) = message_text(text);
     let cut = if is_cut { ".." } else { "" };
     let reason = cast_reason(error).unwrap_or("is not read");
+    let tried = if reason.ends_with(BY_FORMAT) {
+        "try_to_date and try_to_timestamp are"
+    } else {
+        "try_cast is"
+    };
     write!(
         f,
-        "E{number} {name}: {reported:?}{cut} {reason} (try_cast is null there)"
+        "E{number} {name}: {reported:?}{cut} {reason} ({tried} null there)"
     )
 }
 
