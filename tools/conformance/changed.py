@@ -30,7 +30,6 @@ READ_ON = {
     "`+` before a value": r'found "\+", ' + ATOM,
     "an operator before a value": r'found "([|%*/&#]+|<<|>>)", ' + ATOM,
     "`~` behind a sign": r'found "~", ' + ATOM,
-    "`~` between two texts": r'found "~", expected an operator',
     "a minus sign before a literal that is no number": r'found "(\'[^"]*|null|true|false)", ' + ATOM,
     "a minus sign before one of a number": r'found "\d+", ' + ATOM,
     "a word of CASE, in the CASE by which PostgreSQL is asked": r'found "(when|else|end)", expected an operator, as and a name',

@@ -72,6 +72,14 @@ TREE = r": (.*?)\n    printed (.*?)\n    type (\S+), weight \d+\n"
 EXPLAINED = re.compile(f"  tree{TREE}(?:  optimized{TREE})?", re.DOTALL)
 
 
+def fault_of(told):
+    """The fault, of one that is told with the text that a cast cannot read: `"x" is no i64 number (try_cast is null there)`."""
+    cast = re.fullmatch(r'".*"(?:\.\.)? is no (truth value|\w+ number) \(try_cast is null there\)', told, re.DOTALL)
+    if not cast:
+        return told
+    return "text that is no truth value in cast to bool" if cast[1] == "truth value" else f"text that is no {cast[1]} in cast"
+
+
 class Program:
     """rowfn_stream over tables, asked by texts of expressions. It runs what rules make of them."""
 
@@ -111,7 +119,7 @@ class Program:
             if not told or int(told[1]) != len(rows) + 1:
                 raise Refused(ran.returncode, ran.stderr.strip())
             for column in found:
-                column += [Fault(told[2])] + [NOT_ASKED] * (len(table.rows) - len(rows) - 1)
+                column += [Fault(fault_of(told[2]))] + [NOT_ASKED] * (len(table.rows) - len(rows) - 1)
         if any(len(column) != len(table.rows) for column in found):
             raise Refused(ran.returncode, f"{len(rows)} rows of {len(table.rows)}")
         return found
