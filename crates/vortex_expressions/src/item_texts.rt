@@ -98,14 +98,19 @@ pub(crate) fn push_operands(out: &mut String, left: &Operand, right: &Operand) -
     Ok(())
 }
 
+/// Whether a literal is a value of the kind; a date is its midnight where a timestamp is wanted.
+fn is_read(kind: &Kind, word: &str) -> bool {
+    let bytes = word.as_bytes();
+    let is_date = *kind == Kind::Timestamp && read_cell(Kind::Date, bytes).is_some();
+    is_date || read_cell(*kind, bytes).is_some()
+}
+
 /// Whether it is a literal that is no value of the kind.
 fn is_unread(kind: &Kind, item: &Item) -> bool {
     match item {
-        Item::Literal(Literal::Number(word) | Literal::Text(word)) => {
-            read_cell(*kind, word.as_bytes()).is_none()
-        }
+        Item::Literal(Literal::Number(word) | Literal::Text(word)) => !is_read(kind, word.as_str()),
         Item::Literal(Literal::Truth(_)) => true,
-        Item::Fraction(number) => read_cell(*kind, number.as_bytes()).is_none(),
+        Item::Fraction(number) => !is_read(kind, number.as_str()),
         _ => false,
     }
 }
