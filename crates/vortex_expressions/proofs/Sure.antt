@@ -93,6 +93,7 @@ use Rattle.vortex_expressions.specs.KindCasts.{interval_told, interval_item}
 use Rattle.vortex_expressions.specs.Kinded.{text_literal}
 use Rattle.vortex_expressions.specs.Literals.{has_fraction}
 use Rattle.vortex_logical_calls.specs.Intervals.{interval_of}
+use Rattle.vortex_logical_calls.specs.declared.intervals.Interval.{Interval}
 use Rattle.vortex_types.specs.declared.dtype.PType.TheVariants.{I64}
 use Rattle.vortex_types.specs.LogicalTypes.{integer_type}
 use Rattle.vortex_expressions.specs.Items.{constant_at}
@@ -207,7 +208,7 @@ module _ (columns : Names) (sure_columns : (w : List ℕ) → Sure IsItem (colum
   sure_kind_name w n =
       sure_if _ n _ _ tt (sure_then _ _ (calls.text_of w) _ (sure_text w) (λ v h. tt))
 
-  sure_interval : (o : Option ℤ) → Sure IsItem (interval_told o)
+  sure_interval : (o : Option Interval) → Sure IsItem (interval_told o)
   sure_interval None = tt
   sure_interval (Some z) = tt
 

@@ -40,11 +40,13 @@ use Rattle.vortex_expressions.specs.KindFunctions.{float_places, number_places, 
 use Rattle.vortex_expressions.specs.KindFunctions.{places_call, part_function, part_call}
 use Rattle.vortex_expressions.specs.KindFunctions.{unit_function, unit_call, of_value, pair_call}
 use Rattle.vortex_expressions.specs.KindFunctions.{function_by, single_call, text_call, kind_call}
-use Rattle.vortex_expressions.specs.KindFunctions.{months_function, months_added, months_after, months_call}
+use Rattle.vortex_expressions.specs.KindFunctions.{months_added, months_after, months_call}
 use Rattle.vortex_expressions.specs.KindFunctions.{char_function, written_by, char_of, char_call}
 use Rattle.vortex_expressions.proofs.SureCalls.{Sure, sure_then, sure_if, sure_or, IsTyped, IsItem}
 use Rattle.vortex_expressions.proofs.SureCalls.{AllItems, sure_named_call, sure_item, sure_settled}
+use Rattle.vortex_expressions.specs.Months.{months_function}
 use Rattle.vortex_expressions.proofs.SureKinds.{Any, sure_text_literal, sure_step}
+use Rattle.vortex_expressions.proofs.SureKinds.{sure_months_function}
 
 any_told : {A : Type 0} (o : calls.Outcome A) → Sure Any (told o)
 any_told (calls.made a) = tt
@@ -190,11 +192,6 @@ sure_text_call n (s ∷ i ∷ []) h =
     sure_then Any IsItem (function_by n s) _ (sure_function_by n s)
     (λ f l. sure_of_value f i h.1.0)
 sure_text_call n is h = tt
-
-sure_months_function : (k : Kind) → Sure Any (months_function k)
-sure_months_function Date = tt
-sure_months_function Timestamp = tt
-sure_months_function k = tt
 
 sure_months_added : (k : Kind) (t : Tree) (j : Item) → IsItem j → Sure IsItem (months_added k t j)
 sure_months_added k t j h =

@@ -31,7 +31,11 @@ use Rattle.vortex_logical_calls.specs.Conversions.{conversion_beside, conversion
 use Rattle.vortex_logical_calls.specs.Conversions.{after, float_function}
 use Rattle.vortex_logical_calls.specs.Calls.{call_one}
 use Rattle.vortex_logical_calls.specs.Literals.{constant_of, number_of_text}
-use Rattle.std.specs.Prelude.{ℤ}
+use Rattle.std.specs.Prelude.{ℤ, pos, ◌-ℤ◌}
+use Rattle.vortex_types.specs.declared.dtype.PType.TheVariants.{I64}
+use Rattle.vortex_columns.specs.ScalarOf.{int_scalar}
+use Rattle.vortex_logical_calls.specs.declared.intervals.Interval.{Interval}
+use Rattle.vortex_logical_calls.specs.declared.intervals.Interval.TheVariants.{Micros, Months}
 use Rattle.vortex_logical_calls.specs.Comparison.{if_met, compared}
 use Rattle.vortex_logical_calls.specs.Bounds as bounds
 use Rattle.vortex_logical_calls.specs.Computation.{of_operand, of_result}
@@ -55,7 +59,8 @@ use Rattle.vortex_expressions.specs.Kinded.{literal_operand, item_operand, value
 use Rattle.vortex_expressions.specs.Kinded.{KindedOperator, compares, computes, neither, operated}
 use Rattle.vortex_expressions.specs.Kinded.{kinded_operator, kinded_joined, kinded_between}
 use Rattle.vortex_expressions.specs.Kinded.{within_bounds, is_interval, shifted_item, shifted_items}
-use Rattle.vortex_expressions.specs.Kinded.{joined_beside}
+use Rattle.vortex_expressions.specs.Kinded.{joined_beside, moved_item}
+use Rattle.vortex_expressions.specs.Months.{months_function, months_moved}
 use Rattle.vortex_expressions.specs.KindCasts.{kind_literal, kind_item, becomes_float, float_item}
 use Rattle.vortex_expressions.specs.KindCasts.{kind_cast, cast_to_kind, cast_by, instant_cast}
 use Rattle.vortex_expressions.specs.KindCasts.{more_trees, step_on, stepped, kind_by, text_cast}
@@ -238,10 +243,28 @@ sure_shifted o k t z =
     (sure_told IsValue (shifted o x z) (moved_made o x (moved_by (Of k) z)))
     (λ y h. value_is y.operand y.tree h)
 
+pub sure_months_function : (k : Kind) → Sure Any (months_function k)
+sure_months_function Date = tt
+sure_months_function Timestamp = tt
+sure_months_function k = tt
+
+sure_months_moved : (k : Kind) (t : Tree) (n : ℤ) → Sure IsItem (months_moved k t n)
+sure_months_moved k t n =
+    sure_then Any IsItem (months_function k) _ (sure_months_function k)
+    (λ f l. sure_then IsTyped IsItem
+    (call_of (callable f) (t ∷ constant (int_scalar I64 n) ∷ [])) (λ u. answers (kinded k u))
+    (sure_named_call f (t ∷ constant (int_scalar I64 n) ∷ [])) (λ u g. g))
+
+sure_moved : (o : NumericOperator) (k : Kind) (t : Tree) (z : Interval)
+    → Sure IsItem (moved_item o k t z)
+sure_moved o k t (Micros z) = sure_shifted o k t z
+sure_moved numeric.Sub k t (Months n) = sure_months_moved k t (pos 0 -ℤ n)
+sure_moved o k t (Months n) = sure_months_moved k t n
+
 sure_shifted_items : (o : written.WrittenOperator) (a b : Item) → Sure IsItem (shifted_items o a b)
-sure_shifted_items signs.Add (kinded k t) (interval z) = sure_shifted numeric.Add k t z
-sure_shifted_items signs.Add (interval z) (kinded k t) = sure_shifted numeric.Add k t z
-sure_shifted_items signs.Sub (kinded k t) (interval z) = sure_shifted numeric.Sub k t z
+sure_shifted_items signs.Add (kinded k t) (interval z) = sure_moved numeric.Add k t z
+sure_shifted_items signs.Add (interval z) (kinded k t) = sure_moved numeric.Add k t z
+sure_shifted_items signs.Sub (kinded k t) (interval z) = sure_moved numeric.Sub k t z
 sure_shifted_items o a b = tt
 
 sure_beside : (k : Kind) (o : KindedOperator) (a b : Item) → Sure IsItem (joined_beside k o a b)

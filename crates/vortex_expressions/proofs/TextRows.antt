@@ -19,6 +19,7 @@ use Rattle.vortex_logical_calls.specs.RowLaws.{ComparisonsGoByOrder, BoundsGoByO
 use Rattle.vortex_logical_calls.specs.RowLaws.{ComputationsAreExact, ValuesAreAligned, KindsMeet}
 use Rattle.vortex_logical_calls.specs.RowLaws.{IntervalsMove, is_sum}
 use Rattle.vortex_logical_calls.specs.Intervals.{shifted}
+use Rattle.vortex_logical_calls.specs.declared.intervals.Interval.TheVariants.{Micros}
 use Rattle.vortex_standard.specs.declared.standard.Standard.{Standard}
 use Rattle.vortex_standard.specs.declared.standard.Standard.TheVariants as standard
 use Rattle.vortex_standard.specs.Names.{standard_named}
@@ -114,21 +115,21 @@ shift_is : (s u : Shift) → Some s ≡ Some u → s ≡ u
 shift_is s u e = cc
 
 -- an item moved by an interval
-abbrev moved_item : Shift → Outcome Item
-moved_item s =
+abbrev moved_by_shift : Shift → Outcome Item
+moved_by_shift s =
     and_then (told (shifted s.operator s.value s.micros)) (λ x. answers (value_item x.operand x.tree))
 
 shift_made : (o : WrittenOperator) (i j : Item) (s : Shift) (r : Item) → shift_of o i j ≡ Some s
-    → joined_item o i j ≡ answers r → (is_sum s.operator ≡ true) × (moved_item s ≡ answers r)
-shift_made written.Add (kinded k t) (interval z) s r e f =
+    → joined_item o i j ≡ answers r → (is_sum s.operator ≡ true) × (moved_by_shift s ≡ answers r)
+shift_made written.Add (kinded k t) (interval (Micros z)) s r e f =
     let same = sym (shift_is (shift numeric.Add k t z) s e) in
-    (ap (λ u. is_sum u.operator) same, ap moved_item same ∙ f)
-shift_made written.Add (interval z) (kinded k t) s r e f =
+    (ap (λ u. is_sum u.operator) same, ap moved_by_shift same ∙ f)
+shift_made written.Add (interval (Micros z)) (kinded k t) s r e f =
     let same = sym (shift_is (shift numeric.Add k t z) s e) in
-    (ap (λ u. is_sum u.operator) same, ap moved_item same ∙ f)
-shift_made written.Sub (kinded k t) (interval z) s r e f =
+    (ap (λ u. is_sum u.operator) same, ap moved_by_shift same ∙ f)
+shift_made written.Sub (kinded k t) (interval (Micros z)) s r e f =
     let same = sym (shift_is (shift numeric.Sub k t z) s e) in
-    (ap (λ u. is_sum u.operator) same, ap moved_item same ∙ f)
+    (ap (λ u. is_sum u.operator) same, ap moved_by_shift same ∙ f)
 shift_made o i j s r e f = cc
 
 module _ (scope : Fields) (kinds : List Kind) where

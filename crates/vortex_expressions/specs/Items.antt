@@ -15,6 +15,7 @@ use Rattle.vortex_interface.specs.Trees as trees
 use Rattle.vortex_interface.specs.Trees.{constant, call, trees_of}
 use Rattle.vortex_interface.specs.Eval.{tree_type, tree_types, types_or_none}
 use Rattle.vortex_interface.specs.declared.options.EmptyOptions.{EmptyOptions}
+use Rattle.vortex_logical_calls.specs.declared.intervals.Interval.{Interval}
 use Rattle.vortex_logical.specs.declared.kind.Kind.{Kind}
 use Rattle.vortex_logical.specs.declared.kind.Kind.TheVariants.{F64}
 use Rattle.vortex_standard.specs.Standard.{standard_meaning}
@@ -48,13 +49,13 @@ callable f = custom f (record {})
 -- bound: a tree
 -- kinded: a tree of the stored integers of a kind
 -- fraction: a number with a point or an exponent, where columns have kinds
--- interval: so many microseconds
+-- interval: so many microseconds or months
 pub data Item : Type 0 where
   literal : Literal → Item
   bound : Tree → Item
   kinded : Kind → Tree → Item
   fraction : List ℕ → Item
-  interval : ℤ → Item
+  interval : Interval → Item
 
 abbrev pub item_in : held.Item → Item
 item_in (variant.Literal l) = literal (literal_in l)

@@ -28,6 +28,7 @@ use Rattle.vortex_lowering.specs.Rows.{lowered}
 use Rattle.vortex_logical_calls.specs.Calls.{Lowered}
 use Rattle.vortex_logical_calls.specs.Conversions.{as_float}
 use Rattle.vortex_logical_calls.specs.Intervals.{interval_of}
+use Rattle.vortex_logical_calls.specs.declared.intervals.Interval.{Interval}
 use Rattle.vortex_standard.specs.declared.standard.Standard.{Standard}
 use Rattle.vortex_standard.specs.declared.standard.Standard.TheVariants as standard
 use Rattle.vortex_expressions.specs.declared.refusal.Refusal.TheVariants.{NoCast, NotHeld, OfKind}
@@ -208,11 +209,11 @@ stored_cast p k u t = refuses (OfKind k)
 abbrev pub fraction_cast : Bool → List ℕ → LogicalType → Outcome Item
 fraction_cast p w u = and_then (text_literal F64 w) (λ x. stored_cast p F64 u x.tree)
 
--- the microseconds of a text
+-- the interval of a text
 abbrev pub is_interval_name : List ℕ → Bool → Bool
 is_interval_name w n = if n then false else same_word w (codes "interval")
 
-abbrev pub interval_told : Option ℤ → Outcome Item
+abbrev pub interval_told : Option Interval → Outcome Item
 interval_told None = refuses NotHeld
 interval_told (Some z) = answers (interval z)
 

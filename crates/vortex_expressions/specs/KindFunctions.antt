@@ -39,6 +39,7 @@ use Rattle.vortex_expressions.specs.Items.{Item, literal, bound, kinded, fractio
 use Rattle.vortex_expressions.specs.Items.{meaning, callable, call_of, settled}
 use Rattle.vortex_expressions.specs.Kinded.{told, text_literal, plain_operand}
 use Rattle.vortex_expressions.specs.KindCasts.{step_on, count_of}
+use Rattle.vortex_expressions.specs.Months.{months_function}
 use Rattle.vortex_expressions.specs.KindWords.{part_word, unit_word}
 
 abbrev pub other_types : BindStop
@@ -184,11 +185,6 @@ text_call n (s ∷ i ∷ []) = of_text n s i
 text_call n is = refuses (Binding (ArityMismatch (Exact 2) (length is)))
 
 -- a date or a timestamp so many months later
-abbrev pub months_function : Kind → Outcome Standard
-months_function Date = answers standard.DateAddMonths
-months_function Timestamp = answers standard.TimestampAddMonths
-months_function k = refuses (OfKind k)
-
 abbrev pub months_added : Kind → Tree → Item → Outcome Item
 months_added k t j =
     and_then (months_function k) (λ f.

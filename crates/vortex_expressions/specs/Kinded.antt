@@ -1,6 +1,6 @@
 -- Calls on values of kinds: dates, timestamps, decimals and floats.
 use Rattle.std.specs.Prelude.{ℕ, ℤ, List, [], ◌∷◌, Option, Some, None, Bool, true, false, ◌||◌}
-use Rattle.std.specs.Prelude.{if◌then◌else◌}
+use Rattle.std.specs.Prelude.{if◌then◌else◌, pos, ◌-ℤ◌}
 use Rattle.vortex_types.specs.declared.dtype.PType.{PType}
 use Rattle.vortex_types.specs.declared.dtype.PType.TheVariants.{I32, I64}
 use Rattle.vortex_types.specs.LogicalTypes.{LogicalType, integer_type}
@@ -31,6 +31,8 @@ use Rattle.vortex_logical_calls.specs.Bounds as bounds
 use Rattle.vortex_logical_calls.specs.Computation.{computed}
 use Rattle.vortex_logical_calls.specs.Literals.{kind_beside, literal_of}
 use Rattle.vortex_logical_calls.specs.Intervals.{shifted}
+use Rattle.vortex_logical_calls.specs.declared.intervals.Interval.{Interval}
+use Rattle.vortex_logical_calls.specs.declared.intervals.Interval.TheVariants.{Micros, Months}
 use Rattle.vortex_sql_kind_texts.specs.TextKinds.{overflows}
 use Rattle.vortex_expressions.specs.declared.refusal.Refusal.TheVariants.{NotHeld, UntypedNull}
 use Rattle.vortex_expressions.specs.declared.refusal.Refusal.TheVariants.{OfKind, Kinds, Binding}
@@ -39,6 +41,7 @@ use Rattle.vortex_expressions.specs.declared.refusal.BindStop.TheVariants.{Refus
 use Rattle.vortex_expressions.specs.Literals.{Literal, number, text, truth, null}
 use Rattle.vortex_expressions.specs.Outcomes.{Outcome, answers, refuses, and_then}
 use Rattle.vortex_expressions.specs.Items.{Item, literal, bound, kinded, fraction, interval, Tree}
+use Rattle.vortex_expressions.specs.Months.{months_moved}
 use Rattle.vortex_expressions.specs.Items.{meaning, constant_at, as_item}
 
 -- values of a kind, and what has a meaning only next to them
@@ -182,11 +185,17 @@ abbrev pub shifted_item : NumericOperator → Kind → Tree → ℤ → Outcome 
 shifted_item o k t z =
     and_then (told (shifted o (lowered t (Of k)) z)) (λ x. answers (value_item x.operand x.tree))
 
+-- months are added as the calendar has them, and taken as so many below zero
+abbrev pub moved_item : NumericOperator → Kind → Tree → Interval → Outcome Item
+moved_item o k t (Micros z) = shifted_item o k t z
+moved_item numeric.Sub k t (Months n) = months_moved k t (pos 0 -ℤ n)
+moved_item o k t (Months n) = months_moved k t n
+
 -- an interval is added to them, and taken from them
 abbrev pub shifted_items : syntax.WrittenOperator → Item → Item → Outcome Item
-shifted_items written.Add (kinded k t) (interval z) = shifted_item numeric.Add k t z
-shifted_items written.Add (interval z) (kinded k t) = shifted_item numeric.Add k t z
-shifted_items written.Sub (kinded k t) (interval z) = shifted_item numeric.Sub k t z
+shifted_items written.Add (kinded k t) (interval z) = moved_item numeric.Add k t z
+shifted_items written.Add (interval z) (kinded k t) = moved_item numeric.Add k t z
+shifted_items written.Sub (kinded k t) (interval z) = moved_item numeric.Sub k t z
 shifted_items o a b = refuses NotHeld
 
 -- an operator, one of whose operands has a kind or is an interval

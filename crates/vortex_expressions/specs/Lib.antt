@@ -2,6 +2,7 @@ pub mod Literals
 pub mod Outcomes
 pub mod Answering
 pub mod Meeting
+pub mod Months
 pub mod Items
 pub mod Applied
 pub mod TypeNames

@@ -17,6 +17,7 @@ use Rattle.vortex_syntax.specs.Keywords.{same_word}
 use Rattle.vortex_logical.specs.declared.kind.Kind.{Kind}
 use Rattle.vortex_logical.specs.declared.operand.Operand.TheVariants.{Of}
 use Rattle.vortex_lowering.specs.Rows.{lowered}
+use Rattle.vortex_logical_calls.specs.declared.intervals.Interval.TheVariants.{Micros}
 use Rattle.vortex_logical_calls.specs.Calls.{Lowered}
 use Rattle.vortex_logical_calls.specs.Conversions.{meet_in_float}
 use Rattle.vortex_logical_calls.specs.RowLaws.{ComparedRows, BoundedRows, ComputedRows}
@@ -79,11 +80,11 @@ pub record Shift : Type 0 where
 abbrev pub shift : NumericOperator → Kind → Tree → ℤ → Shift
 shift o k t z = record { operator = o; value = lowered t (Of k); micros = z }
 
--- an interval is added to a value of a kind, or taken from it
+-- an interval of a fixed length is added to a value of a kind, or taken from it
 abbrev pub shift_of : WrittenOperator → Item → Item → Option Shift
-shift_of written.Add (kinded k t) (interval z) = Some (shift Add k t z)
-shift_of written.Add (interval z) (kinded k t) = Some (shift Add k t z)
-shift_of written.Sub (kinded k t) (interval z) = Some (shift Sub k t z)
+shift_of written.Add (kinded k t) (interval (Micros z)) = Some (shift Add k t z)
+shift_of written.Add (interval (Micros z)) (kinded k t) = Some (shift Add k t z)
+shift_of written.Sub (kinded k t) (interval (Micros z)) = Some (shift Sub k t z)
 shift_of o i j = None
 
 -- a value moved by an interval, and its rows

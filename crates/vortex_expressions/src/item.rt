@@ -20,6 +20,7 @@ use std::alloc::Global;
 use vortex_columns::{DType, MismatchPlace, Nullability, PType, VortexError, VortexResult};
 use vortex_functions::{BoundExpression, EmptyOptions, ScalarFnRef};
 use vortex_logical::kind::Kind;
+use vortex_logical_calls::Interval;
 use vortex_standard::{Standard, Widen};
 
 /// What a part of an expression is.
@@ -33,8 +34,8 @@ pub(crate) enum Item {
     Kinded(Kind, BoundExpression<Standard>),
     /// A number with a point or an exponent, where columns have kinds.
     Fraction(String),
-    /// So many microseconds.
-    Interval(i64),
+    /// So many microseconds or months.
+    Interval(Interval),
 }
 
 /// The literal of that type.
@@ -90,7 +91,7 @@ impl Item {
             Item::Fraction(number) => {
                 Ok(Item::Fraction(String::from_str(alloc, number.as_str())?))
             }
-            Item::Interval(micros) => Ok(Item::Interval(*micros)),
+            Item::Interval(interval) => Ok(Item::Interval(*interval)),
         }
     }
 

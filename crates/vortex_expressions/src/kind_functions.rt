@@ -7,6 +7,7 @@ ghost use Rattle.vortex_expressions.specs.Answering.{Gives};
 use crate::item::{Item, call_of, callable};
 use crate::kind_words::{KindFunction, KindName, part_word, unit_word};
 use crate::literal::Literal;
+use crate::months::months_function;
 use crate::number_functions::{number_call, places_call};
 use crate::refusal::{BindStop, Refusal};
 use std::alloc::Global;
@@ -179,17 +180,6 @@ fn text_call(alloc: Global, name: KindName, items: &[Item]) -> Result<Item, Bind
     match items {
         [text, item] => of_text(alloc, name, text, item),
         _ => Err(other_count(2, items.len())),
-    }
-}
-
-/// The function that adds months to values of the kind.
-fn months_function(kind: Kind) -> Result<Standard, BindStop>
-    ensures { Gives (λ f. f) result (specs.months_function kind) }
-{
-    match kind {
-        Kind::Date => Ok(Standard::DateAddMonths),
-        Kind::Timestamp => Ok(Standard::TimestampAddMonths),
-        _ => Err(BindStop::Refused(Refusal::OfKind(kind))),
     }
 }
 

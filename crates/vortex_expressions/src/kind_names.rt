@@ -158,7 +158,7 @@ fn interval_item(literal: &Literal) -> Result<Item, BindStop>
         return Err(BindStop::Refused(Refusal::NotHeld));
     };
     match interval_of(text.as_bytes()) {
-        Some(micros) => Ok(Item::Interval(micros)),
+        Some(interval) => Ok(Item::Interval(interval)),
         None => Err(BindStop::Refused(Refusal::NotHeld)),
     }
 }

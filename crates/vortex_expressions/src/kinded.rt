@@ -10,6 +10,7 @@ ghost use Rattle.vortex_expressions.specs.Answering.{Gives};
 
 use crate::item::{Item, constant_at};
 use crate::literal::Literal;
+use crate::months::months_moved;
 use crate::refusal::{BindStop, Refusal};
 use std::alloc::Global;
 use vortex_columns::{DType, MismatchPlace, Nullability, PType, VortexError};
@@ -17,7 +18,7 @@ use vortex_functions::BoundExpression;
 use vortex_logical::kind::Kind;
 use vortex_logical::operand::Operand;
 use vortex_logical_calls as calls;
-use vortex_logical_calls::{Lowered, kind_beside};
+use vortex_logical_calls::{Interval, Lowered, kind_beside};
 use vortex_operators::{BetweenOptions, CompareOperator, StrictComparison};
 use vortex_sql_kind_texts::from_texts::overflows;
 use vortex_standard::Standard;
@@ -317,18 +318,37 @@ fn shifted_item(
     Ok(value_item(calls::shift(alloc, operator, Lowered { tree, operand }, micros)?))
 }
 
+/// The same by any interval: months are added as the calendar has them.
+fn moved_item(
+    alloc: Global,
+    operator: NumericOperator,
+    kind: Kind,
+    tree: BoundExpression<Standard>,
+    interval: Interval,
+) -> Result<Item, BindStop>
+    ensures { Gives item_in result (specs.moved_item operator kind tree interval) }
+{
+    match (operator, interval) {
+        (operator, Interval::Micros(micros)) => shifted_item(alloc, operator, kind, tree, micros),
+        (NumericOperator::Sub, Interval::Months(months)) => {
+            months_moved(alloc, kind, tree, 0 - i64::from(months))
+        }
+        (_, Interval::Months(months)) => months_moved(alloc, kind, tree, i64::from(months)),
+    }
+}
+
 /// An interval is added to a date or a timestamp, or taken from one.
 fn shifted_items(alloc: Global, written: Written, left: Item, right: Item) -> Result<Item, BindStop>
     ensures { Gives item_in result
         (specs.shifted_items written (item_in left) (item_in right)) }
 {
     match (written, left, right) {
-        (Written::Add, Item::Kinded(kind, tree), Item::Interval(micros))
-        | (Written::Add, Item::Interval(micros), Item::Kinded(kind, tree)) => {
-            shifted_item(alloc, NumericOperator::Add, kind, tree, micros)
+        (Written::Add, Item::Kinded(kind, tree), Item::Interval(interval))
+        | (Written::Add, Item::Interval(interval), Item::Kinded(kind, tree)) => {
+            moved_item(alloc, NumericOperator::Add, kind, tree, interval)
         }
-        (Written::Sub, Item::Kinded(kind, tree), Item::Interval(micros)) => {
-            shifted_item(alloc, NumericOperator::Sub, kind, tree, micros)
+        (Written::Sub, Item::Kinded(kind, tree), Item::Interval(interval)) => {
+            moved_item(alloc, NumericOperator::Sub, kind, tree, interval)
         }
         _ => Err(BindStop::Refused(Refusal::NotHeld)),
     }

@@ -29,6 +29,7 @@ mod literal;
 mod located;
 mod meeting;
 mod messages;
+mod months;
 mod number_functions;
 mod patterns;
 pub mod quotes;

@@ -37,7 +37,7 @@ pub(crate) fn push_unheld(
 
 /// What an interval is, behind a text that is none.
 const INTERVAL_TEXTS: &str =
-    "; one is written as '3 days' or '2 hours 30 minutes', and months are added by add_months(d, 3)";
+    "; one is written as '3 days', '2 hours 30 minutes' or '3 months', and months stand alone";
 
 /// Where an interval may be.
 pub(crate) const INTERVAL_PLACES: &str =

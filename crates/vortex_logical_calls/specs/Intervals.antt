@@ -1,4 +1,5 @@
--- Intervals of a fixed length, as their microseconds, and the dates and timestamps that they move.
+-- Intervals, of a fixed length as their microseconds, or of months, and the dates and timestamps that
+-- the former move.
 use Rattle.std.specs.Prelude.{ℕ, ◌+◌, ◌*◌, ◌/◌, ◌%◌, ◌==◌, ◌&&◌, nat_le, ℤ, pos, int_rem, int_div}
 use Rattle.std.specs.Prelude.{List, [], ◌∷◌, Option, Some, None, option_map, Result, Ok, Err}
 use Rattle.std.specs.Prelude.{if◌then◌else◌}
@@ -21,6 +22,8 @@ use Rattle.vortex_lowering.specs.LoweredTrees.{arithmetic_operator}
 use Rattle.vortex_logical_calls.specs.Outcomes.{Outcome, refused}
 use Rattle.vortex_logical_calls.specs.Calls.{Lowered, call_on}
 use Rattle.vortex_logical_calls.specs.Computation.{of_operand}
+use Rattle.vortex_logical_calls.specs.declared.intervals.Interval.{Interval}
+use Rattle.vortex_logical_calls.specs.declared.intervals.Interval.TheVariants.{Micros, Months}
 
 -- the nanoseconds of a week, a day, an hour, a minute, a second, and of its thousandths
 abbrev pub unit_lengths : List ℕ
@@ -44,13 +47,27 @@ micros_of (s ∷ years ∷ months ∷ units) =
     if (years == 0) && (months == 0) then whole_micros s (total units unit_lengths) else None
 micros_of ns = None
 
-abbrev pub micros_read : Result (List ℕ) Error → Option ℤ
-micros_read (Ok ns) = micros_of ns
-micros_read (Err e) = None
+-- months that 32 bits hold, below zero where the mark is 1
+abbrev pub whole_months : ℕ → ℕ → Option ℤ
+whole_months s n = if nat_le n 2_147_483_647 then Some (signed (s == 1) n) else None
 
--- the microseconds of a text such as `3 days`
-abbrev pub interval_of : List ℕ → Option ℤ
-interval_of text = micros_read (parse_span text)
+-- of a sign, and of years and months without smaller units
+abbrev pub months_of : List ℕ → Option ℤ
+months_of (s ∷ years ∷ months ∷ units) =
+    if total units unit_lengths == 0 then whole_months s (years * 12 + months) else None
+months_of ns = None
+
+abbrev pub or_months : Option ℤ → Option ℤ → Option Interval
+or_months (Some z) o = Some (Micros z)
+or_months None o = option_map Months o
+
+abbrev pub interval_read : Result (List ℕ) Error → Option Interval
+interval_read (Ok ns) = or_months (micros_of ns) (months_of ns)
+interval_read (Err e) = None
+
+-- the interval of a text such as `3 days` or `2 months`
+abbrev pub interval_of : List ℕ → Option Interval
+interval_of text = interval_read (parse_span text)
 
 -- what a date and a timestamp take of an interval: a date whole days
 abbrev pub whole_days : ℤ → Option ScalarView

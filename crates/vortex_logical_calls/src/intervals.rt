@@ -1,4 +1,4 @@
-//! Intervals of a fixed length, and the dates and timestamps that they move.
+//! Intervals, and the dates and timestamps that those of a fixed length move.
 ghost use Rattle.std.specs.Prelude.{◌≡◌, if◌then◌else◌};
 ghost use Rattle.jiff_fmt.specs.Units.{signed_magnitudes};
 ghost use Rattle.vortex_lowering.specs.Rows.{lowered};
@@ -18,6 +18,15 @@ use vortex_lowering::{Lowered, Refusal};
 use vortex_operators::Operator;
 use vortex_standard::Standard;
 use vortex_types::NumericOperator;
+
+/// An interval: so much later, or earlier below zero.
+#[derive(Clone, Copy, Debug, PartialEq, Eq)]
+pub enum Interval {
+    /// So many microseconds.
+    Micros(i64),
+    /// So many months, which have no fixed length.
+    Months(i32),
+}
 
 /// The nanoseconds of a day.
 const DAY_NANOS: u128 = 86_400_000_000_000;
@@ -51,15 +60,48 @@ fn micros_of(span: &Span) -> Option<i64>
     whole_micros(span.negative, nanos)
 }
 
-/// The microseconds of an interval's text: a number and a unit as in `3 days`, several as in `1 day
+/// So many months, if 32 bits hold them.
+fn whole_months(is_negative: bool, months: u64) -> Option<i32>
+    ensures { result ≡ specs.whole_months (if is_negative then 1 else 0) months }
+{
+    if months > i32::MAX as u64 {
+        return None;
+    }
+    let months = months as i32;
+    Some(if is_negative { -months } else { months })
+}
+
+/// The months of a span without smaller units.
+fn months_of(span: &Span) -> Option<i32>
+    ensures { result ≡ specs.months_of (signed_magnitudes span.now) }
+{
+    let nanos = span.day_magnitude() as u128 * DAY_NANOS + span.clock_magnitude();
+    if nanos != 0 {
+        return None;
+    }
+    whole_months(span.negative, span.years as u64 * 12 + span.months as u64)
+}
+
+fn interval_in(span: &Span) -> Option<Interval>
+    ensures { result ≡ specs.or_months (specs.micros_of (signed_magnitudes span.now))
+        (specs.months_of (signed_magnitudes span.now)) }
+{
+    match micros_of(span) {
+        Some(micros) => Some(Interval::Micros(micros)),
+        None => Some(Interval::Months(months_of(span)?)),
+    }
+}
+
+/// The interval of a text: a number and a unit as in `3 days`, several as in `1 day
 /// 2 hours`, and a time as in `1 day 02:30:00`, with a minus sign before them or `ago` behind. Units
-/// are weeks and smaller ones; a day has 24 hours. None for any other text, for months and years,
-/// which have no fixed length, for a fraction of a microsecond, and for more than 64 bits hold.
-pub fn interval_of(text: &[u8]) -> Option<i64>
+/// are weeks and smaller ones, of which a day has 24 hours, or years and months alone. None for any
+/// other text, for months next to smaller units, for a fraction of a microsecond, and for more than
+/// 64 bits hold.
+pub fn interval_of(text: &[u8]) -> Option<Interval>
     ensures { result ≡ specs.interval_of text.now }
 {
     match parse_span(text) {
-        Ok(span) => micros_of(&span),
+        Ok(span) => interval_in(&span),
         Err(_) => None,
     }
 }
