@@ -4,10 +4,10 @@ ghost use Rattle.vortex_expressions.specs.KindFunctions as specs;
 ghost use Rattle.vortex_expressions.specs.Items.{item_in};
 ghost use Rattle.vortex_expressions.specs.Answering.{Gives};
 
+use crate::intervals::months_function;
 use crate::item::{Item, call_of, callable};
 use crate::kind_words::{KindFunction, KindName, part_word, unit_word};
 use crate::literal::Literal;
-use crate::months::months_function;
 use crate::number_functions::{number_call, places_call};
 use crate::refusal::{BindStop, Refusal};
 use std::alloc::Global;

@@ -8,9 +8,9 @@ ghost use Rattle.vortex_expressions.specs.Literals as literals;
 ghost use Rattle.vortex_expressions.specs.Literals.{literal_in};
 ghost use Rattle.vortex_expressions.specs.Answering.{Gives};
 
+use crate::intervals::shifted_items;
 use crate::item::{Item, constant_at};
 use crate::literal::Literal;
-use crate::months::months_moved;
 use crate::refusal::{BindStop, Refusal};
 use std::alloc::Global;
 use vortex_columns::{DType, MismatchPlace, Nullability, PType, VortexError};
@@ -18,7 +18,7 @@ use vortex_functions::BoundExpression;
 use vortex_logical::kind::Kind;
 use vortex_logical::operand::Operand;
 use vortex_logical_calls as calls;
-use vortex_logical_calls::{Interval, Lowered, kind_beside};
+use vortex_logical_calls::{Lowered, kind_beside};
 use vortex_operators::{BetweenOptions, CompareOperator, StrictComparison};
 use vortex_sql_kind_texts::from_texts::overflows;
 use vortex_standard::Standard;
@@ -302,56 +302,6 @@ fn joined_beside(
     let first = item_operand(alloc, &kind, left)?;
     let second = item_operand(alloc, &kind, right)?;
     operated(alloc, kind, written, first, second)
-}
-
-/// A date or a timestamp moved by an interval.
-fn shifted_item(
-    alloc: Global,
-    operator: NumericOperator,
-    kind: Kind,
-    tree: BoundExpression<Standard>,
-    micros: i64,
-) -> Result<Item, BindStop>
-    ensures { Gives item_in result (specs.shifted_item operator kind tree micros) }
-{
-    let operand = Operand::Of(kind);
-    Ok(value_item(calls::shift(alloc, operator, Lowered { tree, operand }, micros)?))
-}
-
-/// The same by any interval: months are added as the calendar has them.
-fn moved_item(
-    alloc: Global,
-    operator: NumericOperator,
-    kind: Kind,
-    tree: BoundExpression<Standard>,
-    interval: Interval,
-) -> Result<Item, BindStop>
-    ensures { Gives item_in result (specs.moved_item operator kind tree interval) }
-{
-    match (operator, interval) {
-        (operator, Interval::Micros(micros)) => shifted_item(alloc, operator, kind, tree, micros),
-        (NumericOperator::Sub, Interval::Months(months)) => {
-            months_moved(alloc, kind, tree, 0 - i64::from(months))
-        }
-        (_, Interval::Months(months)) => months_moved(alloc, kind, tree, i64::from(months)),
-    }
-}
-
-/// An interval is added to a date or a timestamp, or taken from one.
-fn shifted_items(alloc: Global, written: Written, left: Item, right: Item) -> Result<Item, BindStop>
-    ensures { Gives item_in result
-        (specs.shifted_items written (item_in left) (item_in right)) }
-{
-    match (written, left, right) {
-        (Written::Add, Item::Kinded(kind, tree), Item::Interval(interval))
-        | (Written::Add, Item::Interval(interval), Item::Kinded(kind, tree)) => {
-            moved_item(alloc, NumericOperator::Add, kind, tree, interval)
-        }
-        (Written::Sub, Item::Kinded(kind, tree), Item::Interval(interval)) => {
-            moved_item(alloc, NumericOperator::Sub, kind, tree, interval)
-        }
-        _ => Err(BindStop::Refused(Refusal::NotHeld)),
-    }
 }
 
 /// An operator, one of whose operands has a kind or is an interval.
