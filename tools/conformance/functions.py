@@ -271,6 +271,7 @@ TEXTS = [
     Form("regexp_substr", "utf8 regex", "utf8", calls("regexp_substr", same=True), applied("regexp_substr"), literals="each", nulls="always"),
     Form("regexp_instr", "utf8 regex", "i64", calls("regexp_instr", same=True), counted("regexp_instr"), literals="each"),
     Form("regexp_count", "utf8 regex", "i64", calls("regexp_count", same=True), counted("regexp_count"), literals="each"),
+    Form("regexp_replace", "utf8 regex written flags?", "utf8", calls("regexp_replace", same=True), applied("regexp_replace"), literals="each"),
 ]
 
 

@@ -209,6 +209,10 @@ class Maker:
             return Node("literal", "i64", (), rng.choice((-1, 0, 1, 2, 3, 5)), "bare")
         if word == "regex":
             return Node("literal", "utf8", (), rng.choice(("a", "^a", "b$", "a.*b", "[ab]+", "a|b", "^$", "x?y", "^.$", "é")), "bare")
+        if word == "written":
+            return Node("literal", "utf8", (), rng.choice(("", "x", "[\\&]", "\\1", "\\\\", "é", "a\\b")), "bare")
+        if word == "flags":
+            return Node("literal", "utf8", (), rng.choice(("", "g", "g", "i", "gi", "c", "gic")), "bare")
         if word == "S":
             return self.source(name, level, size)
         return self.of(word, level, size)

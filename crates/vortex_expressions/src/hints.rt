@@ -58,7 +58,7 @@ const BEFORE: [(&str, &[u8], &str); 7] = [
 ];
 
 /// Functions that other languages have.
-const FUNCTIONS: [(&str, &str); 59] = [
+const FUNCTIONS: [(&str, &str); 58] = [
     ("sum", AGGREGATES),
     ("count", AGGREGATES),
     ("avg", AGGREGATES),
@@ -106,10 +106,6 @@ const FUNCTIONS: [(&str, &str); 59] = [
     (
         "last_day",
         "write date_trunc('month', add_months(d, 1)) - 1",
-    ),
-    (
-        "regexp_replace",
-        "no replacing by patterns: write replace(s, t, u)",
     ),
     ("regexp_matches", "write regexp_like(s, 'a+')"),
     ("len", "write length(s)"),

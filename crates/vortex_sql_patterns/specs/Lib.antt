@@ -1,2 +1,6 @@
+pub mod Items
+pub mod Matched
 pub mod PatternFunctions
 pub mod Patterns
+pub mod RegexpReplace
+pub mod Replacing

@@ -16,7 +16,7 @@ use vortex_sql_rows::faults::RowFault;
 
 /// Compiles a pattern; E10 where the text is no pattern. One that would take more than 10 MiB is
 /// want of memory, since no definition says how large a pattern is compiled.
-fn compile(alloc: Global, pattern: &str) -> VortexResult<Regex>
+pub(crate) fn compile(alloc: Global, pattern: &str) -> VortexResult<Regex>
     ensures { Answers result (λ r. IsPatternOf pattern.now (regex_pattern r))
         (λ e. (pattern_in pattern.now ≡ None) × (e ≡ Custom (fault_number NoPattern))) }
 {
@@ -28,7 +28,7 @@ fn compile(alloc: Global, pattern: &str) -> VortexResult<Regex>
 }
 
 /// The pattern after `(?i)`.
-fn in_any_case(alloc: Global, pattern: &str) -> VortexResult<String>
+pub(crate) fn in_any_case(alloc: Global, pattern: &str) -> VortexResult<String>
     ensures { AnswersUnlessMemory result (λ s. string_bytes s ≡ in_any_case pattern.now) }
 {
     let mut text = String::from_str(alloc, "(?i)")?;

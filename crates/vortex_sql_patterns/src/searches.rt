@@ -26,7 +26,7 @@ pub(crate) fn place(matcher: &mut Matcher<'_>, text: &str) -> i128
 }
 
 /// Where the search for the next match begins: behind an empty one a byte further.
-fn behind(found: &Match<'_>) -> usize
+pub(crate) fn behind(found: &Match<'_>) -> usize
     ensures { result ≡ behind (match_span found.now) }
 {
     if found.is_empty() {

@@ -239,6 +239,7 @@ first standard.Repeat = refl
 first standard.Reverse = refl
 first standard.ConcatAll = refl
 first standard.Initcap = refl
+first standard.RegexpReplace = refl
 first standard.ConcatWs = refl
 first standard.TryTextToTruth = refl
 first standard.FloatNegate = refl

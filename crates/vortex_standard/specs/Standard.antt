@@ -24,6 +24,7 @@ use Rattle.vortex_sql_numbers.specs.Remainder.{remainder_row, remainder_lawful}
 use Rattle.vortex_sql_rows.specs.Row.{Row, LawfulRow, row_type, row_means}
 use Rattle.vortex_sql_numbers.specs.Sign.{sign_row, sign_lawful}
 use Rattle.vortex_sql_patterns.specs.PatternFunctions.{pattern_row, pattern_lawful}
+use Rattle.vortex_sql_patterns.specs.RegexpReplace.{regexp_replace_lawful, regexp_replace_row}
 use Rattle.vortex_sql_date_formats.specs.TimesByFormats as times_by
 use Rattle.vortex_sql_date_formats.specs.TextsByFormats as texts_by
 use Rattle.vortex_sql_date_formats.specs.TriedFormats as tried_by
@@ -86,6 +87,7 @@ row_of standard.Repeat = repeat_row
 row_of standard.Reverse = reverse_row
 row_of standard.ConcatAll = concat_all_row
 row_of standard.Initcap = initcap_row
+row_of standard.RegexpReplace = regexp_replace_row
 row_of standard.ConcatWs = concat_ws_row
 row_of standard.TryTextToTruth = try_truth_row
 row_of standard.FloatNegate = negate_row
@@ -161,6 +163,7 @@ lawful_of standard.Repeat = repeat_lawful
 lawful_of standard.Reverse = reverse_lawful
 lawful_of standard.ConcatAll = concat_all_lawful
 lawful_of standard.Initcap = initcap_lawful
+lawful_of standard.RegexpReplace = regexp_replace_lawful
 lawful_of standard.ConcatWs = concat_ws_lawful
 lawful_of standard.TryTextToTruth = try_truth_lawful
 lawful_of standard.FloatNegate = negate_lawful

@@ -228,6 +228,10 @@ macro_rules! with_row {
             Standard::KindToText($f) => $texts,
             Standard::DecimalRound($f) => $rows,
             Standard::PatternFunction($f) => $patterns,
+            Standard::RegexpReplace => {
+                let $f = &vortex_sql_patterns::replace::RegexpReplace;
+                $patterns
+            }
         }
     };
 }

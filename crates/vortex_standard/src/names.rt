@@ -31,7 +31,7 @@ use vortex_sql_texts::texts::Measure;
 use vortex_sql_texts::trims::Trim;
 
 /// The functions that texts are written with, each once.
-pub const FUNCTIONS: [Standard; 101] = [
+pub const FUNCTIONS: [Standard; 102] = [
     Standard::Coalesce,
     Standard::NullIf,
     Standard::Case,
@@ -55,6 +55,7 @@ pub const FUNCTIONS: [Standard; 101] = [
     Standard::Reverse,
     Standard::ConcatAll,
     Standard::Initcap,
+    Standard::RegexpReplace,
     Standard::ConcatWs,
     Standard::TryTextToTruth,
     Standard::Extreme(Extreme::Greatest),

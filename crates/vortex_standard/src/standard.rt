@@ -71,6 +71,7 @@ pub enum Standard {
     Reverse,
     ConcatAll,
     Initcap,
+    RegexpReplace,
     ConcatWs,
     TryTextToTruth,
     FloatNegate,
