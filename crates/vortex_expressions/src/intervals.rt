@@ -1,5 +1,5 @@
 //! Dates and timestamps that intervals move.
-ghost use Rattle.vortex_expressions.specs.Months as months;
+ghost use Rattle.vortex_expressions.specs.Months as calendar;
 ghost use Rattle.vortex_expressions.specs.Kinded as specs;
 ghost use Rattle.vortex_expressions.specs.Items.{item_in};
 ghost use Rattle.vortex_expressions.specs.Answering.{Gives};
@@ -20,7 +20,7 @@ use vortex_types::NumericOperator;
 
 /// The function that adds months to values of the kind.
 pub(crate) fn months_function(kind: Kind) -> Result<Standard, BindStop>
-    ensures { Gives (λ f. f) result (months.months_function kind) }
+    ensures { Gives (λ f. f) result (calendar.months_function kind) }
 {
     match kind {
         Kind::Date => Ok(Standard::DateAddMonths),
@@ -36,7 +36,7 @@ pub(crate) fn months_moved(
     tree: BoundExpression<Standard>,
     months: i64,
 ) -> Result<Item, BindStop>
-    ensures { Gives item_in result (months.months_moved kind tree months) }
+    ensures { Gives item_in result (calendar.months_moved kind tree months) }
 {
     let function = months_function(kind)?;
     let months = BoundExpression::lit(alloc, Scalar::from(months));
