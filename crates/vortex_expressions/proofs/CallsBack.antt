@@ -34,7 +34,8 @@ use Rattle.vortex_expressions.specs.declared.refusal.Refusal.TheVariants.{NoEsca
 use Rattle.vortex_cells.specs.Escapes.{escape_of}
 use Rattle.vortex_expressions.specs.Items.{Item, Tree, meaning, common_type, settled, called}
 use Rattle.vortex_expressions.specs.Calls.{as_item, cast_to, cast_item, truth_type, joined_type}
-use Rattle.vortex_expressions.specs.Calls.{not_item, joined_item, tested_item, within_bounds}
+use Rattle.vortex_expressions.specs.Calls.{not_item, not_truth, joined_item, tested_item}
+use Rattle.vortex_expressions.specs.Calls.{within_bounds}
 use Rattle.vortex_expressions.specs.Calls.{is_concat}
 use Rattle.vortex_expressions.specs.Calls.{between_item, escape_said, liked_item, matched_item}
 use Rattle.vortex_expressions.specs.Binding.{item_of, tree_of}
@@ -53,6 +54,7 @@ use Rattle.vortex_expressions.proofs.Beside.{stands_plain, stands_stored}
 use Rattle.vortex_expressions.proofs.Beside.{settles, no_option, Operand, three_beside, none_beside}
 use Rattle.vortex_expressions.proofs.Beside.{other_beside, settled_operand, operator_pair}
 use Rattle.vortex_expressions.proofs.Beside.{operator_back, bounded_alike}
+use Rattle.vortex_expressions.proofs.TruthsBack.{truth_stays, parts_stay, not_takes}
 use Rattle.vortex_expressions.proofs.TypedCalls.{arity_is, not_one, not_two, not_three, one_called}
 use Rattle.vortex_expressions.proofs.TypedCalls.{two_called, three_called, typed_one, typed_two}
 use Rattle.vortex_expressions.proofs.TypedCalls.{typed_three}
@@ -135,6 +137,8 @@ module _ (scope : Fields) where
       tree_standing scope a (call (ours Not) (trees.tree x no_trees))
       (ap (item_of scope) (sym m.made)
       ∙ ap (λ i. and_then i not_item) (placed not_level m.a x s)
+      ∙ ap (λ o. and_then o not_truth)
+      (truth_stays p.item x p.dtype p.stands p.typed (not_takes t.first t.taken))
       ∙ ap as_item
       (one_called (ours Not) truth_type p.item x
       (settled_operand truth_type p (other_beside (bool_type false) p.dtype refl)) h))
@@ -211,6 +215,7 @@ module _ (scope : Fields) where
       ∙ ap (λ i. and_then i (joined_item w p.item)) (placed (right w) m.b y r)
       ∙ joined_plain w p.item q.item (no_concat o) (stands_plain p.item x s.stands)
       (stands_plain q.item y r.stands)
+      ∙ parts_stay o p q t.taken
       ∙ ap (λ f. as_item (called f beside (p.item ∷ q.item ∷ []))) (operator_back o)
       ∙ ap as_item
       (two_called (ours (Binary o)) beside p.item q.item x y

@@ -18,6 +18,7 @@ pub mod SyntaxWritten
 pub mod LiteralsBack
 pub mod Beside
 pub mod TypedCalls
+pub mod TruthsBack
 pub mod NamedBack
 pub mod CallsBack
 pub mod JoinedTokens
@@ -35,6 +36,7 @@ pub mod SureCalls
 pub mod SureKinds
 pub mod SureKindFunctions
 mod SureTexts
+mod SureTruths
 pub mod Sure
 pub mod Why
 pub mod Likened

@@ -42,7 +42,8 @@ use Rattle.vortex_expressions.proofs.LiteralsBack.{Stands, Standing, tree_standi
 use Rattle.vortex_expressions.proofs.MetTypes.{alike}
 use Rattle.vortex_expressions.proofs.Beside.{Beside, AreOfTypes, EachAlike, common_alike, settles}
 use Rattle.vortex_expressions.proofs.Beside.{stands_plain}
-use Rattle.vortex_expressions.proofs.Beside.{none_beside, other_beside, same_alike}
+use Rattle.vortex_expressions.proofs.Beside.{none_beside, same_alike}
+use Rattle.vortex_expressions.proofs.TruthsBack.{truth_settles, condition_takes}
 use Rattle.vortex_expressions.proofs.TypedCalls.{typed_call, head_is, arity_is}
 
 abbrev Trees : Type 0
@@ -129,32 +130,48 @@ settled_each o (i ∷ is) (trees.tree t ts) us h e k =
 settled_each o [] (trees.tree t ts) us h e k = absurd h
 settled_each o (i ∷ is) no_trees us h e k = absurd h
 
--- conditions have their types next to a truth value
+-- conditions are truth values, each before its value
+abbrev Conditions : List LogicalType → Type 0
+Conditions [] = Unit {0}
+Conditions (v ∷ []) = Unit {0}
+Conditions (c ∷ v ∷ us) = (is_integer_type c ≡ false) × Conditions us
+
 cases_each : (o : Option LogicalType) (is : List Item) (ts : Trees) (us : List LogicalType)
     → EachStands is ts → tree_types meaning ts ≡ Some us → EachBeside o (values_of us)
-    → cases_settled o is ≡ answers (list_of ts)
-cases_each o [] no_trees us h e k = refl
-cases_each o (i ∷ []) (trees.tree t no_trees) us h e k =
+    → Conditions us → cases_settled o is ≡ answers (list_of ts)
+cases_each o [] no_trees us h e k q = refl
+cases_each o (i ∷ []) (trees.tree t no_trees) us h e k q =
     let a = head_is (tree_type meaning t) (Some []) us e in
     let one : us ≡ a.first ∷ [] = a.all ∙ ap (λ vs. a.first ∷ vs) (sym (some_is [] a.rest a.others)) in
     let b : EachBeside o (a.first ∷ []) = subst (λ (vs : List LogicalType). EachBeside o (values_of vs)) one k in
     settled_each o (i ∷ []) (trees.tree t no_trees) (a.first ∷ []) h (e ∙ ap (λ v. Some v) one) b
-cases_each o (i ∷ j ∷ is) (trees.tree s (trees.tree t ts)) us h e k =
+cases_each o (i ∷ j ∷ is) (trees.tree s (trees.tree t ts)) us h e k q =
     let a = head_is (tree_type meaning s) (tree_types meaning (trees.tree t ts)) us e in
     let b = head_is (tree_type meaning t) (tree_types meaning ts) a.rest a.others in
     let c : Beside o b.first × EachBeside o (values_of b.rest) =
     subst (λ (vs : List LogicalType). EachBeside o (values_of vs)) (a.all ∙ ap (λ vs. a.first ∷ vs) b.all) k in
+    let d : (is_integer_type a.first ≡ false) × Conditions b.rest =
+    subst Conditions (a.all ∙ ap (λ vs. a.first ∷ vs) b.all) q in
     ap (λ v. and_then v (λ x. and_then (settled o j)
     (λ y. and_then (cases_settled o is) (λ xs. answers (x ∷ y ∷ xs)))))
-    (settles truth_type i s a.first h.0 a.here (other_beside (bool_type false) a.first refl))
+    (truth_settles i s a.first h.0 a.here d.0)
     ∙ ap (λ v. and_then v (λ y. and_then (cases_settled o is) (λ xs. answers (s ∷ y ∷ xs))))
     (settles o j t b.first h.1.0 b.here c.0)
     ∙ ap (λ v. and_then v (λ xs. answers (s ∷ t ∷ xs)))
-    (cases_each o is ts b.rest h.1.1 b.others c.1)
-cases_each o [] (trees.tree t ts) us h e k = absurd h
-cases_each o (i ∷ is) no_trees us h e k = absurd h
-cases_each o (i ∷ []) (trees.tree t (trees.tree s ts)) us h e k = absurd h.1
-cases_each o (i ∷ j ∷ is) (trees.tree t no_trees) us h e k = absurd h.1
+    (cases_each o is ts b.rest h.1.1 b.others c.1 d.1)
+cases_each o [] (trees.tree t ts) us h e k q = absurd h
+cases_each o (i ∷ is) no_trees us h e k q = absurd h
+cases_each o (i ∷ []) (trees.tree t (trees.tree s ts)) us h e k q = absurd h.1
+cases_each o (i ∷ j ∷ is) (trees.tree t no_trees) us h e k q = absurd h.1
+
+case_conditions : (v : LogicalType) (us : List LogicalType) → are_cases v us ≡ true
+    → Conditions us
+case_conditions v [] h = tt
+case_conditions v (u ∷ []) h = tt
+case_conditions v (c ∷ u ∷ us) h =
+    let p = and_parts (is_kind kind.Truth c) (alike_types v u && are_cases v us) h in
+    let q = and_parts (alike_types v u) (are_cases v us) p.1 in
+    (condition_takes c p.0, case_conditions v us q.1)
 
 arguments_back : (s : Takes) (is : List Item) (ts : Trees) (us : List LogicalType)
     → EachStands is ts → tree_types meaning ts ≡ Some us → are_taken s us ≡ true
@@ -176,6 +193,7 @@ arguments_back Cases is ts (c ∷ v ∷ us) h e g =
     cases_each o is ts (c ∷ v ∷ us) h e
     (alike_each v o (v ∷ values_of us)
     (λ w. common_alike v w (values_of is) (v ∷ values_of us) typed each) each)
+    (condition_takes c p.0, case_conditions v us q.1)
 arguments_back Cases is ts (c ∷ []) h e g = absurd cc
 arguments_back Cases is ts [] h e g = absurd cc
 

@@ -56,16 +56,18 @@ use Rattle.vortex_expressions.specs.Items.{Item, literal, bound, kinded, Tree, C
 use Rattle.vortex_expressions.specs.Items.{fraction, interval}
 use Rattle.vortex_expressions.specs.Items.{common_type, constant_at, settled, all_settled, call_of}
 use Rattle.vortex_expressions.specs.Items.{called, callable, refused_at, place_of, unfit, widened}
-use Rattle.vortex_expressions.specs.Items.{meeting}
+use Rattle.vortex_expressions.specs.Items.{meeting, made_by}
 use Rattle.vortex_expressions.specs.Calls.{unquoted, text_of, between_quotes, as_item, field_found}
 use Rattle.vortex_expressions.specs.Calls.{column_of, sign_item, text_item, operand_item}
 use Rattle.vortex_expressions.specs.Calls.{type_of_name, typed_item, cast_to, cast_item, truth_type}
 use Rattle.vortex_expressions.specs.Calls.{written_function, joined_type, negated_if, negated_item}
-use Rattle.vortex_expressions.specs.Calls.{not_item}
+use Rattle.vortex_expressions.specs.Calls.{not_item, not_truth, as_part, parts_joined}
 use Rattle.vortex_expressions.specs.Calls.{joined_item, tested_item, distinct_item, within_bounds}
 use Rattle.vortex_expressions.specs.Calls.{is_concat, concat_item, plain_joined, is_kinded}
 use Rattle.vortex_expressions.specs.Calls.{kinded_joined}
-use Rattle.vortex_expressions.specs.Joining.{made_text, typed_text, tree_text, is_text, as_text}
+use Rattle.vortex_expressions.specs.Joining.{typed_text, tree_text, is_text, as_text}
+use Rattle.vortex_expressions.specs.Truths.{typed_truth, tree_truth, is_number_literal, as_truth}
+use Rattle.vortex_expressions.specs.Truths.{truth_settled}
 use Rattle.vortex_expressions.specs.Calls.{between_item, like_options, escape_said, escape_in}
 use Rattle.vortex_expressions.specs.Calls.{liked_item, matched_item, minus_item, listed_item}
 use Rattle.vortex_expressions.specs.Calls.{plus_item, bit_not_item, is_number}
@@ -178,6 +180,12 @@ module _ (scope : Fields) where
       let m = then_is o (λ t. answers (bound t)) i e in
       subst ItemOver (answers_is (bound m.a) i m.second) (f m.a m.first)
 
+  made_by_over : (f : Standard) (t : Tree) (i : Item) → IsOver scope t
+      → made_by f t ≡ answers i → ItemOver i
+  made_by_over f t i h e =
+      as_item_over (call_of (callable f) (t ∷ [])) i
+      (λ u m. made_over (callable f) (t ∷ []) u tt (h, tt) m) e
+
   -- columns and literals
   column_over : (w : List ℕ) (i : Item) → IsUtf8 w → column_of scope w ≡ answers i → ItemOver i
   column_over w i u e = by (find_field w scope) refl e
@@ -261,10 +269,47 @@ module _ (scope : Fields) where
       (λ t g. let m = then_is (type_of_name w n) (cast_to p j) t g in
       cast_to_over p j m.a t h m.second) e
 
-  not_over : (j i : Item) → ItemOver j → not_item j ≡ answers i → ItemOver i
-  not_over j i h e =
+  -- numbers as truth values
+  typed_truth_over : (o : Option LogicalType) (t : Tree) (i : Item) → IsOver scope t
+      → typed_truth o t ≡ answers i → ItemOver i
+  typed_truth_over (Some (integer_type p n)) t i h e = made_by_over standard.IntToTruth t i h e
+  typed_truth_over o t i h e = subst ItemOver (answers_is (bound t) i e) h
+
+  number_truth_over : (l : Literal) (i : Item) → IsText l
+      → and_then (settled None (literal l)) tree_truth ≡ answers i → ItemOver i
+  number_truth_over l i h e =
+      let m = then_is (settled None (literal l)) tree_truth i e in
+      typed_truth_over (tree_type meaning m.a) m.a i
+      (settled_over None (literal l) m.a h m.first) m.second
+
+  as_truth_over : (j i : Item) → ItemOver j → as_truth j ≡ answers i → ItemOver i
+  as_truth_over (literal l) i h e = by (is_number_literal l) e
+    where
+      by : (b : Bool)
+          → cond b (and_then (settled None (literal l)) tree_truth) (answers (literal l)) ≡ answers i
+          → ItemOver i
+      by true f = number_truth_over l i h f
+      by false f = subst ItemOver (answers_is (literal l) i f) h
+  as_truth_over (bound t) i h e = typed_truth_over (tree_type meaning t) t i h e
+  as_truth_over (kinded k t) i h e = absurd h
+  as_truth_over (fraction w) i h e = absurd h
+  as_truth_over (interval z) i h e = absurd h
+
+  truth_settled_over : (j : Item) (t : Tree) → ItemOver j → truth_settled j ≡ answers t
+      → IsOver scope t
+  truth_settled_over j t h e =
+      let m = then_is (as_truth j) (settled truth_type) t e in
+      settled_over truth_type m.a t (as_truth_over j m.a h m.first) m.second
+
+  not_truth_over : (j i : Item) → ItemOver j → not_truth j ≡ answers i → ItemOver i
+  not_truth_over j i h e =
       as_item_over (called (ours Not) truth_type (j ∷ [])) i
       (λ t g. called_over (ours Not) truth_type (j ∷ []) t tt (h, tt) g) e
+
+  not_over : (j i : Item) → ItemOver j → not_item j ≡ answers i → ItemOver i
+  not_over j i h e =
+      let m = then_is (as_truth j) not_truth i e in
+      not_truth_over m.a i (as_truth_over j m.a h m.first) m.second
 
   stored_over : (j : Item) → ItemOver j → ItemOver (stored_item j)
   stored_over (bound t) h = h
@@ -312,25 +357,33 @@ module _ (scope : Fields) where
   written_callable written.NotMatches = tt
   written_callable written.NotMatchesAnyCase = tt
 
-  plain_over : (o : syntax.WrittenOperator) (j k i : Item) → ItemOver j → ItemOver k
-      → plain_joined o j k ≡ answers i → ItemOver i
-  plain_over o j k i h g e =
+  as_part_over : (o : syntax.WrittenOperator) (j i : Item) → ItemOver j
+      → as_part o j ≡ answers i → ItemOver i
+  as_part_over written.Or j i h e = as_truth_over j i h e
+  as_part_over written.And j i h e = as_truth_over j i h e
+  as_part_over o j i h e = subst ItemOver (answers_is j i e) h
+
+  parts_over : (o : syntax.WrittenOperator) (j k i : Item) → ItemOver j → ItemOver k
+      → parts_joined o j k ≡ answers i → ItemOver i
+  parts_over o j k i h g e =
       let is = j ∷ k ∷ [] in
       as_item_over (called (written_function o) (joined_type o is) is) i
       (λ t m. called_over (written_function o) (joined_type o is) is t (written_callable o)
       (h, (g, tt)) m) e
 
-  -- values as their texts
-  made_text_over : (f : Standard) (t : Tree) (i : Item) → IsOver scope t
-      → made_text f t ≡ answers i → ItemOver i
-  made_text_over f t i h e =
-      as_item_over (call_of (callable f) (t ∷ [])) i
-      (λ u m. made_over (callable f) (t ∷ []) u tt (h, tt) m) e
+  plain_over : (o : syntax.WrittenOperator) (j k i : Item) → ItemOver j → ItemOver k
+      → plain_joined o j k ≡ answers i → ItemOver i
+  plain_over o j k i h g e =
+      let m = then_is (as_part o j) (λ x. and_then (as_part o k) (parts_joined o x)) i e in
+      let n = then_is (as_part o k) (parts_joined o m.a) i m.second in
+      parts_over o m.a n.a i (as_part_over o j m.a h m.first) (as_part_over o k n.a g n.first)
+      n.second
 
+  -- values as their texts
   typed_text_over : (o : Option LogicalType) (t : Tree) (i : Item) → IsOver scope t
       → typed_text o t ≡ answers i → ItemOver i
-  typed_text_over (Some (integer_type p n)) t i h e = made_text_over standard.IntToText t i h e
-  typed_text_over (Some (bool_type n)) t i h e = made_text_over standard.TruthToText t i h e
+  typed_text_over (Some (integer_type p n)) t i h e = made_by_over standard.IntToText t i h e
+  typed_text_over (Some (bool_type n)) t i h e = made_by_over standard.TruthToText t i h e
   typed_text_over o t i h e = subst ItemOver (answers_is (bound t) i e) h
 
   settled_text_over : (l : Literal) (i : Item) → IsText l
@@ -386,7 +439,7 @@ module _ (scope : Fields) where
       subst (λ (xs : List Tree). AllOver scope (trees_of xs)) (answers_is [] ts e) tt
   cases_over o (v ∷ []) ts h e = all_over o (v ∷ []) ts h e
   cases_over o (c ∷ v ∷ is) ts h e =
-      let m = then_is (settled truth_type c)
+      let m = then_is (truth_settled c)
       (λ a. and_then (settled o v)
       (λ b. and_then (cases_settled o is) (λ us. answers (a ∷ b ∷ us)))) ts e in
       let n = then_is (settled o v)
@@ -394,7 +447,7 @@ module _ (scope : Fields) where
       let k = then_is (cases_settled o is) (λ us. answers (m.a ∷ n.a ∷ us)) ts n.second in
       subst (λ (xs : List Tree). AllOver scope (trees_of xs))
       (answers_is (m.a ∷ n.a ∷ k.a) ts k.second) (
-        settled_over truth_type c m.a h.0 m.first,
+        truth_settled_over c m.a h.0 m.first,
         (settled_over o v n.a h.1.0 n.first, cases_over o is k.a h.1.1 k.first),
       )
 
@@ -446,8 +499,11 @@ module _ (scope : Fields) where
   truth_over : (f : Standard) (n : Bool) (j i : Item) → ItemOver j → truth_test f n j ≡ answers i
       → ItemOver i
   truth_over f n j i h e =
-      negated_item_over (called (callable f) truth_type (j ∷ [])) n i
-      (λ t g. called_over (callable f) truth_type (j ∷ []) t tt (h, tt) g) e
+      let m = then_is (as_truth j)
+      (λ b. as_item (and_then (called (callable f) truth_type (b ∷ [])) (negated_if n))) i e in
+      let k = as_truth_over j m.a h m.first in
+      negated_item_over (called (callable f) truth_type (m.a ∷ [])) n i
+      (λ t g. called_over (callable f) truth_type (m.a ∷ []) t tt (k, tt) g) m.second
 
   tested_over : (k : Test) (n : Bool) (j i : Item) → ItemOver j → tested_item k n j ≡ answers i
       → ItemOver i

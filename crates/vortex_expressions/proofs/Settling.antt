@@ -7,7 +7,8 @@ use Rattle.std.proofs.lemmas.List.{take_all, map-append}
 use Rattle.vortex_types.specs.LogicalTypes.{LogicalType}
 use Rattle.vortex_expressions.specs.declared.item.Item as held
 use Rattle.vortex_expressions.specs.Outcomes.{Outcome, answers, refuses, missing, and_then}
-use Rattle.vortex_expressions.specs.Items.{Item, Tree, item_in, all_settled, settled, truth_type}
+use Rattle.vortex_expressions.specs.Items.{Item, Tree, item_in, all_settled, settled}
+use Rattle.vortex_expressions.specs.Truths.{truth_settled}
 use Rattle.vortex_expressions.specs.Applied.{cases_settled}
 use Rattle.vortex_expressions.specs.Calls.{joined_item, equal_cases, conditions_of}
 use Rattle.vortex_syntax.specs.declared.step.WrittenOperator.TheVariants as written
@@ -19,11 +20,11 @@ SoFar o xs n ts =
 
 -- a condition and a value more
 pub pair_settled : (o : Option LogicalType) (c v : Item) (is : List Item) (ts : List Tree)
-    (a b : Tree) (x : Outcome (List Tree)) → settled truth_type c ≡ answers a
+    (a b : Tree) (x : Outcome (List Tree)) → truth_settled c ≡ answers a
     → settled o v ≡ answers b
     → x ≡ and_then (cases_settled o (c ∷ v ∷ is)) (λ us. answers (ts ++ us))
     → x ≡ and_then (cases_settled o is) (λ us. answers (((ts ++ a ∷ []) ++ b ∷ []) ++ us))
-pair_settled o c v is ts a b x e f h = h ∙ by (settled truth_type c) (settled o v) e f
+pair_settled o c v is ts a b x e f h = h ∙ by (truth_settled c) (settled o v) e f
   where
     joined : (us : List Tree) → ts ++ (a ∷ b ∷ us) ≡ ((ts ++ a ∷ []) ++ b ∷ []) ++ us
     joined us = sym (append_assoc (ts ++ a ∷ []) (b ∷ []) us ∙ append_assoc ts (a ∷ []) (b ∷ us))
@@ -45,7 +46,7 @@ pair_settled o c v is ts a b x e f h = h ∙ by (settled truth_type c) (settled 
 pub cases_step : (o : Option LogicalType) (xs : List held.Item) (c v : held.Item)
     (ts new : List Tree) (a b : Tree) (x : Outcome (List Tree)) → 2 ≤ length xs
     → c ≡ get_or xs 0 c → v ≡ get_or xs 1 v
-    → settled truth_type (item_in c) ≡ answers a → settled o (item_in v) ≡ answers b
+    → truth_settled (item_in c) ≡ answers a → settled o (item_in v) ≡ answers b
     → new ≡ (ts ++ a ∷ []) ++ b ∷ []
     → x ≡ and_then (cases_settled o (map item_in xs)) (λ us. answers (ts ++ us))
     → x
@@ -62,7 +63,7 @@ cases_step o (y ∷ z ∷ ys) c v ts new a b x two d e f g same h =
     (subst (λ (us : List Tree). x ≡ and_then (cases_settled o (map item_in ys))
     (λ vs. answers (us ++ vs))) (sym same)
     (pair_settled o (item_in y) (item_in z) (map item_in ys) ts a b x
-    (subst (λ (w : held.Item). settled truth_type (item_in w) ≡ answers a) d f)
+    (subst (λ (w : held.Item). truth_settled (item_in w) ≡ answers a) d f)
     (subst (λ (w : held.Item). settled o (item_in w) ≡ answers b) e g) h))
 
 -- the same of a condition that is made, and of the value after it

@@ -59,7 +59,9 @@ use Rattle.vortex_expressions.specs.Functions.{named_item}
 use Rattle.vortex_syntax.specs.SizeDigits.{text_size_of}
 use Rattle.vortex_sql_texts.specs.declared.parts.Side.TheVariants.{Left}
 use Rattle.vortex_expressions.specs.Joining.{as_text, as_texts, joins}
+use Rattle.vortex_expressions.specs.Truths.{as_truth, truth_settled}
 use Rattle.vortex_expressions.proofs.SureTexts.{sure_as_text, sure_as_texts}
+use Rattle.vortex_expressions.proofs.SureTruths.{sure_as_truth, sure_truth_settled, sure_as_part}
 use Rattle.vortex_expressions.specs.Kinded.{first_kind}
 use Rattle.vortex_expressions.specs.KindWords.{kind_word}
 use Rattle.vortex_expressions.specs.declared.kind_words.KindName.{KindName}
@@ -231,7 +233,7 @@ module _ (columns : Names) (sure_columns : (w : List ℕ) → Sure IsItem (colum
   sure_cases o (v ∷ []) h =
       sure_less _ AllTyped (all_settled o (v ∷ [])) (λ ts j. j.0) (sure_all o (v ∷ []) h)
   sure_cases o (c ∷ v ∷ is) h =
-      sure_then IsTyped AllTyped (settled truth_type c) _ (sure_settled truth_type c h.0)
+      sure_then IsTyped AllTyped (truth_settled c) _ (sure_truth_settled c h.0)
       (λ a j. sure_then IsTyped AllTyped (settled o v) _ (sure_settled o v h.1.0)
       (λ b k. sure_then AllTyped AllTyped (cases_settled o is) _ (sure_cases o is h.1.1)
       (λ ts l. (j, (k, l)))))
@@ -415,10 +417,17 @@ module _ (columns : Names) (sure_columns : (w : List ℕ) → Sure IsItem (colum
   sure_written signs.NotMatches u is e h = sure_function (standard.PatternFunction pattern.NotLike) u is h
   sure_written signs.NotMatchesAnyCase u is e h = sure_function (standard.PatternFunction pattern.NotAnyCase) u is h
 
+  sure_parts_joined : (o : written.WrittenOperator) (a b : Item) → IsItem a → IsItem b
+      → Sure IsItem (calls.parts_joined o a b)
+  sure_parts_joined o a b h k =
+      sure_item _ (sure_written o (calls.joined_type o (a ∷ b ∷ [])) (a ∷ b ∷ []) refl (h, (k, tt)))
+
   sure_plain_joined : (o : written.WrittenOperator) (a b : Item) → IsItem a → IsItem b
       → Sure IsItem (calls.plain_joined o a b)
   sure_plain_joined o a b h k =
-      sure_item _ (sure_written o (calls.joined_type o (a ∷ b ∷ [])) (a ∷ b ∷ []) refl (h, (k, tt)))
+      sure_then IsItem IsItem (calls.as_part o a) _ (sure_as_part o a h)
+      (λ x j. sure_then IsItem IsItem (calls.as_part o b) _ (sure_as_part o b k)
+      (λ y l. sure_parts_joined o x y j l))
 
   sure_concat : (a b : Item) → IsItem a → IsItem b → Sure IsItem (calls.concat_item a b)
   sure_concat a b h k =
@@ -436,6 +445,11 @@ module _ (columns : Names) (sure_columns : (w : List ℕ) → Sure IsItem (colum
   sure_not : (o : Option LogicalType) (i : Item) → IsItem i
       → Sure IsTyped (called (ours Not) o (i ∷ []))
   sure_not o i h = sure_called Not o (i ∷ []) refl (λ ks. refl) (h, tt)
+
+  sure_not_item : (i : Item) → IsItem i → Sure IsItem (calls.not_item i)
+  sure_not_item i h =
+      sure_then IsItem IsItem (as_truth i) _ (sure_as_truth i h)
+      (λ j k. sure_item _ (sure_not calls.truth_type j k))
 
   sure_negated : (n : Bool) (t : Tree) → IsTyped t → Sure IsTyped (calls.negated_if n t)
   sure_negated true t h = sure_not None (bound t) h
@@ -493,8 +507,10 @@ module _ (columns : Names) (sure_columns : (w : List ℕ) → Sure IsItem (colum
   sure_truth_test : (f : Standard) (n : Bool) (i : Item) → IsItem i
       → Sure IsItem (calls.truth_test f n i)
   sure_truth_test f n i h =
-      sure_item _ (sure_then IsTyped IsTyped (called (callable f) calls.truth_type (i ∷ [])) _
-      (sure_function f calls.truth_type (i ∷ []) (h, tt)) (sure_negated n))
+      sure_then IsItem IsItem (as_truth i) _ (sure_as_truth i h)
+      (λ j k. sure_item _ (sure_then IsTyped IsTyped
+      (called (callable f) calls.truth_type (j ∷ [])) _
+      (sure_function f calls.truth_type (j ∷ []) (k, tt)) (sure_negated n)))
 
   sure_tested : (k : Test) (n : Bool) (i : Item) → IsItem i → Sure IsItem (calls.tested_item k n i)
   sure_tested test.Null n i h = sure_null_test n i h
@@ -651,7 +667,7 @@ module _ (columns : Names) (sure_columns : (w : List ℕ) → Sure IsItem (colum
     sure (tree.grouped a) f = sure a f
     sure (tree.negated a) f =
         sure_then IsItem IsItem (item_by columns a) _ (sure a f.1)
-        (λ i h. sure_item _ (sure_not calls.truth_type i h))
+        (λ i h. sure_not_item i h)
     sure (tree.joined o a b) f =
         sure_then IsItem IsItem (item_by columns a) _ (sure a f.2)
         (λ x h. sure_then IsItem IsItem (item_by columns b) _ (sure b f.3)

@@ -8,18 +8,18 @@ use Rattle.vortex_standard.specs.declared.standard.Standard.TheVariants as stand
 use Rattle.vortex_expressions.specs.Literals.{Literal}
 use Rattle.vortex_expressions.specs.Outcomes.{and_then}
 use Rattle.vortex_expressions.specs.Items.{Item, literal, bound, kinded, fraction, interval, Tree}
-use Rattle.vortex_expressions.specs.Items.{meaning, callable, call_of, settled}
-use Rattle.vortex_expressions.specs.Joining.{made_text, typed_text, tree_text, is_text, as_text, as_texts}
+use Rattle.vortex_expressions.specs.Items.{meaning, callable, call_of, settled, made_by}
+use Rattle.vortex_expressions.specs.Joining.{typed_text, tree_text, is_text, as_text, as_texts}
 use Rattle.vortex_expressions.proofs.SureCalls.{Sure, sure_then, sure_if, IsTyped, IsItem, AllItems}
 use Rattle.vortex_expressions.proofs.SureCalls.{sure_named_call, sure_item, sure_settled}
 use Rattle.vortex_expressions.proofs.SureKinds.{sure_from_kind}
 
-sure_made_text : (f : Standard) (t : Tree) → Sure IsItem (made_text f t)
-sure_made_text f t = sure_item (call_of (callable f) (t ∷ [])) (sure_named_call f (t ∷ []))
+pub sure_made_by : (f : Standard) (t : Tree) → Sure IsItem (made_by f t)
+sure_made_by f t = sure_item (call_of (callable f) (t ∷ [])) (sure_named_call f (t ∷ []))
 
 sure_typed_text : (o : Option LogicalType) (t : Tree) → IsTyped t → Sure IsItem (typed_text o t)
-sure_typed_text (Some (integer_type p n)) t h = sure_made_text standard.IntToText t
-sure_typed_text (Some (bool_type n)) t h = sure_made_text standard.TruthToText t
+sure_typed_text (Some (integer_type p n)) t h = sure_made_by standard.IntToText t
+sure_typed_text (Some (bool_type n)) t h = sure_made_by standard.TruthToText t
 sure_typed_text o t h = h
 
 sure_settled_text : (l : Literal) → IsItem (literal l)

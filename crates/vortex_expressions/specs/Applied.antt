@@ -6,8 +6,9 @@ use Rattle.vortex_sql_rows.specs.declared.types.Takes.{Takes}
 use Rattle.vortex_sql_rows.specs.declared.types.Takes.TheVariants.{Alike, Each, Cases}
 use Rattle.vortex_standard.specs.Standard.{row_of}
 use Rattle.vortex_expressions.specs.Outcomes.{Outcome, answers, and_then}
-use Rattle.vortex_expressions.specs.Items.{Item, Tree, common_type, truth_type, settled}
+use Rattle.vortex_expressions.specs.Items.{Item, Tree, common_type, settled}
 use Rattle.vortex_expressions.specs.Items.{all_settled, call_of}
+use Rattle.vortex_expressions.specs.Truths.{truth_settled}
 pub use Rattle.vortex_expressions.specs.Items.{callable}
 
 -- the values of cases: each after its condition, and a last value alone
@@ -16,12 +17,12 @@ values_of [] = []
 values_of (v ∷ []) = v ∷ []
 values_of (c ∷ v ∷ xs) = v ∷ values_of xs
 
--- cases, whose conditions are truth values, and whose values take that type
+-- cases, whose conditions are truth values or whole numbers, and whose values take that type
 abbrev pub cases_settled : Option LogicalType → List Item → Outcome (List Tree)
 cases_settled o [] = answers []
 cases_settled o (v ∷ []) = all_settled o (v ∷ [])
 cases_settled o (c ∷ v ∷ is) =
-    and_then (settled truth_type c) (λ a. and_then (settled o v)
+    and_then (truth_settled c) (λ a. and_then (settled o v)
     (λ b. and_then (cases_settled o is) (λ ts. answers (a ∷ b ∷ ts))))
 
 -- arguments; those that are alike take one type

@@ -47,6 +47,7 @@ use Rattle.vortex_expressions.specs.Applied.{callable, function_call}
 use Rattle.vortex_expressions.specs.Functions.{function_item}
 use Rattle.vortex_expressions.specs.Joining.{as_text}
 use Rattle.vortex_expressions.specs.Items.{constant_at, settled, call_of}
+use Rattle.vortex_expressions.specs.Truths.{as_truth}
 pub use Rattle.vortex_expressions.specs.Items.{as_item, truth_type}
 use Rattle.vortex_expressions.specs.TypeNames.{named_type}
 pub use Rattle.vortex_expressions.specs.Casts.{cast_to}
@@ -265,12 +266,24 @@ negated_if n t = if n then called (ours Not) None (bound t ∷ []) else answers 
 abbrev pub negated_item : Bool → Item → Outcome Item
 negated_item n a = if n then as_item (called (ours Not) None (a ∷ [])) else answers a
 
+abbrev pub not_truth : Item → Outcome Item
+not_truth a = as_item (called (ours Not) truth_type (a ∷ []))
+
 abbrev pub not_item : Item → Outcome Item
-not_item a = as_item (called (ours Not) truth_type (a ∷ []))
+not_item a = and_then (as_truth a) not_truth
+
+-- what an operator joins: And and Or take truth values
+abbrev pub as_part : syntax.WrittenOperator → Item → Outcome Item
+as_part written.Or a = as_truth a
+as_part written.And a = as_truth a
+as_part o a = answers a
+
+abbrev pub parts_joined : syntax.WrittenOperator → Item → Item → Outcome Item
+parts_joined o a b =
+    let is = a ∷ b ∷ [] in as_item (called (written_function o) (joined_type o is) is)
 
 abbrev pub plain_joined : syntax.WrittenOperator → Item → Item → Outcome Item
-plain_joined o a b =
-    let is = a ∷ b ∷ [] in as_item (called (written_function o) (joined_type o is) is)
+plain_joined o a b = and_then (as_part o a) (λ x. and_then (as_part o b) (parts_joined o x))
 
 -- one text after the other: what is no text becomes one
 abbrev pub is_concat : syntax.WrittenOperator → Bool
@@ -288,7 +301,9 @@ joined_item o a b =
 
 -- a test of a truth value; null is one
 abbrev pub truth_test : Standard → Bool → Item → Outcome Item
-truth_test f n a = as_item (and_then (called (callable f) truth_type (a ∷ [])) (negated_if n))
+truth_test f n a =
+    and_then (as_truth a)
+    (λ b. as_item (and_then (called (callable f) truth_type (b ∷ [])) (negated_if n)))
 
 abbrev pub tested_item : Test → Bool → Item → Outcome Item
 tested_item test.Null n a = as_item (called (ours (NullTest n)) None (stored_item a ∷ []))

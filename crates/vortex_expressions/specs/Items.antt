@@ -131,6 +131,10 @@ call_of f ts =
     else refused_at (place_of f (types_or_none (tree_types meaning (trees_of ts)))))
     else unfit f (length ts)
 
+-- what one of SQL's functions makes of a tree
+abbrev pub made_by : Standard → Tree → Outcome Item
+made_by f t = as_item (call_of (callable f) (t ∷ []))
+
 -- a tree, cast to the type if there is one; no row faults
 abbrev pub widened : Option PType → Tree → Outcome Tree
 widened None a = answers a

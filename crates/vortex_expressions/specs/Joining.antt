@@ -9,17 +9,14 @@ use Rattle.vortex_standard.specs.declared.standard.Standard.TheVariants as stand
 use Rattle.vortex_expressions.specs.Literals.{Literal, text, null}
 use Rattle.vortex_expressions.specs.Outcomes.{Outcome, answers, and_then}
 use Rattle.vortex_expressions.specs.Items.{Item, literal, bound, kinded, Tree, meaning, as_item}
-use Rattle.vortex_expressions.specs.Items.{callable, call_of, settled}
+use Rattle.vortex_expressions.specs.Items.{made_by, settled}
 use Rattle.vortex_expressions.specs.Applied.{function_call}
 use Rattle.vortex_expressions.specs.KindCasts.{from_kind}
 
-abbrev pub made_text : Standard → Tree → Outcome Item
-made_text f t = as_item (call_of (callable f) (t ∷ []))
-
 -- a whole number or a truth value as its text
 abbrev pub typed_text : Option LogicalType → Tree → Outcome Item
-typed_text (Some (integer_type p n)) t = made_text standard.IntToText t
-typed_text (Some (bool_type n)) t = made_text standard.TruthToText t
+typed_text (Some (integer_type p n)) t = made_by standard.IntToText t
+typed_text (Some (bool_type n)) t = made_by standard.TruthToText t
 typed_text o t = answers (bound t)
 
 abbrev pub tree_text : Tree → Outcome Item

@@ -4,6 +4,7 @@ pub mod Answering
 pub mod Meeting
 pub mod Months
 pub mod Items
+pub mod Truths
 pub mod Applied
 pub mod TypeNames
 pub mod Casts

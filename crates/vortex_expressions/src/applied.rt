@@ -5,7 +5,7 @@ ghost use Rattle.vortex_types.specs.TypeOf.{type_of};
 ghost use Rattle.vortex_expressions.specs.Applied as specs;
 ghost use Rattle.vortex_expressions.specs.Meeting as meetings;
 ghost use Rattle.vortex_expressions.specs.Items.{item_in, bound_type, literals_type};
-ghost use Rattle.vortex_expressions.specs.Items.{common_type, settled, truth_type};
+ghost use Rattle.vortex_expressions.specs.Items.{common_type};
 ghost use Rattle.vortex_expressions.specs.Answering.{Gives};
 
 use crate::item::{
@@ -13,8 +13,9 @@ use crate::item::{
 };
 use crate::meeting::met_next;
 use crate::refusal::BindStop;
+use crate::truths::settle_truth;
 use std::alloc::Global;
-use vortex_columns::{DType, Nullability, VortexResult};
+use vortex_columns::{DType, VortexResult};
 use vortex_functions::BoundExpression;
 use vortex_standard::{Standard, Takes};
 
@@ -57,15 +58,7 @@ pub(crate) fn common_value_type(alloc: Global, items: &[Item]) -> VortexResult<O
     }
 }
 
-/// A condition: a literal becomes a truth value.
-fn settle_condition(alloc: Global, item: &Item) -> Result<BoundExpression<Standard>, BindStop>
-    ensures { Gives (λ t. t) result (settled truth_type (item_in item.now)) }
-{
-    let truth = DType::Bool(Nullability::NonNullable);
-    item.settle(alloc, Some(&truth))
-}
-
-/// Cases: conditions are truth values, and values take that type.
+/// Cases: conditions are truth values or whole numbers, and values take that type.
 fn settle_cases(
     alloc: Global,
     beside: Option<&DType>,
@@ -77,7 +70,7 @@ fn settle_cases(
     let mut trees = Vec::new(alloc);
     let mut rest = items;
     while let [condition, value, more @ ..] = rest {
-        trees.push(settle_condition(alloc, condition)?)?;
+        trees.push(settle_truth(alloc, condition)?)?;
         trees.push(value.settle(alloc, beside)?)?;
         rest = more;
     }

@@ -21,6 +21,7 @@ use crate::kinded::{is_kinded, is_plain, kinded_joined, stored_item, stores};
 use crate::literal::{Literal, has_fraction};
 use crate::quotes::{between_quotes, text_of};
 use crate::refusal::{BindStop, Refusal};
+use crate::truths::as_truth;
 use std::alloc::Global;
 use vortex_columns::{DType, Nullability, StructFields, VortexResult};
 use vortex_functions::{BoundExpression, ScalarFnRef};
@@ -242,14 +243,27 @@ fn negated_item(alloc: Global, negated: bool, item: Item) -> Result<Item, BindSt
 pub(crate) fn not_item(alloc: Global, item: Item) -> Result<Item, BindStop>
     ensures { Gives item_in result (specs.not_item (item_in item)) }
 {
+    let item = as_truth(alloc, item)?;
     let truth = DType::Bool(Nullability::NonNullable);
     let tree = called(alloc, ScalarFnRef::Not, Some(&truth), vec![in alloc; item]?)?;
     Ok(Item::Bound(tree))
 }
 
+/// What an operator joins: AND and OR take truth values.
+fn as_part(alloc: Global, written: Written, item: Item) -> Result<Item, BindStop>
+    ensures { Gives item_in result (specs.as_part written (item_in item)) }
+{
+    match written {
+        Written::Or | Written::And => as_truth(alloc, item),
+        _ => Ok(item),
+    }
+}
+
 fn plain_joined(alloc: Global, written: Written, left: Item, right: Item) -> Result<Item, BindStop>
     ensures { Gives item_in result (specs.plain_joined written (item_in left) (item_in right)) }
 {
+    let left = as_part(alloc, written, left)?;
+    let right = as_part(alloc, written, right)?;
     let items = vec![in alloc; left, right]?;
     let dtype = joined_type(alloc, written, &items)?;
     let tree = called(alloc, written_function(written), dtype.as_ref(), items)?;
@@ -311,6 +325,7 @@ fn truth_test(
 ) -> Result<Item, BindStop>
     ensures { Gives item_in result (specs.truth_test function negated (item_in item)) }
 {
+    let item = as_truth(alloc, item)?;
     let truth = DType::Bool(Nullability::NonNullable);
     let tree = called(
         alloc,

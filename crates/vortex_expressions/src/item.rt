@@ -255,6 +255,18 @@ pub(crate) fn call_of(
     }
 }
 
+/// What one of SQL's functions makes of a tree.
+pub(crate) fn made_by(
+    alloc: Global,
+    function: Standard,
+    tree: BoundExpression<Standard>,
+) -> Result<Item, BindStop>
+    ensures { Gives item_in result (specs.made_by function tree) }
+{
+    let tree = call_of(alloc, callable(function), vec![in alloc; tree]?)?;
+    Ok(Item::Bound(tree))
+}
+
 /// A tree, cast to the integer type if there is one.
 fn widened(
     alloc: Global,

@@ -6,7 +6,7 @@ ghost use Rattle.vortex_expressions.specs.Literals.{literal_in};
 ghost use Rattle.vortex_expressions.specs.Answering.{Gives};
 
 use crate::applied::function_call;
-use crate::item::{Item, call_of, callable};
+use crate::item::{Item, made_by};
 use crate::kind_casts::written;
 use crate::literal::Literal;
 use crate::refusal::BindStop;
@@ -15,25 +15,13 @@ use vortex_columns::DType;
 use vortex_functions::BoundExpression;
 use vortex_standard::Standard;
 
-/// A tree that a function makes a text.
-fn made_text(
-    alloc: Global,
-    function: Standard,
-    tree: BoundExpression<Standard>,
-) -> Result<Item, BindStop>
-    ensures { Gives item_in result (specs.made_text function tree) }
-{
-    let tree = call_of(alloc, callable(function), vec![in alloc; tree]?)?;
-    Ok(Item::Bound(tree))
-}
-
 /// A whole number or a truth value as its text; any other tree is unchanged.
 fn tree_text(alloc: Global, tree: BoundExpression<Standard>) -> Result<Item, BindStop>
     ensures { Gives item_in result (specs.tree_text tree) }
 {
     match tree.dtype() {
-        DType::Primitive(_, _) => made_text(alloc, Standard::IntToText, tree),
-        DType::Bool(_) => made_text(alloc, Standard::TruthToText, tree),
+        DType::Primitive(_, _) => made_by(alloc, Standard::IntToText, tree),
+        DType::Bool(_) => made_by(alloc, Standard::TruthToText, tree),
         _ => Ok(Item::Bound(tree)),
     }
 }

@@ -38,6 +38,7 @@ pub mod refusal;
 mod spelled;
 mod syntax_texts;
 mod tasks;
+mod truths;
 mod unheld;
 mod unknown_columns;
 pub mod words;

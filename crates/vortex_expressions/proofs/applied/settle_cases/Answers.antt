@@ -8,8 +8,8 @@ pub loop-rest-preserved : goal.loop-rest-preserved
 loop-rest-preserved c =
     cases_step (option_map (λ t. type_of t.now) c.args.beside) c.loop-rest.rest.now
     c.condition-item.result c.value-item.result c.loop-rest.trees.items _
-    c.in_ok-settle_condition.field-0 c.in_ok-settle.field-0 _ c.in-len2-up.len_at_least
-    c.condition-item.is c.value-item.is c.in_ok-settle_condition.ensures c.in_ok-settle.ensures
+    c.in_ok-settle_truth.field-0 c.in_ok-settle.field-0 _ c.in-len2-up.len_at_least
+    c.condition-item.is c.value-item.is c.in_ok-settle_truth.ensures c.in_ok-settle.ensures
     (c.in_ok-push-2.ensures.items
     ∙ ap (λ (ts : List Tree). ts ++ c.in_ok-settle.field-0 ∷ []) c.in_ok-push.ensures.items)
     c.loop-rest.invariant
