@@ -3,10 +3,10 @@
 use Rattle.std.proofs.Common.{◌≡◌, true, false, ◌&&◌, List, [], ◌∷◌, ◌++◌, ℕ}
 use Rattle.std.proofs.Common.{Option, Some, None, refl, ap, sym, subst, ◌∙◌, append_assoc, reverse}
 use Rattle.std.proofs.Common.{length, option_map}
-use Rattle.std.specs.Prelude.{is_some}
+use Rattle.std.specs.Prelude.{is_some, if◌then◌else◌}
 use Rattle.std.proofs.lemmas.Bool.{and_parts}
 use Rattle.std.proofs.lemmas.List.{reverse-append}
-use Rattle.vortex_types.specs.LogicalTypes.{LogicalType, Fields, bool_type}
+use Rattle.vortex_types.specs.LogicalTypes.{LogicalType, Fields, is_integer_type}
 use Rattle.vortex_types.specs.TypeEquality.{alike_types}
 use Rattle.vortex_interface.specs.Meaning.{fits}
 use Rattle.vortex_interface.specs.Functions.{custom}
@@ -16,6 +16,7 @@ use Rattle.vortex_interface.specs.Trees.{call, no_trees, trees_of, list_of}
 use Rattle.vortex_interface.specs.declared.options.EmptyOptions.{EmptyOptions}
 use Rattle.vortex_interface.proofs.StepPlaces.{same_trees}
 use Rattle.vortex_standard.specs.declared.standard.Standard.{Standard}
+use Rattle.vortex_sql_rows.specs.declared.types.Kind.{Kind}
 use Rattle.vortex_sql_rows.specs.declared.types.Kind.TheVariants as kind
 use Rattle.vortex_sql_rows.specs.declared.types.Takes.{Takes}
 use Rattle.vortex_sql_rows.specs.declared.types.Takes.TheVariants.{Alike, Each, Cases}
@@ -32,6 +33,11 @@ use Rattle.vortex_expressions.specs.Items.{Item, Tree, meaning, callable, common
 use Rattle.vortex_expressions.specs.Items.{settled, all_settled, call_of, as_item}
 use Rattle.vortex_expressions.specs.Applied.{values_of, cases_settled, arguments_settled}
 use Rattle.vortex_expressions.specs.Applied.{function_call}
+use Rattle.vortex_expressions.specs.Arguments.{type_of_null, is_null, settled_at, each_settled}
+use Rattle.vortex_expressions.specs.Arguments.{alike_type}
+use Rattle.std.specs.List.{list_all}
+use Rattle.vortex_expressions.specs.Literals as literals
+use Rattle.vortex_expressions.specs.Items.{literal, bound, kinded, fraction, interval}
 use Rattle.vortex_expressions.specs.Functions.{function_item, applied_item}
 use Rattle.vortex_expressions.proofs.PlainItems.{AllPlain, function_plain, applied_plain}
 use Rattle.vortex_expressions.specs.Binding.{with_item, of_items, item_of, items_of}
@@ -173,15 +179,55 @@ case_conditions v (c ∷ u ∷ us) h =
     let q = and_parts (alike_types v u) (are_cases v us) p.1 in
     (condition_takes c p.0, case_conditions v us q.1)
 
+-- nulls among arguments have types, as all literals that stand for trees have
+stands_typed : (i : Item) (t : Tree) → Stands i t → is_null i ≡ false
+stands_typed (bound u) t st = refl
+stands_typed (kinded k u) t st = refl
+stands_typed (fraction w) t st = refl
+stands_typed (interval z) t st = refl
+stands_typed (literal (literals.number w)) t st = refl
+stands_typed (literal (literals.text bs)) t st = refl
+stands_typed (literal (literals.truth b)) t st = refl
+stands_typed (literal literals.null) t st = absurd (let e = st.2 in cc)
+
+settles_at : (k : Kind) (i : Item) (t : Tree) (ty : LogicalType) → Stands i t
+    → tree_type meaning t ≡ Some ty → settled_at k i ≡ answers t
+settles_at k i t ty st e =
+    ap (λ b. settled (if b then type_of_null k else None) i) (stands_typed i t st)
+    ∙ settles None i t ty st e (none_beside ty)
+
+each_back : (a b c : Kind) (is : List Item) (ts : Trees) (us : List LogicalType)
+    → EachStands is ts → tree_types meaning ts ≡ Some us
+    → each_settled a b c is ≡ answers (list_of ts)
+each_back a b c [] no_trees us h e = refl
+each_back a b c (i ∷ is) (trees.tree t ts) us h e =
+    let p = head_is (tree_type meaning t) (tree_types meaning ts) us e in
+    ap (λ v. and_then v (λ t. and_then (each_settled b c c is) (λ ts. answers (t ∷ ts))))
+    (settles_at a i t p.first h.0 p.here)
+    ∙ ap (λ v. and_then v (λ ts. answers (t ∷ ts))) (each_back b c c is ts p.rest h.1 p.others)
+each_back a b c [] (trees.tree t ts) us h e = absurd h
+each_back a b c (i ∷ is) no_trees us h e = absurd h
+
+alike_back : (k : Kind) (is : List Item) (ts : Trees) (v : LogicalType) (us : List LogicalType)
+    → EachStands is ts → tree_types meaning ts ≡ Some (v ∷ us)
+    → alike_type k is ≡ common_type is
+alike_back k [] no_trees v us h e = absurd cc
+alike_back k (i ∷ is) (trees.tree t ts) v us h e =
+    ap (λ b. if b && list_all is_null is then type_of_null k else common_type (i ∷ is))
+    (stands_typed i t h.0)
+alike_back k [] (trees.tree t ts) v us h e = absurd h
+alike_back k (i ∷ is) no_trees v us h e = absurd h
+
 arguments_back : (s : Takes) (is : List Item) (ts : Trees) (us : List LogicalType)
     → EachStands is ts → tree_types meaning ts ≡ Some us → are_taken s us ≡ true
     → arguments_settled s is ≡ answers (list_of ts)
-arguments_back (Each a b c) is ts us h e g = settled_each None is ts us h e (none_each us)
+arguments_back (Each a b c) is ts us h e g = each_back a b c is ts us h e
 arguments_back (Alike k) is ts (v ∷ us) h e g =
     let p = and_parts (is_kind k v) (all_alike v us) g in
     let each : EachAlike v (v ∷ us) = (refl, all_alike_each v us p.1) in
     let typed = types_there is ts (v ∷ us) h e in
-    settled_each (common_type is) is ts (v ∷ us) h e
+    ap (λ o. all_settled o is) (alike_back k is ts v us h e)
+    ∙ settled_each (common_type is) is ts (v ∷ us) h e
     (alike_each v (common_type is) (v ∷ us) (λ w. common_alike v w is (v ∷ us) typed each) each)
 arguments_back (Alike k) is ts [] h e g = absurd cc
 arguments_back Cases is ts (c ∷ v ∷ us) h e g =

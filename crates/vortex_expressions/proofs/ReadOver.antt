@@ -73,6 +73,9 @@ use Rattle.vortex_expressions.specs.Calls.{liked_item, matched_item, minus_item,
 use Rattle.vortex_expressions.specs.Calls.{plus_item, bit_not_item, is_number}
 use Rattle.vortex_expressions.specs.Calls.{equal_cases, conditions_of, chosen_item, truth_test}
 use Rattle.vortex_expressions.specs.Applied.{values_of, cases_settled, arguments_settled}
+use Rattle.vortex_expressions.specs.Arguments.{type_of_null, is_null, settled_at, each_settled}
+use Rattle.vortex_expressions.specs.Arguments.{alike_type}
+use Rattle.vortex_sql_rows.specs.declared.types.Kind.{Kind}
 use Rattle.vortex_expressions.specs.Applied.{function_call}
 use Rattle.vortex_expressions.specs.Functions.{function_item, applied_item}
 use Rattle.vortex_expressions.specs.Meeting.{widened_to}
@@ -451,10 +454,22 @@ module _ (scope : Fields) where
         (settled_over o v n.a h.1.0 n.first, cases_over o is k.a h.1.1 k.first),
       )
 
+  each_over : (a b c : Kind) (is : List Item) (ts : List Tree) → AllItems is
+      → each_settled a b c is ≡ answers ts → AllOver scope (trees_of ts)
+  each_over a b c [] ts h e =
+      subst (λ (xs : List Tree). AllOver scope (trees_of xs)) (answers_is [] ts e) tt
+  each_over a b c (i ∷ is) ts h e =
+      let m = then_is (settled_at a i)
+      (λ t. and_then (each_settled b c c is) (λ us. answers (t ∷ us))) ts e in
+      let k = then_is (each_settled b c c is) (λ us. answers (m.a ∷ us)) ts m.second in
+      subst (λ (xs : List Tree). AllOver scope (trees_of xs)) (answers_is (m.a ∷ k.a) ts k.second)
+      (settled_over (if is_null i then type_of_null a else None) i m.a h.0 m.first,
+      each_over b c c is k.a h.1 k.first)
+
   arguments_over : (s : Takes) (is : List Item) (ts : List Tree) → AllItems is
       → arguments_settled s is ≡ answers ts → AllOver scope (trees_of ts)
-  arguments_over (Alike k) is ts h e = all_over (common_type is) is ts h e
-  arguments_over (Each a b c) is ts h e = all_over None is ts h e
+  arguments_over (Alike k) is ts h e = all_over (alike_type k is) is ts h e
+  arguments_over (Each a b c) is ts h e = each_over a b c is ts h e
   arguments_over Cases is ts h e = cases_over (common_type (values_of is)) is ts h e
 
   call_over : (f : Standard) (is : List Item) (t : Tree) → AllItems is

@@ -49,6 +49,8 @@ use Rattle.vortex_expressions.specs.Calls as calls
 use Rattle.vortex_expressions.specs.Calls.{Names, names_of, names_in}
 use Rattle.vortex_logical.specs.declared.kind.Kind.{Kind}
 use Rattle.vortex_expressions.specs.Applied.{values_of, cases_settled, arguments_settled}
+use Rattle.vortex_expressions.specs.Arguments.{type_of_null, is_null, each_settled, alike_type}
+use Rattle.vortex_sql_rows.specs.declared.types.Kind as rows
 use Rattle.vortex_expressions.specs.Applied.{function_call}
 use Rattle.vortex_expressions.specs.Functions.{values_in, call_kind, met_values, aligned_arguments}
 use Rattle.vortex_expressions.specs.Functions.{kinded_call, function_item, applied_item}
@@ -238,13 +240,21 @@ module _ (columns : Names) (sure_columns : (w : List ℕ) → Sure IsItem (colum
       (λ b k. sure_then AllTyped AllTyped (cases_settled o is) _ (sure_cases o is h.1.1)
       (λ ts l. (j, (k, l)))))
 
+  sure_each : (a b c : rows.Kind) (is : List Item) → AllItems is
+      → Sure AllTyped (each_settled a b c is)
+  sure_each a b c [] h = tt
+  sure_each a b c (i ∷ is) h =
+      let o = if is_null i then type_of_null a else None in
+      sure_then IsTyped AllTyped (settled o i) _ (sure_settled o i h.0)
+      (λ t j. sure_then AllTyped AllTyped (each_settled b c c is) _ (sure_each b c c is h.1)
+      (λ ts k. (j, k)))
+
   sure_arguments : (s : Takes) (is : List Item) → AllItems is
       → Sure AllTyped (arguments_settled s is)
   sure_arguments (Alike k) is h =
-      sure_less _ AllTyped (all_settled (common_type is) is) (λ ts j. j.0)
-      (sure_all (common_type is) is h)
-  sure_arguments (Each a b c) is h =
-      sure_less _ AllTyped (all_settled None is) (λ ts j. j.0) (sure_all None is h)
+      sure_less _ AllTyped (all_settled (alike_type k is) is) (λ ts j. j.0)
+      (sure_all (alike_type k is) is h)
+  sure_arguments (Each a b c) is h = sure_each a b c is h
   sure_arguments Cases is h = sure_cases (common_type (values_of is)) is h
 
   sure_call_on : (f : Standard) (is : List Item) → AllItems is → Sure IsTyped (function_call f is)

@@ -9,6 +9,7 @@ use Rattle.vortex_expressions.specs.Outcomes.{Outcome, answers, and_then}
 use Rattle.vortex_expressions.specs.Items.{Item, Tree, common_type, settled}
 use Rattle.vortex_expressions.specs.Items.{all_settled, call_of}
 use Rattle.vortex_expressions.specs.Truths.{truth_settled}
+use Rattle.vortex_expressions.specs.Arguments.{alike_settled, each_settled}
 pub use Rattle.vortex_expressions.specs.Items.{callable}
 
 -- the values of cases: each after its condition, and a last value alone
@@ -27,8 +28,8 @@ cases_settled o (c ∷ v ∷ is) =
 
 -- arguments; those that are alike take one type
 abbrev pub arguments_settled : Takes → List Item → Outcome (List Tree)
-arguments_settled (Alike k) is = all_settled (common_type is) is
-arguments_settled (Each a b c) is = all_settled None is
+arguments_settled (Alike k) is = alike_settled k is
+arguments_settled (Each a b c) is = each_settled a b c is
 arguments_settled Cases is = cases_settled (common_type (values_of is)) is
 
 -- the call on items

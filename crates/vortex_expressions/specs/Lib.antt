@@ -5,6 +5,7 @@ pub mod Meeting
 pub mod Months
 pub mod Items
 pub mod Truths
+pub mod Arguments
 pub mod Applied
 pub mod TypeNames
 pub mod Casts

@@ -8,9 +8,8 @@ ghost use Rattle.vortex_expressions.specs.Items.{item_in, bound_type, literals_t
 ghost use Rattle.vortex_expressions.specs.Items.{common_type};
 ghost use Rattle.vortex_expressions.specs.Answering.{Gives};
 
-use crate::item::{
-    Item, call_of, callable, common_type, literals_type, meeting_type, next_literal, settle_all,
-};
+use crate::arguments::{settle_alike, settle_each};
+use crate::item::{Item, call_of, callable, literals_type, meeting_type, next_literal};
 use crate::meeting::met_next;
 use crate::refusal::BindStop;
 use crate::truths::settle_truth;
@@ -90,11 +89,8 @@ fn settle_arguments(
         (specs.arguments_settled takes (map item_in items.now)) }
 {
     match takes {
-        Takes::Alike(_) => {
-            let dtype = common_type(alloc, items)?;
-            settle_all(alloc, dtype.as_ref(), items)
-        }
-        Takes::Each(_, _, _) => settle_all(alloc, None, items),
+        Takes::Alike(kind) => settle_alike(alloc, kind, items),
+        Takes::Each(first, second, others) => settle_each(alloc, first, second, others, items),
         Takes::Cases => {
             let dtype = common_value_type(alloc, items)?;
             settle_cases(alloc, dtype.as_ref(), items)

@@ -3,6 +3,7 @@
 
 pub mod answers;
 mod applied;
+mod arguments;
 mod binder;
 mod bounds;
 mod calls;
