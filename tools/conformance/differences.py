@@ -29,7 +29,7 @@ ASKED = [
     "one * 0.1 * 3",
     "9007199254740993 > 9007199254740992.5",
     "cast(2.5 as int)",
-    "abs(null)",
+    "one and one = 1",
     "One = 1",
     "yes = not yes",
     "one < 2 = yes",
