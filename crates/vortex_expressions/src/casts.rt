@@ -54,6 +54,8 @@ fn sql_type(word: &str, nullability: Nullability) -> Option<DType>
 {
     if is_same_word(word, "boolean") {
         Some(DType::Bool(nullability))
+    } else if is_same_word(word, "tinyint") {
+        Some(DType::Primitive(PType::I8, nullability))
     } else if is_smallint(word) {
         Some(DType::Primitive(PType::I16, nullability))
     } else if is_int(word) {

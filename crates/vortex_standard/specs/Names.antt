@@ -8,6 +8,7 @@ use Rattle.std.specs.Str.{bytes_eq}
 use Rattle.vortex_standard.specs.declared.names.TheConstants.{FUNCTIONS, KEY_FUNCTIONS}
 use Rattle.vortex_standard.specs.declared.standard.Standard.{Standard}
 use Rattle.vortex_standard.specs.declared.standard.Standard.TheVariants as standard
+use Rattle.vortex_sql_numbers.specs.declared.bits.BitOperator.TheVariants as bits
 use Rattle.vortex_sql_texts.specs.declared.letters.Letters.TheVariants.{Lower, Upper}
 use Rattle.vortex_sql_texts.specs.declared.texts.Measure.TheVariants.{Characters}
 use Rattle.vortex_sql_texts.specs.declared.trims.Trim.TheVariants.{Both}
@@ -38,6 +39,11 @@ alias_of w =
     else if same_word w (codes "trim") then Some (standard.Trim Both)
     else if same_word w (codes "char_length") then Some (standard.Measure Characters)
     else if same_word w (codes "character_length") then Some (standard.Measure Characters)
+    else if same_word w (codes "mid") then Some standard.Substr
+    else if same_word w (codes "bitand") then Some (standard.BitOperator bits.And)
+    else if same_word w (codes "bitor") then Some (standard.BitOperator bits.Or)
+    else if same_word w (codes "bitxor") then Some (standard.BitOperator bits.Xor)
+    else if same_word w (codes "bitnot") then Some standard.BitNot
     else None
 
 -- every function

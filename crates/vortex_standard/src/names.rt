@@ -352,6 +352,16 @@ fn alias_of(word: &[u8]) -> Option<Standard>
         Some(Standard::Measure(Measure::Characters))
     } else if is_same_word(word, b"character_length") {
         Some(Standard::Measure(Measure::Characters))
+    } else if is_same_word(word, b"mid") {
+        Some(Standard::Substr)
+    } else if is_same_word(word, b"bitand") {
+        Some(Standard::BitOperator(BitOperator::And))
+    } else if is_same_word(word, b"bitor") {
+        Some(Standard::BitOperator(BitOperator::Or))
+    } else if is_same_word(word, b"bitxor") {
+        Some(Standard::BitOperator(BitOperator::Xor))
+    } else if is_same_word(word, b"bitnot") {
+        Some(Standard::BitNot)
     } else {
         None
     }
