@@ -16,8 +16,7 @@ ghost use Rattle.vortex_expressions.specs.Answering.{Gives, StopsBy};
 
 use crate::bounds::between_item;
 use crate::calls::{
-    bit_not_item, distinct_item, joined_item, listed_item, minus_item, negative_item, not_item,
-    operand_item, plus_item, tested_item,
+    bit_not_item, joined_item, minus_item, negative_item, not_item, operand_item, plus_item,
 };
 use crate::cases::chosen_item;
 use crate::functions::applied_by;
@@ -25,6 +24,7 @@ use crate::item::{Item, LogicalTree};
 use crate::kind_casts::cast_by;
 use crate::kind_names::{are_given, typed_by};
 use crate::patterns::matched_item;
+use crate::predicates::{distinct_item, listed_item, tested_item};
 use crate::refusal::BindStop;
 use std::alloc::Global;
 use vortex_columns::StructFields;

@@ -4,7 +4,6 @@ ghost use Rattle.std.specs.Prelude.{string_bytes};
 ghost use Rattle.vortex_errors.specs.Answers.{AnswersUnlessMemory};
 ghost use Rattle.vortex_types.specs.TypeOf.{type_of, struct_fields};
 ghost use Rattle.vortex_functions.specs.FunctionOf.{function_of};
-ghost use Rattle.vortex_syntax.specs.declared.step.Test.TheVariants.{Null};
 ghost use Rattle.vortex_syntax.specs.Tokens.{token_in};
 ghost use Rattle.vortex_expressions.specs.Calls as specs;
 ghost use Rattle.vortex_expressions.specs.Items.{item_in};
@@ -13,11 +12,10 @@ ghost use Rattle.vortex_expressions.specs.Answering.{Gives};
 
 use crate::applied::function_call;
 use crate::casts::type_of_name;
-use crate::functions::function_item;
 use crate::item::{Item, callable, called, common_type, constant_at};
 use crate::joining::as_text;
 use crate::kind_names::are_given;
-use crate::kinded::{is_kinded, is_plain, kinded_joined, stored_item, stores};
+use crate::kinded::{is_kinded, is_plain, kinded_joined, stores};
 use crate::literal::{Literal, has_fraction};
 use crate::quotes::{between_quotes, text_of};
 use crate::refusal::{BindStop, Refusal};
@@ -27,8 +25,8 @@ use vortex_columns::{DType, Nullability, StructFields, VortexResult};
 use vortex_functions::{BoundExpression, ScalarFnRef};
 use vortex_logical::kind::Kind;
 use vortex_operators::Operator;
-use vortex_standard::{BitOperator, PatternFunction, Shift, Standard, TruthTest};
-use vortex_syntax::{Sign, Test, Token, WrittenOperator as Written};
+use vortex_standard::{BitOperator, PatternFunction, Shift, Standard};
+use vortex_syntax::{Sign, Token, WrittenOperator as Written};
 
 /// The kind at a place in a list.
 fn listed_kind(kinds: &[Kind], place: usize) -> Option<&Kind>
@@ -230,7 +228,7 @@ pub(crate) fn negated_if(
 }
 
 /// A truth value, or NOT of it if the flag is true.
-fn negated_item(alloc: Global, negated: bool, item: Item) -> Result<Item, BindStop>
+pub(crate) fn negated_item(alloc: Global, negated: bool, item: Item) -> Result<Item, BindStop>
     ensures { Gives item_in result (specs.negated_item negated (item_in item)) }
 {
     if !negated {
@@ -303,81 +301,6 @@ pub(crate) fn joined_item(
     }
 }
 
-/// IS NULL, or IS NOT NULL.
-fn null_item(alloc: Global, negated: bool, item: Item) -> Result<Item, BindStop>
-    ensures { Gives item_in result (specs.tested_item Null negated (item_in item)) }
-{
-    let function = if negated {
-        ScalarFnRef::IsNotNull
-    } else {
-        ScalarFnRef::IsNull
-    };
-    let tree = called(alloc, function, None, vec![in alloc; stored_item(item)]?)?;
-    Ok(Item::Bound(tree))
-}
-
-/// A test of a truth value, negated if the flag is true; null is a truth value here.
-fn truth_test(
-    alloc: Global,
-    function: Standard,
-    negated: bool,
-    item: Item,
-) -> Result<Item, BindStop>
-    ensures { Gives item_in result (specs.truth_test function negated (item_in item)) }
-{
-    let item = as_truth(alloc, item)?;
-    let truth = DType::Bool(Nullability::NonNullable);
-    let tree = called(
-        alloc,
-        callable(function),
-        Some(&truth),
-        vec![in alloc; item]?,
-    )?;
-    Ok(Item::Bound(negated_if(alloc, negated, tree)?))
-}
-
-/// IS of a test, or IS NOT.
-pub(crate) fn tested_item(
-    alloc: Global,
-    test: Test,
-    negated: bool,
-    item: Item,
-) -> Result<Item, BindStop>
-    ensures { Gives item_in result (specs.tested_item test negated (item_in item)) }
-{
-    match test {
-        Test::Null => null_item(alloc, negated, item),
-        Test::True => truth_test(alloc, Standard::TruthTest(TruthTest::IsTrue), negated, item),
-        Test::False => truth_test(
-            alloc,
-            Standard::TruthTest(TruthTest::IsFalse),
-            negated,
-            item,
-        ),
-        Test::Unknown => {
-            truth_test(
-                alloc,
-                Standard::TruthTest(TruthTest::IsUnknown),
-                negated,
-                item,
-            )
-        }
-    }
-}
-
-/// IS DISTINCT FROM, or IS NOT DISTINCT FROM.
-pub(crate) fn distinct_item(
-    alloc: Global,
-    negated: bool,
-    left: Item,
-    right: Item,
-) -> Result<Item, BindStop>
-    ensures { Gives item_in result (specs.distinct_item negated (item_in left) (item_in right)) }
-{
-    let item = function_item(alloc, Standard::IsDistinct, vec![in alloc; left, right]?)?;
-    negated_item(alloc, negated, item)
-}
-
 /// A minus sign: the difference from zero.
 pub(crate) fn minus_item(alloc: Global, item: Item) -> Result<Item, BindStop>
     ensures { Gives item_in result (specs.minus_item (item_in item)) }
@@ -410,12 +333,4 @@ pub(crate) fn bit_not_item(alloc: Global, item: Item) -> Result<Item, BindStop>
 {
     let tree = function_call(alloc, Standard::BitNot, vec![in alloc; item]?)?;
     Ok(Item::Bound(tree))
-}
-
-/// IN, whose operand is the first of the items, or NOT IN.
-pub(crate) fn listed_item(alloc: Global, negated: bool, items: Vec<Item>) -> Result<Item, BindStop>
-    ensures { Gives item_in result (specs.listed_item negated (map item_in items.items)) }
-{
-    let item = function_item(alloc, Standard::InList, items)?;
-    negated_item(alloc, negated, item)
 }

@@ -22,6 +22,9 @@ use vortex_logical_calls as calls;
 use vortex_standard::{Takes, has_all_of};
 use vortex_syntax::{Call, Step, SyntaxTree, WrittenOperator};
 
+/// The names of types without a kind.
+const TYPES: &str = "bool, utf8, i8, i16, i32, i64, u8, u16, u32 and u64, or SQL's int, text, ..";
+
 /// How many items a step takes; the end takes all that are left.
 fn operand_count(step: Option<&Step<'_>>) -> usize {
     match step {
@@ -262,9 +265,8 @@ impl<'a> TextFailure<'a> {
     /// That no type has that name.
     fn type_text(&self) -> VortexResult<String> {
         let found = found_at(self.text, self.byte);
-        let mut out = format!(in self.alloc;
-            "no type {found}; types are bool, utf8, i8, i16, i32, i64, u8, u16, u32 and u64, or SQL's int, text, .., with ? where they have null"
-        )?;
+        let mut out =
+            format!(in self.alloc; "no type {found}; types are {TYPES}, with ? where they have null")?;
         if !self.kinds.is_empty() {
             out.push_str("; and f64, f32, date, timestamp, decimal(12,2) and interval")?;
         }

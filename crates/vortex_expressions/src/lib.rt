@@ -33,6 +33,7 @@ mod meeting;
 mod messages;
 mod number_functions;
 mod patterns;
+mod predicates;
 pub mod quotes;
 pub mod read;
 pub mod refusal;
