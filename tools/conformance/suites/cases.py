@@ -123,6 +123,14 @@ class Case:
 
 def left_out(engine, toks):
     """Why an expression is left out, or None."""
+    if any(lower(t) in ("sql_buffer_result", "sql_cache", "sql_calc_found_rows", "duplicate")
+           for t in toks) or toks[-1][1] in ("=", "*", "<", ">") or toks[0][1] == "%" or \
+            any(a[0] == b[0] == "number" for a, b in zip(toks, toks[1:])):
+        return "no whole expression"
+    if any(a[1] == "(" and b[1] == ")" and (i == 0 or toks[i - 1][0] == "word" and
+                                            lower(toks[i - 1]) in ("not", "and", "or"))
+           for i, (a, b) in enumerate(zip(toks, toks[1:]))):
+        return "row"
     if closed(toks) is False or lower(toks[0]) in ("on", "distinct", "from") or \
             lower(toks[-1]) in ("on", "from", "as", "where", "like", "then", "else", "t", "in") \
             and len(toks) > 1 and lower(toks[-1]) != "t" or toks[-1][1] in ("%", "/", "."):
@@ -350,7 +358,8 @@ def suite(engine, root):
                 row = dict(re.findall(r"(\w+)\s*=\s*('(?:[^']|'')*'|[^,]+)", rows[1]))
                 expected = rows[2][i] if rows[2] and i is not None and i < len(rows[2]) else None
             elif isinstance(rows, str):
-                expected = "FAULT" if i is not None and len(picked.items) == 1 else None
+                expected = "FAULT" if i is not None and len(picked.items) == 1 and \
+                    picked.table is None else None
             elif rows and picked.table is None and i is not None and len(rows) >= 1 \
                     and len(rows[0]) == len(picked.items) and not picked.where:
                 expected = rows[0][i] if len(rows) == 1 or engine in (
@@ -359,6 +368,8 @@ def suite(engine, root):
                     "postgres", "h2", "derby", "hsqldb") and len(picked.items) == len(rows) \
                     and all(len(r) == 1 for r in rows) and re.match(r"\s*values", text, re.I):
                 expected = rows[i][0]
+            if engine == "sqlite" and expected and expected.startswith("$"):
+                expected = None
             case = Case(engine, "%s:%d" % (file, line), body, used, row, expected, form)
             if engine == "mariadb" and rows and isinstance(rows, list) and len(rows) == 1 and \
                     len(rows[0]) == 1 and rows[0][0] == "" and expected == "":

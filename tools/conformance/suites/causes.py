@@ -2,7 +2,7 @@
 
 import re
 
-from sql import lower
+from sql import closes, lower, split_commas
 
 OWN, SHARED, CONVERSION, WRONG = "own", "shared", "conversion", "taken wrongly"
 
@@ -22,6 +22,34 @@ SHORT = dict(postgres="P", sqlite="S", mariadb="M", h2="H", hsqldb="Q", derby="D
 UNKNOWN = set()       # names of functions that the program does not know, filled by `find_unknown`
 
 
+MOST = {"locate": 2, "instr": 2, "regexp_like": 2, "regexp_substr": 2, "regexp_instr": 2,
+        "regexp_count": 2, "left": 2, "right": 2, "length": 1, "replace": 3, "strpos": 2}
+LEAST = {"replace": 3, "trim": 1, "concat_ws": 2}
+
+
+def calls(case):
+    """The calls of a case: (name, the tokens of each argument)."""
+    toks = case.toks
+    for i, (t, b) in enumerate(zip(toks, toks[1:])):
+        if t[0] == "word" and b[1] == "(":
+            end = closes(toks[i + 1:])
+            inner = toks[i + 2:i + 1 + end]
+            yield t[1].lower(), split_commas(inner) if inner else []
+
+
+def further(case):
+    for name, arguments in calls(case):
+        count = len(arguments)
+        if count > MOST.get(name, 1000) or count < LEAST.get(name, 0):
+            yield name
+        if name == "regexp_replace" and (count > 4 or count == 4 and
+                                         arguments[3][0][0] in ("number", "sign")):
+            yield name
+
+
+BYTES = re.compile(r'collate\s+["\']?(c|posix|binary|ucs_basic|\w+_bin)\b', re.I)
+
+
 def functions(case):
     toks = case.toks
     return [t[1].lower() for t, b in zip(toks, toks[1:]) if t[0] == "word" and b[1] == "("]
@@ -36,7 +64,8 @@ def of_words(case):
         after = words[i + 1] if i + 1 < len(words) else ""
         kind_after = toks[i + 1][0] if i + 1 < len(toks) else ""
         if word == "collate":
-            found.add("COLLATE")
+            found.add("COLLATE of the order of bytes (\"C\", binary, .._bin)"
+                      if BYTES.match(case.text[t[2]:]) else "COLLATE of another order")
         elif word == "similar":
             found.add("SIMILAR TO, substring(.. similar ..)")
         elif word in ("regexp", "rlike") and t[0] == "word":
@@ -98,6 +127,8 @@ def of_words(case):
         elif word == "~" and engine == "sqlite":
             if before in ("+", "-", "*", "/", "%", "~"):
                 found.add("~ as an operand of + - * and of a sign")
+    for name in further(case):
+        found.add("fewer or further arguments of %s" % name)
     for name in functions(case):
         if name in UNKNOWN and name not in ("in", "cast", "not", "or", "and", "when", "then", "else",
                                             "case", "between", "like", "xor", "rlike", "regexp",
@@ -135,6 +166,8 @@ def of_message(case, error):
             "tinyint", "clob") else "type " + name
     if "no word and no sign" in m or "a quote is not closed" in m:
         return None if "{" in case.text else WRONG
+    if m.startswith("E3") and any(True for _ in further(case)):
+        return None
     numbers = r"i8|i16|i32|i64|u8|u16|u32|u64"
     if m.startswith("E3") or m.startswith("expected a truth value"):
         if re.search(r"not .*\bnull\b", m):
@@ -176,12 +209,11 @@ def of_message(case, error):
         if has_text:
             return "arithmetic of texts"
         return "E3: other"
-    if m.startswith("E6") or re.match(r'"[^"]*" is no (i|u)\d+', m) and re.search(
-            r"(?i)\b(locate|instr|regexp_\w+|strpos|replace)\s*\([^()]*,[^()]*,", case.text):
-        name = re.search(r"(?i)(locate|instr|regexp_\w+|replace|lpad|[a-z_]+)\s*\(", case.text)
-        if m.startswith("E6"):
-            name = re.search(r'"(\w+)"', m) or name
-        return "further arguments of %s" % name.group(1).lower()
+    if any(True for _ in further(case)):
+        return None
+    if m.startswith("E6"):
+        name = re.search(r'"(\w+)"', m)
+        return "fewer or further arguments of %s" % name.group(1).lower()
     if re.match(r'".*" is no (i|u)\d+', m, re.S):
         return "a number next to a text"
     if re.match(r"-?\d+ is no [iu]\d", m):
@@ -192,6 +224,8 @@ def of_message(case, error):
         return "ESCAPE of another form"
     if m.startswith('found "="') or "brackets round the comparison" in m or "brackets round" in m:
         return "chains of comparisons, IS before ="
+    if m.startswith('found "."'):
+        return WRONG
     if m.startswith("found"):
         return None
     return "other"
@@ -202,12 +236,13 @@ EXTRA = {
     "MariaDB's && and !": OWN, "the operator ^": OWN, "a text in double quotes": OWN, "E'..'": OWN,
     "a charset before a text, CONVERT .. USING": OWN, "cast to unsigned, signed": OWN,
     "MariaDB's BINARY": OWN, "SIMILAR TO, substring(.. similar ..)": OWN,
-    "IS between any two values": OWN, "SQLite's a NOT NULL": OWN, "substring(s from pattern)": OWN,
+    "IS between any two values": OWN, "u64 next to a signed type": OWN,
+    "U&'..'": SHARED, "SQLite's a NOT NULL": OWN, "substring(s from pattern)": OWN,
     "~ as an operand of + - * and of a sign": SHARED,
     "a number next to a text": CONVERSION, "arithmetic of texts": CONVERSION,
     "a text as a truth value": CONVERSION, "a text where a number is wanted": CONVERSION,
     "a truth value next to a text": CONVERSION,
-    "a literal past the column's type": SHARED, WRONG: WRONG,
+    "a literal past the column's type": SHARED, "COLLATE of another order": SHARED, WRONG: WRONG,
 }
 
 

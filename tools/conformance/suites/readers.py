@@ -219,6 +219,16 @@ def derby(root):
                    "error: " if bad else None)
 
 
+ESCAPES = {"n": "\n", "t": "\t", "r": "\r", "\n": " "}
+
+
+def substituted(text):
+    """A text between Tcl's double quotes, with its backslashes read."""
+    return re.sub(r"\\(u[0-9a-fA-F]{1,4}|x[0-9a-fA-F]{2}|.)", lambda m: (
+        chr(int(m.group(1)[1:], 16)) if len(m.group(1)) > 1 else
+        ESCAPES.get(m.group(1), m.group(1))), text, flags=re.S)
+
+
 def tcl_word(text, place):
     """The next word of Tcl, (kind, text, end), or None at the end of a command."""
     while place < len(text) and (text[place] in " \t" or text.startswith("\\\n", place)):
@@ -243,7 +253,7 @@ def tcl_word(text, place):
         i = place + 1
         while i < len(text) and text[i] != '"':
             i += 2 if text[i] == "\\" else 1
-        return "quote", text[place + 1:i], i + 1
+        return "quote", substituted(text[place + 1:i]), i + 1
     m = re.compile(r"[^\s;\]]+").match(text, place)
     return ("bare", m.group(), m.end()) if m else None
 

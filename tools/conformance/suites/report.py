@@ -1,8 +1,10 @@
 """The tables of a measurement: what is accepted, what differs, and why the others are refused."""
 
+import re
 from collections import Counter, defaultdict
 
 import causes
+import explained
 from sql import ENGINES
 
 NAMES = dict(postgres="PostgreSQL", sqlite="SQLite", mariadb="MariaDB", h2="H2", hsqldb="HSQLDB",
@@ -127,6 +129,44 @@ def results_table(rows):
     return lines
 
 
+def differences(rows):
+    """Other results and faults, by the row of EXPRESSIONS that explains them."""
+    counts, open_ = Counter(), []
+    for case, got, verdict, _ in rows:
+        if verdict == "differs" or verdict == "fault" and case.expected is not None:
+            name = explained.row_of(case, got)
+            if name is None:
+                open_.append("- %s, %s: `%s`: there `%s`, here `%s`" % (
+                    NAMES[case.engine], case.place, case.text[:100].replace("\n", " "),
+                    case.expected, got[1] if got[1] is not None else got[2]))
+            else:
+                counts[(name, verdict)] += 1
+    lines = ["| Row | Another result | Fault |", "|---|---|---|"]
+    for name in sorted({n for n, _ in counts}, key=lambda n: -counts[(n, "differs")]):
+        lines.append("| %s | %d | %d |" % (name.replace("|", "\\|"), counts[(name, "differs")],
+                                          counts[(name, "fault")]))
+    return lines + ["", "Explained by no row:", ""] + open_
+
+
+def shapes(rows):
+    """What is accepted if cases that differ in literals and names alone count once."""
+    kept = {}
+    for case, got, verdict, found in rows:
+        if case.group == "A" and not any(causes.kind_of(c) == causes.OWN for c in found):
+            shape = re.sub(r"'(?:[^']|'')*'", "'t'", case.text.lower())
+            shape = re.sub(r"\b\d+\b", "7", re.sub(r"\s+", "", shape))
+            for name in sorted(case.columns, key=len, reverse=True):
+                shape = re.sub(r"\b%s\b" % re.escape(name), "c", shape)
+            shape = re.sub(r"(7,)+7", "7", shape)
+            kept.setdefault((case.engine, shape), []).append(verdict != "refused")
+    lines = ["| Shapes | Count | Accepted |", "|---|---|---|"]
+    for engine in ENGINES + ["all"]:
+        mine = [sum(v) / len(v) for (e, _), v in kept.items() if engine in (e, "all")]
+        lines.append("| %s | %d | %s |" % (NAMES.get(engine, "all"), len(mine),
+                                           share(sum(mine), len(mine))))
+    return lines
+
+
 def text(rows):
     out = ["# Test suites of other engines: measured", ""]
     out += table(rows) + [""] + second(rows) + ["", "## Causes, shared or not of one engine alone",
@@ -138,7 +178,10 @@ def text(rows):
     out += ["", "## The same without conversions that engines do differently", ""]
     out += cumulative(rows, {causes.OWN, causes.CONVERSION})
     out += ["", "## Spellings of one engine alone", ""] + cause_table(rows, "A", {causes.OWN})
-    out += ["", "## Results", ""] + results_table(rows)
+    out += ["", "## Results", ""] + results_table(rows) + [""] + differences(rows)
+    out += ["", "## Shapes, without spellings of one engine alone", "",
+            "Cases that differ in literals, names of columns and lengths of lists alone count "
+            "once.", ""] + shapes(rows)
     out += ["", "## Causes in the second kind", ""]
     out += cause_table(rows, "B", {causes.SHARED, causes.CONVERSION, causes.OWN}, 8)
     return "\n".join(out) + "\n"
