@@ -19,7 +19,8 @@ pub(crate) const AFTER_HELP: &str = "Rows are CSV. EXPRESSION is one answer or m
   coalesce(a, 0), substr(s, 1, 3)    and nullif if greatest least mod abs sign length octet_length
                                      lower upper initcap left right lpad rpad btrim ltrim rtrim
                                      strpos starts_with replace split_part repeat reverse concat
-                                     concat_ws regexp_like regexp_substr regexp_instr
+                                     concat_ws ascii chr translate overlay to_hex space
+                                     bit_length regexp_like regexp_substr regexp_instr
                                      regexp_count regexp_replace(s, 'a+', 'b', 'g')
   round(x, 2), sqrt(x)               numbers; floor ceil trunc abs sign; n::f64 is a float
   day + 30, at + interval '3 days'   dates and timestamps: year quarter month week day dow doy hour

@@ -31,6 +31,12 @@ use Rattle.vortex_sql_date_formats.specs.TriedFormats as tried_by
 use Rattle.vortex_sql_pads.specs.Capitals.{initcap_row, initcap_lawful}
 use Rattle.vortex_sql_pads.specs.Joins.{concat_ws_row, concat_ws_lawful}
 use Rattle.vortex_sql_pads.specs.Pads.{pad_row, pad_lawful}
+use Rattle.vortex_sql_characters.specs.Blanks.{space_row, space_lawful}
+use Rattle.vortex_sql_characters.specs.Codes.{ascii_row, ascii_lawful, chr_row, chr_lawful}
+use Rattle.vortex_sql_characters.specs.Hexadecimal.{to_hex_row, to_hex_lawful}
+use Rattle.vortex_sql_characters.specs.Overlays.{overlay_row, overlay_lawful}
+use Rattle.vortex_sql_characters.specs.Sizes.{bit_length_row, bit_length_lawful}
+use Rattle.vortex_sql_characters.specs.Translations.{translate_row, translate_lawful}
 use Rattle.vortex_sql_texts.specs.Concats.{concat_all_row, concat_all_lawful}
 use Rattle.vortex_sql_texts.specs.Fields.{split_part_row, split_part_lawful}
 use Rattle.vortex_sql_texts.specs.Repeats.{repeat_row, repeat_lawful, reverse_row, reverse_lawful}
@@ -89,6 +95,13 @@ row_of standard.ConcatAll = concat_all_row
 row_of standard.Initcap = initcap_row
 row_of standard.RegexpReplace = regexp_replace_row
 row_of standard.ConcatWs = concat_ws_row
+row_of standard.Ascii = ascii_row
+row_of standard.Chr = chr_row
+row_of standard.ToHex = to_hex_row
+row_of standard.BitLength = bit_length_row
+row_of standard.Translate = translate_row
+row_of standard.Overlay = overlay_row
+row_of standard.Space = space_row
 row_of standard.TryTextToTruth = try_truth_row
 row_of standard.FloatNegate = negate_row
 row_of standard.IntToFloat = conversions.from_int_row
@@ -165,6 +178,13 @@ lawful_of standard.ConcatAll = concat_all_lawful
 lawful_of standard.Initcap = initcap_lawful
 lawful_of standard.RegexpReplace = regexp_replace_lawful
 lawful_of standard.ConcatWs = concat_ws_lawful
+lawful_of standard.Ascii = ascii_lawful
+lawful_of standard.Chr = chr_lawful
+lawful_of standard.ToHex = to_hex_lawful
+lawful_of standard.BitLength = bit_length_lawful
+lawful_of standard.Translate = translate_lawful
+lawful_of standard.Overlay = overlay_lawful
+lawful_of standard.Space = space_lawful
 lawful_of standard.TryTextToTruth = try_truth_lawful
 lawful_of standard.FloatNegate = negate_lawful
 lawful_of standard.IntToFloat = conversions.from_int_lawful

@@ -104,6 +104,34 @@ macro_rules! with_row {
                 let $f = &vortex_sql_pads::joins::ConcatWs;
                 $texts
             }
+            Standard::Ascii => {
+                let $f = &vortex_sql_characters::codes::Ascii;
+                $rows
+            }
+            Standard::Chr => {
+                let $f = &vortex_sql_characters::codes::Chr;
+                $texts
+            }
+            Standard::ToHex => {
+                let $f = &vortex_sql_characters::hexadecimal::ToHex;
+                $texts
+            }
+            Standard::BitLength => {
+                let $f = &vortex_sql_characters::sizes::BitLength;
+                $rows
+            }
+            Standard::Translate => {
+                let $f = &vortex_sql_characters::translations::Translate;
+                $texts
+            }
+            Standard::Overlay => {
+                let $f = &vortex_sql_characters::overlays::Overlay;
+                $texts
+            }
+            Standard::Space => {
+                let $f = &vortex_sql_characters::blanks::Space;
+                $texts
+            }
             Standard::TryTextToTruth => {
                 let $f = &Try { function: &TextToTruth };
                 $rows

@@ -5,6 +5,7 @@ ghost use Rattle.vortex_standard.specs.ErrorTexts.{number_text};
 
 use std::fmt;
 use vortex_columns::VortexError;
+use vortex_sql_characters::faults::character_fault_text;
 use vortex_sql_date_formats::faults::format_fault_text;
 use vortex_sql_dates::made::no_date_text;
 use vortex_sql_float_functions::functions::root_text;
@@ -18,7 +19,8 @@ fn number_text(number: u64) -> Option<&'static str>
         Some(fault) => Some(fault.text()),
         None => root_text(number)
             .or(no_date_text(number))
-            .or(format_fault_text(number)),
+            .or(format_fault_text(number))
+            .or(character_fault_text(number)),
     }
 }
 
@@ -39,8 +41,8 @@ impl<'a> ErrorText<'a> {
         ErrorText { error }
     }
 
-    /// The fault of a row: that with the number that E10 has. That of a root, and that of a date,
-    /// are none of them.
+    /// The fault of a row: that with the number that E10 has. Those of roots, of dates, of formats
+    /// and of characters are none of them.
     pub fn fault(self) -> Option<RowFault>
         ensures { result ≡ fault_in self.entry.error.now }
     {

@@ -31,7 +31,7 @@ use vortex_sql_texts::texts::Measure;
 use vortex_sql_texts::trims::Trim;
 
 /// The functions that texts are written with, each once.
-pub const FUNCTIONS: [Standard; 102] = [
+pub const FUNCTIONS: [Standard; 109] = [
     Standard::Coalesce,
     Standard::NullIf,
     Standard::Case,
@@ -57,6 +57,13 @@ pub const FUNCTIONS: [Standard; 102] = [
     Standard::Initcap,
     Standard::RegexpReplace,
     Standard::ConcatWs,
+    Standard::Ascii,
+    Standard::Chr,
+    Standard::ToHex,
+    Standard::BitLength,
+    Standard::Translate,
+    Standard::Overlay,
+    Standard::Space,
     Standard::TryTextToTruth,
     Standard::Extreme(Extreme::Greatest),
     Standard::Extreme(Extreme::Least),

@@ -1,0 +1,7 @@
+pub mod Blanks
+pub mod CharacterFaults
+pub mod Codes
+pub mod Hexadecimal
+pub mod Overlays
+pub mod Sizes
+pub mod Translations
