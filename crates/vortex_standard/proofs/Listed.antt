@@ -3,7 +3,8 @@ use Rattle.std.specs.Prelude.{◌≡◌, ℕ, List}
 use Rattle.std.specs.List.{find}
 use Rattle.std.specs.Option.{option_or}
 use Rattle.std.proofs.lemmas.List.Folds.{find-append}
-use Rattle.vortex_standard.specs.declared.names.TheConstants.{FUNCTIONS, KEY_FUNCTIONS}
+use Rattle.vortex_standard.specs.declared.key_functions.TheConstants.{KEY_FUNCTIONS}
+use Rattle.vortex_standard.specs.declared.names.TheConstants.{FUNCTIONS}
 use Rattle.vortex_standard.specs.Names.{functions, has_name}
 
 pub in_either : (w : List ℕ)

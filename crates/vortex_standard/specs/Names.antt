@@ -5,7 +5,8 @@ use Rattle.std.specs.Char.{is_ascii_digit, is_ascii_lowercase, to_ascii_lowercas
 use Rattle.std.specs.List.{find, list_all}
 use Rattle.std.specs.Option.{option_or}
 use Rattle.std.specs.Str.{bytes_eq}
-use Rattle.vortex_standard.specs.declared.names.TheConstants.{FUNCTIONS, KEY_FUNCTIONS}
+use Rattle.vortex_standard.specs.declared.key_functions.TheConstants.{KEY_FUNCTIONS}
+use Rattle.vortex_standard.specs.declared.names.TheConstants.{FUNCTIONS}
 use Rattle.vortex_standard.specs.declared.standard.Standard.{Standard}
 use Rattle.vortex_standard.specs.declared.standard.Standard.TheVariants as standard
 use Rattle.vortex_sql_numbers.specs.declared.bits.BitOperator.TheVariants as bits

@@ -3,12 +3,14 @@
 
 mod dispatch;
 pub mod error_texts;
+pub mod key_functions;
 pub mod names;
 pub mod scales;
 pub mod standard;
 
 pub use error_texts::ErrorText;
-pub use names::{FUNCTIONS, KEY_FUNCTIONS, named};
+pub use key_functions::KEY_FUNCTIONS;
+pub use names::{FUNCTIONS, named};
 pub use scales::DecimalScale;
 pub use standard::Standard;
 pub use vortex_sql_choices::extremes::Extreme;
