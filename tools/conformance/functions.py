@@ -178,11 +178,11 @@ NUMBERS = [
     Form("abs", "N", "N", calls("abs", same=True), typed(applied("abs")), lambda node, a: f"(CASE WHEN {a} < 0 THEN 0 - {a} ELSE {a} END)",
          {OVERFLOW: "integer overflow in abs"}),
     Form("sign", "N", "N", calls("sign"), typed(applied("sign")), sign_in_sqlite),
-    Form("bit_and", "N N", "N", (call("bit_and"), Spelling(JOINED, "%7 & %8", True)), bitwise("&"), infix("&")),
-    Form("bit_or", "N N", "N", (call("bit_or"), Spelling(JOINED, "%7 | %8", True)), bitwise("|"), infix("|")),
-    Form("bit_xor", "N N", "N", (call("bit_xor"), Spelling(JOINED, "%7 # %8", True)), bitwise("#"),
+    Form("bit_and", "N N", "N", (*calls("bit_and", "bitand"), Spelling(JOINED, "%7 & %8", True)), bitwise("&"), infix("&")),
+    Form("bit_or", "N N", "N", (*calls("bit_or", "bitor"), Spelling(JOINED, "%7 | %8", True)), bitwise("|"), infix("|")),
+    Form("bit_xor", "N N", "N", (*calls("bit_xor", "bitxor"), Spelling(JOINED, "%7 # %8", True)), bitwise("#"),
          lambda node, a, b: f"(({a} | {b}) - ({a} & {b}))"),
-    Form("bit_not", "N", "N", (call("bit_not"), Spelling(TILDE, "~ %8", True)), inverted,
+    Form("bit_not", "N", "N", (*calls("bit_not", "bitnot"), Spelling(TILDE, "~ %8", True)), inverted,
          lambda node, a: f"({INTEGERS[node.type][1]} - {a})" if is_unsigned(node.type) else f"(~ {a})"),
     Form("shift_left", "N count", "N", (call("shift_left"), Spelling(JOINED, "%7 << %8")), shifted("<<"),
          faults={SHIFT: "shift by a count that is not from 0 to the bits of the type less 1"}),
@@ -239,21 +239,38 @@ def joined(node, *operands):
     return f"({' || '.join(operands)})"
 
 
+def padded(name):
+    return lambda node, text, *more: f"{name}({', '.join([text, whole(more[0]), *more[1:]])})"
+
+
+def overlaid(node, text, put, begin, count=None):
+    behind = "" if count is None else f" for {whole(count)}"
+    return f"overlay({text} placing {put} from {whole(begin)}{behind})"
+
+
 TEXTS = [
     Form("length", "utf8", "i64", calls("length", "char_length", "character_length", same=True), counted("length"), applied("length"), weight=3),
+    Form("bit_length", "utf8", "i64", calls("bit_length", same=True), counted("bit_length"), lambda node, a: f"(8 * length(CAST({a} AS BLOB)))"),
+    Form("ascii", "utf8", "i64", calls("ascii", same=True), counted("ascii"), lambda node, a: f"(CASE WHEN {a} = '' THEN 0 ELSE unicode({a}) END)"),
+    Form("initcap", "utf8", "utf8", calls("initcap"), letters("initcap")),
+    Form("lpad", "utf8 times utf8?", "utf8", calls("lpad", same=True), padded("lpad"), literals="each"),
+    Form("rpad", "utf8 times utf8?", "utf8", calls("rpad", same=True), padded("rpad"), literals="each"),
+    Form("translate", "utf8 utf8 utf8", "utf8", calls("translate", same=True), applied("translate")),
+    Form("overlay", "utf8 utf8 begin times?", "utf8", calls("overlay"), overlaid, literals="each"),
+    Form("concat_ws", "utf8 utf8 utf8+", "utf8", calls("concat_ws", same=True), applied("concat_ws"), is_strict=False, nulls="first"),
     Form("octet_length", "utf8", "i64", calls("octet_length", same=True), counted("octet_length"), lambda node, a: f"length(CAST({a} AS BLOB))"),
     Form("||", "utf8 utf8", "utf8", (Spelling(JOINED, "%7 || %8", True), call("textcat", True)), joined, joined, weight=5),
     Form("lower", "utf8", "utf8", calls("lower"), letters("lower"), weight=3),
     Form("upper", "utf8", "utf8", calls("upper"), letters("upper"), weight=3),
-    Form("substr", "utf8 place place?", "utf8", calls("substr", "substring", same=True), substr, substr_in_sqlite,
+    Form("substr", "utf8 place place?", "utf8", (*calls("substr", "substring", same=True), call("mid")), substr, substr_in_sqlite,
          {NEGATIVE: "negative length in substr"}, "each", weight=4, null_in_sqlite=NEGATIVE),
     Form("left", "utf8 place", "utf8", calls("left", same=True), sides("left"),
          left_in_sqlite, literals="each"),
     Form("right", "utf8 place", "utf8", calls("right", same=True), sides("right"), right_in_sqlite, literals="each"),
     Form("strpos", "utf8 utf8", "i64", calls("strpos", same=True), counted("strpos"), applied("instr")),
-    Form("btrim", "utf8 utf8?", "utf8", calls("btrim", "trim", same=True), applied("btrim"), applied("trim")),
-    Form("ltrim", "utf8 utf8?", "utf8", calls("ltrim", same=True), applied("ltrim"), applied("ltrim")),
-    Form("rtrim", "utf8 utf8?", "utf8", calls("rtrim", same=True), applied("rtrim"), applied("rtrim")),
+    Form("btrim", "utf8 utf8?", "utf8", (*calls("btrim", "trim", same=True), Spelling(ATOM, "trim( both from %0 )", True, most=1)), applied("btrim"), applied("trim")),
+    Form("ltrim", "utf8 utf8?", "utf8", (call("ltrim", True), Spelling(ATOM, "trim( leading from %0 )", True, most=1)), applied("ltrim"), applied("ltrim")),
+    Form("rtrim", "utf8 utf8?", "utf8", (call("rtrim", True), Spelling(ATOM, "trim( trailing from %0 )", True, most=1)), applied("rtrim"), applied("rtrim")),
     Form("starts_with", "utf8 utf8", "bool", calls("starts_with", same=True), applied("starts_with"),
          lambda node, a, b: f"(substr({a}, 1, length({b})) = {b})"),
     Form("replace", "utf8 utf8 utf8", "utf8", calls("replace", same=True), applied("replace"),
@@ -264,7 +281,7 @@ TEXTS = [
     Form("reverse", "utf8", "utf8", calls("reverse", same=True), applied("reverse")),
     Form("concat", "utf8 utf8+", "utf8", calls("concat", same=True), applied("concat"),
          lambda node, *operands: "(" + " || ".join(f"coalesce({one}, '')" for one in operands) + ")", is_strict=False, nulls="never"),
-    Form("regexp_like", "utf8 regex", "bool", (call("regexp_like", True), Spelling(JOINED, "%7 ~ %8", True)), applied("regexp_like"), literals="each"),
+    Form("regexp_like", "utf8 regex", "bool", (call("regexp_like", True), Spelling(JOINED, "%7 ~ %8", True), Spelling(JOINED, "%7 regexp %8"), Spelling(JOINED, "%7 rlike %8")), applied("regexp_like"), literals="each"),
     Form("~*", "utf8 regex", "bool", (Spelling(JOINED, "%7 ~* %8", True), call("texticregexeq", True)), infix("~*"), literals="each"),
     Form("!~", "utf8 regex", "bool", (Spelling(JOINED, "%7 !~ %8", True), call("textregexne", True)), infix("!~"), literals="each"),
     Form("!~*", "utf8 regex", "bool", (Spelling(JOINED, "%7 !~* %8", True), call("texticregexne", True)), infix("!~*"), literals="each"),

@@ -207,6 +207,8 @@ class Maker:
             return self.constant("i64", edge, size)
         if word == "times":
             return Node("literal", "i64", (), rng.choice((-1, 0, 1, 2, 3, 5)), "bare")
+        if word == "begin":
+            return Node("literal", "i64", (), rng.choice((1, 1, 2, 3, 5, 12)), "bare")
         if word == "regex":
             return Node("literal", "utf8", (), rng.choice(("a", "^a", "b$", "a.*b", "[ab]+", "a|b", "^$", "x?y", "^.$", "é")), "bare")
         if word == "written":

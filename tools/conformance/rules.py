@@ -31,7 +31,7 @@ def is_form_nullable(node, table):
     nulls, parts = FORMS[node.kind].nulls, [is_nullable(one, table) for one in node.operands]
     if nulls == "cases":
         return any(parts) or len(parts) % 2 == (node.kind == "case of")
-    return {"any": any(parts), "all": all(parts), "never": False, "always": True}[nulls]
+    return {"any": any(parts), "all": all(parts), "never": False, "always": True, "first": parts[0]}[nulls]
 
 
 def validity(node, table):
