@@ -133,13 +133,28 @@ def of_words(case):
         if name in UNKNOWN and name not in ("in", "cast", "not", "or", "and", "when", "then", "else",
                                             "case", "between", "like", "xor", "rlike", "regexp",
                                             "glob", "div", "collate", "binary", "values", "varchar",
-                                            "char" if engine != "sqlite" and "COLLATE" == "" else "",
+                                            
                                             "character", "nchar", "clob", "sounds", "as", "escape"):
             found.add("function " + name)
     for i, name in enumerate(words):
         if name == "char" and words[i - 1] in ("as", "::", ",") and "function char" in found and i:
             found.discard("function char")
     return found
+
+
+# What the program says of cases of the second kind, in this order.
+SECOND = [
+    (r"(?i)is no interval|an interval", "intervals: other forms, other operands"),
+    (r"is no part|is no unit", "other parts and units of dates"),
+    (r"is no (date|timestamp)", "other forms of dates and timestamps"),
+    (r"is no (f64|f32|float\w*|double\w*|number|decimal\S*|real)", "a text that is no number"),
+    (r"takes .*a date or a timestamp", "a text or a number as a date"),
+    (r"takes no values of kind (f64|f32).* in cast|as a text|has two digits",
+     "a float cast to a text"),
+    (r"next to (i\d+|date|timestamp)|takes no (date|timestamp) next",
+     "a date next to a number or a timestamp"),
+    (r"date|timestamp|f64|f32|decimal|kind", "types of the second kind that do not meet"),
+]
 
 
 def of_message(case, error):
@@ -176,6 +191,9 @@ def of_message(case, error):
         has_text, has_bool = "utf8" in types, "bool" in types
         has_number = re.search(r"\b(%s)\b" % numbers, types)
         wants_truth = "truth value" in m or "conditions" in m
+        if re.search(r"(?i)substring", m) and types.replace("?", "").startswith("utf8, utf8") or \
+                re.search(r"(?i)substr", m) and types.replace("?", "") == "utf8 and utf8":
+            return "substring(s from pattern)"
         if re.search(r"takes a text|takes texts|takes two texts|LikeInput|LikePattern", m):
             if re.search(r"takes a text", m) and types.startswith("utf8") and \
                     "replace" not in m and has_number and \
@@ -228,6 +246,9 @@ def of_message(case, error):
         return WRONG
     if m.startswith("found"):
         return None
+    for pattern, cause in SECOND:
+        if re.search(pattern, m):
+            return cause
     return "other"
 
 

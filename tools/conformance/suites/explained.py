@@ -17,7 +17,10 @@ ROWS = [
      lambda c, g: re.search(r"is no (i32|i64|i16|f64|f32) number", g[2])),
     ("a shift by all bits, by a negative count", lambda c, g: "shift by" in g[2]),
     ("a negative length", lambda c, g: "negative length" in g[2]),
-    ("a fault of a text that is none", lambda c, g: "E10" in g[2]),
+    ("formats of dates (their own section)", lambda c, g: "date format" in g[2] or
+     "date field" in g[2]),
+    ("a number of more than 32 bits", lambda c, g: "integer out of range in cast" in g[2]),
+    ("another fault of a row", lambda c, g: "E10" in g[2]),
     ("LIKE and case", lambda c, g: re.search(r"(?i)\blike\b", c.text) and c.engine in (
         "sqlite", "mariadb") and g[1] != "<null>" and "\\" not in c.text),
     ("the backslash in a pattern or a text", lambda c, g: c.engine == "mariadb" and "\\" in c.text
@@ -47,7 +50,7 @@ ROWS = [
         r"(?i)cast\(\s*-?\d*\.\d+ as int", c.text)),
     ("a float halfway between two, round(x, 2) of a float", lambda c, g: re.search(
         r"(?i)round\(", c.text)),
-    ("seconds and epochs are whole (functions of dates)", lambda c, g: re.search(
+    ("seconds and epochs are whole (functions of dates)", lambda c, g: c.group == "B" and re.search(
         r"(?i)epoch|second", c.text)),
     ("fractions", lambda c, g: re.search(r"\d\.\d|\d\.|\.\d|\de-?\d", c.text) and c.group == "B"),
     ("the text of a date or a timestamp", lambda c, g: re.fullmatch(

@@ -140,11 +140,14 @@ def differences(rows):
                     NAMES[case.engine], case.place, case.text[:100].replace("\n", " "),
                     case.expected, got[1] if got[1] is not None else got[2]))
             else:
-                counts[(name, verdict)] += 1
-    lines = ["| Row | Another result | Fault |", "|---|---|---|"]
-    for name in sorted({n for n, _ in counts}, key=lambda n: -counts[(n, "differs")]):
-        lines.append("| %s | %d | %d |" % (name.replace("|", "\\|"), counts[(name, "differs")],
-                                          counts[(name, "fault")]))
+                counts[(name, verdict, case.group)] += 1
+    lines = ["| Row | Another result, first kind | second | Fault, first kind | second |",
+             "|---|---|---|---|---|"]
+    columns = [(v, g) for v in ("differs", "fault") for g in "AB"]
+    for name in sorted({key[0] for key in counts}, key=lambda n: [-counts[(n, *c)]
+                                                                  for c in columns]):
+        lines.append("| %s | %s |" % (name.replace("|", "\\|"), " | ".join(
+            str(counts[(name, *c)]) for c in columns)))
     return lines + ["", "Explained by no row:", ""] + open_
 
 
