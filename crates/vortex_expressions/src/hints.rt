@@ -22,7 +22,7 @@ const POWERS: &str = "no powers: write a * a";
 const LOGARITHMS: &str = "no logarithms, exponentials or angles";
 
 /// Words that other languages have behind an operand.
-const BEHIND: [(&str, &str); 20] = [
+const BEHIND: [(&str, &str); 21] = [
     ("over", WINDOWS),
     ("filter", AGGREGATES),
     ("within", AGGREGATES),
@@ -43,6 +43,7 @@ const BEHIND: [(&str, &str); 20] = [
     ("xor", "write a <> b"),
     ("div", "write a / b"),
     ("mod", "write a % b"),
+    ("placing", "write overlay(s, t, 2, 3)"),
 ];
 
 /// Words that other languages have before what begins with one of these bytes, or before anything;
@@ -58,7 +59,7 @@ const BEFORE: [(&str, &[u8], &str); 7] = [
 ];
 
 /// Functions that other languages have.
-const FUNCTIONS: [(&str, &str); 58] = [
+const FUNCTIONS: [(&str, &str); 62] = [
     ("sum", AGGREGATES),
     ("count", AGGREGATES),
     ("avg", AGGREGATES),
@@ -120,6 +121,10 @@ const FUNCTIONS: [(&str, &str); 58] = [
     ("split", "write split_part(s, ',', 1)"),
     ("substring_index", "write split_part(s, ',', 1)"),
     ("title", "write initcap(s)"),
+    ("unicode", "write ascii(s)"),
+    ("hex", "write to_hex(n)"),
+    ("insert", "write overlay(s, t, 2, 3)"),
+    ("stuff", "write overlay(s, t, 2, 3)"),
     ("string_agg", AGGREGATES),
     ("pow", POWERS),
     ("power", POWERS),

@@ -20,7 +20,8 @@ pub struct Translate;
 /// What comes in place of a character: the other one at its first place, or nothing where the
 /// others are fewer; itself if it is none of the characters.
 fn replacement(characters: &str, others: &str, c: char) -> Option<char>
-    ensures { option_to_list result ≡ specs.replacement (chars characters.now) (chars others.now) c }
+    ensures { option_to_list result
+        ≡ specs.replacement (chars characters.now) (chars others.now) c }
 {
     let mut rest = others;
     for character in characters.chars() {

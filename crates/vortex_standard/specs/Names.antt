@@ -36,6 +36,7 @@ alias_of w =
     else if same_word w (codes "lcase") then Some (standard.Letters Lower)
     else if same_word w (codes "ucase") then Some (standard.Letters Upper)
     else if same_word w (codes "instr") then Some standard.StrPos
+    else if same_word w (codes "char") then Some standard.Chr
     else if same_word w (codes "substring") then Some standard.Substr
     else if same_word w (codes "trim") then Some (standard.Trim Both)
     else if same_word w (codes "char_length") then Some (standard.Measure Characters)

@@ -158,6 +158,8 @@ fn alias_of(word: &[u8]) -> Option<Standard>
         Some(Standard::Letters(Letters::Upper))
     } else if is_same_word(word, b"instr") {
         Some(Standard::StrPos)
+    } else if is_same_word(word, b"char") {
+        Some(Standard::Chr)
     } else if is_same_word(word, b"substring") {
         Some(Standard::Substr)
     } else if is_same_word(word, b"trim") {
