@@ -1,5 +1,6 @@
 //! The columns of a batch, read over the fields of a scope.
-ghost use Rattle.std.specs.Prelude.{◌≡◌, ◌↔◌, Bool, IfSome, IsTrue, ℕ, List, length, map, MatchResult};
+ghost use Rattle.std.specs.Prelude.{◌≡◌, ◌↔◌, Bool, IfSome, IsTrue, ℕ, List, length, map};
+ghost use Rattle.std.specs.Prelude.{MatchResult};
 ghost use Rattle.vortex_types.specs.LogicalTypes.{integer_type, field_count};
 ghost use Rattle.vortex_types.specs.TypeOf.{type_of, struct_fields, allows_null};
 ghost use Rattle.vortex_arrow.specs.Columns.{arrow_column};
