@@ -464,9 +464,10 @@ module _ (scope : Fields) where
       let m = then_is (settled_at a i)
       (λ t. and_then (each_settled b c c is) (λ us. answers (t ∷ us))) ts e in
       let k = then_is (each_settled b c c is) (λ us. answers (m.a ∷ us)) ts m.second in
-      subst (λ (xs : List Tree). AllOver scope (trees_of xs)) (answers_is (m.a ∷ k.a) ts k.second)
-      (settled_over (if is_null i then type_of_null a else None) i m.a h.0 m.first,
-      each_over b c c is k.a h.1 k.first)
+      subst (λ (xs : List Tree). AllOver scope (trees_of xs)) (answers_is (m.a ∷ k.a) ts k.second) (
+        settled_over (if is_null i then type_of_null a else None) i m.a h.0 m.first,
+        each_over b c c is k.a h.1 k.first,
+      )
 
   arguments_over : (s : Takes) (is : List Item) (ts : List Tree) → AllItems is
       → arguments_settled s is ≡ answers ts → AllOver scope (trees_of ts)

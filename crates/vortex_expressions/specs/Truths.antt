@@ -1,5 +1,5 @@
 -- Whole numbers where truth values are taken: whether they are not 0.
-use Rattle.std.specs.Prelude.{Option, Some, Bool, true, false, if◌then◌else◌}
+use Rattle.std.specs.Prelude.{Option, Some, None, Bool, true, false, if◌then◌else◌}
 use Rattle.vortex_types.specs.LogicalTypes.{LogicalType, integer_type}
 use Rattle.vortex_interface.specs.Eval.{tree_type}
 use Rattle.vortex_standard.specs.declared.standard.Standard.TheVariants as standard

@@ -34,14 +34,14 @@ fn is_null(item: &Item) -> bool
 }
 
 /// An argument of that kind.
-fn settle_at(
-    alloc: Global,
-    kind: Kind,
-    item: &Item,
-) -> Result<BoundExpression<Standard>, BindStop>
+fn settle_at(alloc: Global, kind: Kind, item: &Item) -> Result<BoundExpression<Standard>, BindStop>
     ensures { Gives (λ t. t) result (specs.settled_at kind (item_in item.now)) }
 {
-    let dtype = if is_null(item) { type_of_null(kind) } else { None };
+    let dtype = if is_null(item) {
+        type_of_null(kind)
+    } else {
+        None
+    };
     item.settle(alloc, dtype.as_ref())
 }
 

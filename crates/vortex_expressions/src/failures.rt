@@ -266,8 +266,9 @@ impl<'a> TextFailure<'a> {
     /// That no type has that name.
     fn type_text(&self) -> VortexResult<String> {
         let found = found_at(self.text, self.byte);
-        let mut out =
-            format!(in self.alloc; "no type {found}; types are {TYPES}, with ? where they have null")?;
+        let mut out = format!(in self.alloc;
+            "no type {found}; types are {TYPES}, with ? where they have null"
+        )?;
         if !self.kinds.is_empty() {
             out.push_str("; and f64, f32, date, timestamp, decimal(12,2) and interval")?;
         }

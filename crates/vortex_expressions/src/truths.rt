@@ -1,4 +1,5 @@
 //! Whole numbers where truth values are taken: whether they are not 0.
+ghost use Rattle.std.specs.Prelude.{◌≡◌};
 ghost use Rattle.vortex_expressions.specs.Truths as specs;
 ghost use Rattle.vortex_expressions.specs.Items.{item_in};
 ghost use Rattle.vortex_expressions.specs.Literals.{literal_in};

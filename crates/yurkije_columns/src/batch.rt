@@ -1,8 +1,10 @@
 //! The columns of a batch, read over the fields of a scope.
-ghost use Rattle.std.specs.Prelude.{◌≡◌, ℕ, List, length, map, MatchResult};
+ghost use Rattle.std.specs.Prelude.{◌≡◌, ◌↔◌, Bool, IfSome, IsTrue, ℕ, List, length, map};
+ghost use Rattle.std.specs.Prelude.{MatchResult};
 ghost use Rattle.vortex_types.specs.LogicalTypes.{integer_type, field_count};
 ghost use Rattle.vortex_types.specs.TypeOf.{type_of, struct_fields, allows_null};
 ghost use Rattle.vortex_arrow.specs.Columns.{arrow_column};
+ghost use Rattle.vortex_arrow.specs.Layouts.{layout_of, layout_type};
 ghost use Rattle.yurkije_columns.specs.Batches.{type_borrowed, Serves, RefusesColumn, AllServe};
 ghost use Rattle.yurkije_columns.specs.Batches.{ServesIfRead, RefusesIfRead, batch_column};
 ghost use Rattle.yurkije_columns.specs.Batches.{RefusesBatch, IsOf};
@@ -66,6 +68,39 @@ pub fn dtype_of(column: &ArrowColumn<'_>) -> DType
     }
 }
 
+/// The integer type of values that are integers, or that integers stand for.
+fn stored_ptype(values: &ArrowValues<'_>) -> Option<PType>
+    ensures { IfSome result (λ p. (n : Bool)
+        → layout_type (layout_of values.now) n ≡ integer_type p n) }
+{
+    match values {
+        ArrowValues::Int8(_) => Some(PType::I8),
+        ArrowValues::Int16(_) => Some(PType::I16),
+        ArrowValues::Int32(_) | ArrowValues::Date(_) | ArrowValues::Float32(_) => Some(PType::I32),
+        ArrowValues::Int64(_)
+        | ArrowValues::Timestamp(_)
+        | ArrowValues::Decimal { .. }
+        | ArrowValues::Float64(_) => Some(PType::I64),
+        ArrowValues::UInt8(_) => Some(PType::U8),
+        ArrowValues::UInt16(_) => Some(PType::U16),
+        ArrowValues::UInt32(_) => Some(PType::U32),
+        ArrowValues::UInt64(_) => Some(PType::U64),
+        _ => None,
+    }
+}
+
+/// Whether a column's values have the type. For integers no type is made.
+pub fn has_dtype(column: &ArrowColumn<'_>, dtype: &DType) -> bool
+    ensures { IsTrue result ↔ (type_borrowed column.now ≡ type_of dtype.now) }
+{
+    match (stored_ptype(&column.values), dtype) {
+        (Some(ptype), DType::Primitive(other, allows_null)) => {
+            ptype == *other && nullability(column.nullable) == *allows_null
+        }
+        _ => dtype_of(column) == *dtype,
+    }
+}
+
 /// The number of what a column's values mean; 0 where that is what their type says.
 fn number_of(values: ArrowValues<'_>) -> u32
     ensures { result ≡ values_number values.entry }
@@ -96,7 +131,7 @@ pub(crate) fn check_shape(
         (λ _. IsOf (type_of dtype.now) number column.now × (column.now.length ≡ rows))
         (RefusesColumn (type_of dtype.now) number rows column.now) }
 {
-    if dtype_of(column) != *dtype {
+    if !has_dtype(column, dtype) {
         return Err(ColumnFault::OtherType);
     }
     if number_of(column.values) != number {

@@ -13,7 +13,7 @@ pub mod statuses;
 pub mod texts;
 mod words;
 
-pub use batch::{ColumnError, ColumnFault, dtype_of, read_batch};
+pub use batch::{ColumnError, ColumnFault, dtype_of, has_dtype, read_batch};
 pub use borrowed::{BorrowedColumn, BorrowedError, arrow_columns, placed};
 pub use checking::{check_batch, is_flat};
 pub use fields::{BorrowedField, FieldError, ScopeFault, read_fields, read_kinds};

@@ -15,7 +15,7 @@ use vortex_arrow::ArrowColumn;
 use vortex_columns::{Column, DType, ExecutionCtx, Scalar};
 use vortex_functions::BoundExpression;
 use vortex_standard::Standard;
-use yurkije_columns::dtype_of;
+use yurkije_columns::has_dtype;
 
 /// The rows of the column at a place, where it is lent, has the type and so many rows.
 fn leaf_rows<'a>(
@@ -28,7 +28,7 @@ fn leaf_rows<'a>(
         (λ o. HasLeafRows rows columns.now place (type_of dtype.now) (operand_column o)) }
 {
     let column = (*columns.get(place)?)?;
-    if column.length == rows && dtype_of(&column) == *dtype {
+    if column.length == rows && has_dtype(&column, dtype) {
         Some(Operand::Lent(column))
     } else {
         None
@@ -49,7 +49,7 @@ fn has_column(columns: &[Option<ArrowColumn<'_>>], place: usize, dtype: &DType) 
         columns.now) place ≡ Some c) × (c.dtype ≡ type_of dtype.now) }
 {
     match columns.get(place) {
-        Some(Some(column)) => dtype_of(column) == *dtype,
+        Some(Some(column)) => has_dtype(column, dtype),
         _ => false,
     }
 }

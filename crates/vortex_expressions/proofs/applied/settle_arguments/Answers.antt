@@ -10,8 +10,8 @@ use Rattle.vortex_expressions.proofs.applied.settle_arguments.Goals as goal
 
 pub returns-in_ok-dtype-in-Cases : goal.returns-in_ok-dtype-in-Cases
 returns-in_ok-dtype-in-Cases c =
-    let types = copied type_of c.as_ref-in-Cases.result
-    ∙ ap (option_map type_of) c.as_ref-in-Cases.ensures.value ∙ c.in_ok-dtype-in-Cases.ensures in
+    let types = copied type_of c.as_ref.result
+    ∙ ap (option_map type_of) c.as_ref.ensures.value ∙ c.in_ok-dtype-in-Cases.ensures in
     subst (λ (s : Takes). Gives {B = List Tree} (λ ts. ts.items) c.settle_cases.result
     (arguments_settled s (map item_in c.args.items.now))) (sym c.in-Cases.is)
     (subst (λ (o : Option LogicalType). Gives {B = List Tree} (λ ts. ts.items)

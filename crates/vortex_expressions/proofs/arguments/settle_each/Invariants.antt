@@ -6,6 +6,6 @@ use Rattle.vortex_expressions.proofs.arguments.settle_each.Given as goal
 
 abbrev pub invariant-loop-item : goal.invariant-loop-item
 invariant-loop-item l =
-    each_settled l.first l.second l.others (map item_in l.items)
+    each_settled l.fn.first l.fn.second l.others (map item_in l.items)
     ≡ and_then (each_settled l.kind l.next l.others (map item_in (drop l.item-index l.items)))
     (λ us. answers (l.trees.items ++ us))
