@@ -22,7 +22,7 @@ const POWERS: &str = "no powers: write a * a";
 const LOGARITHMS: &str = "no logarithms, exponentials or angles";
 
 /// Words that other languages have behind an operand.
-const BEHIND: [(&str, &str); 20] = [
+const BEHIND: [(&str, &str); 18] = [
     ("over", WINDOWS),
     ("filter", AGGREGATES),
     ("within", AGGREGATES),
@@ -35,8 +35,6 @@ const BEHIND: [(&str, &str); 20] = [
     ("join", QUERIES),
     ("collate", COLLATIONS),
     ("similar", REGULAR),
-    ("regexp", REGULAR),
-    ("rlike", REGULAR),
     ("glob", REGULAR),
     ("match", REGULAR),
     ("at", CLOCKS),
@@ -171,6 +169,18 @@ fn told_before(word: &[u8], behind: &[u8]) -> &'static str {
     ""
 }
 
+/// What a word means elsewhere behind `not`.
+const BEHIND_NOT: [(&str, &str); 2] = [("regexp", "write a !~ b"), ("rlike", "write a !~ b")];
+
+/// What the word at the start of a text means elsewhere behind a text that ends with `not`.
+fn told_behind_not(before: &[u8], behind: &[u8]) -> &'static str {
+    if last_word(before).eq_ignore_ascii_case(b"not") {
+        told_of(&BEHIND_NOT, word_at(behind))
+    } else {
+        ""
+    }
+}
+
 /// What the signs at the end of the first text and at the start of the second mean elsewhere.
 fn told_of_signs(before: &[u8], behind: &[u8]) -> &'static str {
     match (before, behind) {
@@ -198,6 +208,10 @@ pub(crate) fn hint_at(text: &str, byte: usize) -> &'static str {
     let here = told_of(&BEHIND, word_at(behind));
     if !here.is_empty() {
         return here;
+    }
+    let refused = told_behind_not(before, behind);
+    if !refused.is_empty() {
+        return refused;
     }
     told_before(last_word(before), behind)
 }

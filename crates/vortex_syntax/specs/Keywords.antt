@@ -1,4 +1,4 @@
--- The words that are keywords, in either case.
+-- The words that are keywords, in either case; `regexp` and `rlike` are the tilde.
 use Rattle.std.specs.Prelude.{ℕ, List, map, Bool, Option, Some, None, codes, if◌then◌else◌}
 use Rattle.std.specs.Char.{to_ascii_lowercase}
 use Rattle.std.specs.Str.{bytes_eq}
@@ -36,4 +36,6 @@ keyword_of w =
     else (if same_word w (codes "notnull") then Some sign.NotNull
     else (if same_word w (codes "try_cast") then Some sign.TryCast
     else (if same_word w (codes "symmetric") then Some sign.Symmetric
-    else None))))))))))))))))))))))))
+    else (if same_word w (codes "regexp") then Some sign.BitNot
+    else (if same_word w (codes "rlike") then Some sign.BitNot
+    else None))))))))))))))))))))))))))

@@ -141,6 +141,8 @@ pub(crate) fn keyword_of(word: &[u8]) -> Option<Sign>
         Some(Sign::TryCast)
     } else if is_same_word(word, b"symmetric") {
         Some(Sign::Symmetric)
+    } else if is_same_word(word, b"regexp") || is_same_word(word, b"rlike") {
+        Some(Sign::BitNot)
     } else {
         None
     }

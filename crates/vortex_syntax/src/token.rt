@@ -46,7 +46,7 @@ pub enum Sign {
     BitOr,
     /// The number sign.
     BitXor,
-    /// The tilde, which is an operator between two operands too.
+    /// The tilde, which is an operator between two operands too; so are `regexp` and `rlike`.
     BitNot,
     ShiftLeft,
     ShiftRight,
