@@ -34,7 +34,8 @@ use Rattle.vortex_syntax.specs.Syntax.{Syntax, operand, negative, typed, grouped
 use Rattle.vortex_syntax.specs.Syntax.{minus, tested, distinct, between, matched, listed, cast}
 use Rattle.vortex_syntax.specs.Syntax.{chosen, chosen_else, nullary, applied, Arguments}
 use Rattle.vortex_syntax.specs.Syntax.{plus, bit_not, null_tested, converted, titled, extracted}
-use Rattle.vortex_syntax.specs.Syntax.{parted, parted_for, placed}
+use Rattle.vortex_syntax.specs.Syntax.{parted, parted_for, placed, trimmed, trimmed_by}
+use Rattle.vortex_syntax.specs.Postfix.{side_of}
 use Rattle.vortex_syntax.specs.Syntax.{no_arguments, argument, Branches, without_operand}
 use Rattle.vortex_syntax.specs.Syntax.{of_operand, branch}
 use Rattle.vortex_expressions.specs.Literals as literal
@@ -72,7 +73,8 @@ use Rattle.vortex_expressions.specs.Calls.{plus_item, bit_not_item, is_number}
 use Rattle.vortex_expressions.specs.Calls.{equal_cases, conditions_of, chosen_item, truth_test}
 use Rattle.vortex_expressions.specs.Applied.{values_of, cases_settled, arguments_settled}
 use Rattle.vortex_expressions.specs.Applied.{function_call}
-use Rattle.vortex_expressions.specs.Functions.{function_item, applied_item}
+use Rattle.vortex_expressions.specs.Functions.{function_item, applied_item, trim_word}
+use Rattle.vortex_expressions.specs.Functions.{trimmed_item, trimmed_by_item}
 use Rattle.vortex_expressions.specs.Meeting.{widened_to}
 use Rattle.vortex_expressions.specs.Casts.{cast_function, cast_by, cast_from, cast_tree, cast_hint}
 use Rattle.vortex_expressions.specs.Casts.{tried_if}
@@ -695,6 +697,16 @@ module _ (scope : Fields) where
         (all_reversed m.a (more_over first (item_of scope b)
         (more_over (answers []) (item_of scope a) none_over (item_over a)) (item_over b) m.a
         m.first)) m.second
+    item_over (trimmed p f d a) i e =
+        let m = then_is (item_of scope a) (trimmed_item false d) i e in
+        applied_over (trim_word d) (m.a ∷ []) i (item_over a m.a m.first, tt) m.second
+    item_over (trimmed_by p f o c a) i e =
+        let d = side_of o in
+        let m =
+        then_is (item_of scope c) (λ x. and_then (item_of scope a) (trimmed_by_item false d x)) i e in
+        let n = then_is (item_of scope a) (trimmed_by_item false d m.a) i m.second in
+        applied_over (trim_word d) (n.a ∷ m.a ∷ []) i
+        (item_over a n.a n.first, (item_over c m.a m.first, tt)) n.second
     item_over (parted_for p f s a w b) i e =
         let first = with_item (answers []) (item_of scope s) in
         let two = with_item first (item_of scope a) in

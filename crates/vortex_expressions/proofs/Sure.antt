@@ -53,6 +53,8 @@ use Rattle.vortex_expressions.specs.Applied.{function_call}
 use Rattle.vortex_expressions.specs.Functions.{values_in, call_kind, met_values, aligned_arguments}
 use Rattle.vortex_expressions.specs.Functions.{kinded_call, function_item, applied_item}
 use Rattle.vortex_expressions.specs.Functions.{standard_item, meant_item, made_date, applied_by}
+use Rattle.vortex_expressions.specs.Functions.{trim_word}
+use Rattle.vortex_syntax.specs.Postfix.{side_of}
 use Rattle.vortex_expressions.specs.Functions.{takes_whole, whole_item, kinds_item, kinded_item}
 use Rattle.vortex_expressions.specs.Functions.{joined_call, joining_item, is_locate, located, format_word, read_by}
 use Rattle.vortex_expressions.specs.Functions.{named_item}
@@ -191,6 +193,8 @@ module _ (columns : Names) (sure_columns : (w : List ℕ) → Sure IsItem (colum
   sure_literal (tree.parted p g s a) f le = absurd (let k : ⊥ = omega (arith, le) in k)
   sure_literal (tree.parted_for p g s a w b) f le = absurd (let k : ⊥ = omega (arith, le) in k)
   sure_literal (tree.placed p g a b) f le = absurd (let k : ⊥ = omega (arith, le) in k)
+  sure_literal (tree.trimmed p g d a) f le = absurd (let k : ⊥ = omega (arith, le) in k)
+  sure_literal (tree.trimmed_by p g o c a) f le = absurd (let k : ⊥ = omega (arith, le) in k)
 
   sure_typed : (w : List ℕ) (n : Bool) (i : Item) → IsLiteral i
       → Sure IsItem (calls.typed_item w n i)
@@ -729,6 +733,13 @@ module _ (columns : Names) (sure_columns : (w : List ℕ) → Sure IsItem (colum
         (sure_more first (item_by columns b)
         (sure_more (answers []) (item_by columns a) tt (sure a f.2)) (sure b f.3))
         (λ is h. sure_by columns.has_kinds g (reverse is) (all_reversed is h))
+    sure (tree.trimmed p g d a) f =
+        sure_then IsItem IsItem (item_by columns a) _ (sure a f.1)
+        (λ x h. sure_by columns.has_kinds (trim_word d) (x ∷ []) (h, tt))
+    sure (tree.trimmed_by p g o c a) f =
+        sure_then IsItem IsItem (item_by columns c) _ (sure c f.1)
+        (λ x h. sure_then IsItem IsItem (item_by columns a) _ (sure a f.2)
+        (λ y k. sure_by columns.has_kinds (trim_word (side_of o)) (y ∷ x ∷ []) (k, (h, tt))))
     sure (tree.parted_for p g s a w b) f =
         let first = with_item (answers []) (item_by columns s) in
         let two = with_item first (item_by columns a) in

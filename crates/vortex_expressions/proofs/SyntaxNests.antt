@@ -15,11 +15,12 @@ use Rattle.vortex_syntax.specs.Syntax.{chosen, chosen_else, nullary, applied, Ar
 use Rattle.vortex_syntax.specs.Syntax.{no_arguments, argument, Branches, without_operand}
 use Rattle.vortex_syntax.specs.Syntax.{of_operand, branch, plus, bit_not, null_tested, converted, Tested}
 use Rattle.vortex_syntax.specs.Syntax.{titled, extracted, Null, True, False, Unknown}
-use Rattle.vortex_syntax.specs.Syntax.{parted, parted_for, placed}
+use Rattle.vortex_syntax.specs.Syntax.{parted, parted_for, placed, trimmed, trimmed_by}
+use Rattle.vortex_syntax.specs.declared.token.TrimSide.{TrimSide}
 use Rattle.vortex_syntax.specs.Levels.{is_operand, Fits, AllFit, BranchesFit}
 use Rattle.vortex_syntax.specs.Spelling.{spelling, all_spelled, branches_spelled, operator_sign}
 use Rattle.vortex_syntax.specs.Spelling.{type_token, in_tokens, null_test_sign}
-use Rattle.vortex_syntax.specs.Spelling.{function_tokens, between_tokens, cast_sign}
+use Rattle.vortex_syntax.specs.Spelling.{function_tokens, between_tokens, cast_sign, side_tokens}
 use Rattle.vortex_syntax.specs.Spelling.{test_tokens, distinct_tokens, like_sign, escape_tokens}
 use Rattle.vortex_syntax.specs.Nesting.{nests, nests_from}
 use Rattle.vortex_expressions.specs.WritingSteps.{nests_behind, all_nest_behind}
@@ -243,6 +244,48 @@ place_nests p f a b h k = λ d us.
     ∙ sym (and_grouped first rest (nests_from d us)))
     ∙ sym (and_grouped limit (first && rest) (nests_from d us))
 
+trim_grouped : (s : TrimSide) (a b c : List Token)
+    → (a ++ (sign (sign.Side s) ∷ sign sign.From ∷ (b ++ (sign sign.Close ∷ [])))) ++ c
+    ≡ a ++ (sign (sign.Side s) ∷ sign sign.From ∷ (b ++ (sign sign.Close ∷ c)))
+trim_grouped s a b c = simp append_assoc
+
+trim_nests : (p : Bool) (f : List ℕ) (s : TrimSide) (a : Syntax) → NestsAs a
+    → NestsAs (trimmed p f s a)
+trim_nests p f s a k = λ d us.
+    let limit = nat_lt d nesting_limit in
+    let close : List Token = sign sign.Close ∷ us in
+    ap (nests_from d) (trim_grouped s (function_tokens p f) (spelling a) us)
+    ∙ function_nests p f d (sign (sign.Side s) ∷ sign sign.From ∷ (spelling a ++ close))
+    ∙ ap (λ b. limit && b) (k (suc d) close)
+    ∙ sym (and_grouped limit (nests_behind (suc d) a) (nests_from d us))
+
+trim_by_grouped : (a b c d e : List Token)
+    → (a ++ (b ++ (c ++ (sign sign.From ∷ (d ++ (sign sign.Close ∷ [])))))) ++ e
+    ≡ a ++ (b ++ (c ++ (sign sign.From ∷ (d ++ (sign sign.Close ∷ e)))))
+trim_by_grouped a b c d e = simp append_assoc
+
+side_nests : (o : Option TrimSide) (d : ℕ) (us : List Token)
+    → nests_from d (side_tokens o ++ us) ≡ nests_from d us
+side_nests None d us = refl
+side_nests (Some s) d us = refl
+
+trim_by_nests : (p : Bool) (f : List ℕ) (o : Option TrimSide) (c a : Syntax) → NestsAs c
+    → NestsAs a → NestsAs (trimmed_by p f o c a)
+trim_by_nests p f o c a h k = λ d us.
+    let limit = nat_lt d nesting_limit in
+    let first = nests_behind (suc d) c in
+    let rest = nests_behind (suc d) a in
+    let close : List Token = sign sign.Close ∷ us in
+    let from : List Token = sign sign.From ∷ (spelling a ++ close) in
+    ap (nests_from d)
+    (trim_by_grouped (function_tokens p f) (side_tokens o) (spelling c) (spelling a) us)
+    ∙ function_nests p f d (side_tokens o ++ (spelling c ++ from))
+    ∙ ap (λ v. limit && v)
+    (side_nests o (suc d) (spelling c ++ from) ∙ h (suc d) from
+    ∙ ap (λ v. first && v) (k (suc d) close)
+    ∙ sym (and_grouped first rest (nests_from d us)))
+    ∙ sym (and_grouped limit (first && rest) (nests_from d us))
+
 in_nests : (n : Bool) (d : ℕ) (us : List Token)
     → nests_from d (in_tokens n ++ us) ≡ (nat_lt d nesting_limit && nests_from (suc d) us)
 in_nests true d us = refl
@@ -434,6 +477,9 @@ mutual
       part_nests p g s a (nests_spelled s f.1) (nests_spelled a f.2) d us
   nests_spelled (placed p g a b) f d us =
       place_nests p g a b (nests_spelled a f.2) (nests_spelled b f.3) d us
+  nests_spelled (trimmed p g s a) f d us = trim_nests p g s a (nests_spelled a f.1) d us
+  nests_spelled (trimmed_by p g o c a) f d us =
+      trim_by_nests p g o c a (nests_spelled c f.1) (nests_spelled a f.2) d us
   nests_spelled (parted_for p g s a w b) f d us =
       limit_nests p g s a w b (nests_spelled s f.2) (nests_spelled a f.3) (nests_spelled b f.4) d us
 

@@ -10,11 +10,13 @@ use Rattle.vortex_syntax.specs.Syntax.{chosen, chosen_else, nullary, applied, Ar
 use Rattle.vortex_syntax.specs.Syntax.{no_arguments, argument, Branches, without_operand}
 use Rattle.vortex_syntax.specs.Syntax.{of_operand, branch, plus, bit_not, null_tested, converted}
 use Rattle.vortex_syntax.specs.Syntax.{titled, extracted, parted, parted_for, placed}
+use Rattle.vortex_syntax.specs.Syntax.{trimmed, trimmed_by}
 use Rattle.vortex_syntax.specs.Tokens.{text}
 use Rattle.vortex_syntax.specs.declared.step.Test.TheVariants as test
 use Rattle.vortex_syntax.specs.Postfix as step
 use Rattle.vortex_syntax.specs.Postfix.{Step, postfix, all_postfix, argument_count}
 use Rattle.vortex_syntax.specs.Postfix.{branches_postfix, has_operand, branch_count, test_of}
+use Rattle.vortex_syntax.specs.Postfix.{side_of}
 use Rattle.vortex_expressions.specs.Outcomes.{Outcome, answers, refuses, missing, and_then}
 use Rattle.vortex_expressions.specs.Items.{Item, settled}
 use Rattle.vortex_expressions.specs.Calls.{not_item, joined_item}
@@ -24,7 +26,7 @@ use Rattle.vortex_expressions.specs.Calls.{bit_not_item, Names, names_of, typed_
 use Rattle.vortex_expressions.specs.Calls.{operand_by}
 use Rattle.vortex_expressions.specs.Binding.{with_item, of_items, item_by, items_by}
 use Rattle.vortex_expressions.specs.Binding.{branches_by, tree_of}
-use Rattle.vortex_expressions.specs.Functions.{applied_by}
+use Rattle.vortex_expressions.specs.Functions.{applied_by, trimmed_item, trimmed_by_item}
 use Rattle.vortex_expressions.specs.Stacks.{run, stepped, pushed, with_last, case_count, left_as}
 use Rattle.vortex_expressions.specs.Stacks.{tree_left}
 use Rattle.vortex_expressions.proofs.Chains.{and_then-assoc, and_then-same, and_then-there}
@@ -252,6 +254,15 @@ module _ (columns : Names) where
         (count_more first (item_by columns b) 1
         (count_more (answers []) (item_by columns a) 0 none_count))
         (λ st. refl) ss st
+    leaves (trimmed p f d a) =
+        next [] (postfix a) _ _ (trimmed_item columns.has_kinds d) (leaves a)
+        (λ i. last (i ∷ []) _ _ (λ st. refl))
+    leaves (trimmed_by p f o c a) =
+        next [] (postfix c) _ _
+        (λ x. and_then (item_by columns a) (trimmed_by_item columns.has_kinds (side_of o) x))
+        (leaves c)
+        (λ x. next (x ∷ []) (postfix a) _ _ (trimmed_by_item columns.has_kinds (side_of o) x)
+        (leaves a) (λ y. last (y ∷ x ∷ []) _ _ (λ st. refl)))
     leaves (parted_for p f s a w b) = λ ss st.
         let last : Step = step.applied f 3 in
         let first = with_item (answers []) (item_by columns s) in

@@ -7,6 +7,7 @@ use Rattle.vortex_syntax.specs.Syntax.{chosen, chosen_else, nullary, applied, Ar
 use Rattle.vortex_syntax.specs.Syntax.{no_arguments, argument, Branches, without_operand}
 use Rattle.vortex_syntax.specs.Syntax.{of_operand, branch, plus, bit_not, null_tested, converted}
 use Rattle.vortex_syntax.specs.Syntax.{titled, extracted, parted, parted_for, placed}
+use Rattle.vortex_syntax.specs.Syntax.{trimmed, trimmed_by}
 use Rattle.vortex_syntax.specs.Tokens.{text}
 use Rattle.vortex_syntax.specs.declared.step.Test.TheVariants as test
 use Rattle.vortex_syntax.specs.Grammar.{Reads}
@@ -21,9 +22,9 @@ use Rattle.vortex_expressions.specs.Calls.{Names, names_of, names_in, operand_by
 use Rattle.vortex_expressions.specs.Calls.{typed_by, cast_by}
 use Rattle.vortex_expressions.specs.Calls.{not_item, joined_item, tested_item, distinct_item}
 use Rattle.vortex_expressions.specs.Calls.{between_item, minus_item, listed_item, chosen_item}
-use Rattle.vortex_syntax.specs.Postfix.{has_operand, test_of}
+use Rattle.vortex_syntax.specs.Postfix.{has_operand, test_of, side_of}
 use Rattle.vortex_expressions.specs.Calls.{matched_item, plus_item, bit_not_item}
-use Rattle.vortex_expressions.specs.Functions.{applied_by}
+use Rattle.vortex_expressions.specs.Functions.{applied_by, trimmed_item, trimmed_by_item}
 
 -- one more item, before those that come before it
 abbrev pub with_item : Outcome (List Item) → Outcome Item → Outcome (List Item)
@@ -85,6 +86,10 @@ module _ (columns : Names) where
     item_by (placed p f a b) =
         of_items (applied_by columns.has_kinds f)
         (with_item (with_item (answers []) (item_by a)) (item_by b))
+    item_by (trimmed p f d a) = and_then (item_by a) (trimmed_item columns.has_kinds d)
+    item_by (trimmed_by p f o c a) =
+        and_then (item_by c) (λ x. and_then (item_by a)
+        (trimmed_by_item columns.has_kinds (side_of o) x))
 
     -- items after these; the last is first
     pub items_by : Outcome (List Item) → Arguments → Outcome (List Item)

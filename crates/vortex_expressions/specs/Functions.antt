@@ -8,6 +8,8 @@ use Rattle.vortex_logical.specs.declared.operand.Operand.{Operand}
 use Rattle.vortex_logical.specs.declared.operand.Operand.TheVariants.{Of}
 use Rattle.vortex_logical_calls.specs.Alignment.{meet_next, aligned}
 use Rattle.vortex_syntax.specs.Keywords.{same_word}
+use Rattle.vortex_syntax.specs.declared.token.TrimSide.{TrimSide}
+use Rattle.vortex_syntax.specs.declared.token.TrimSide.TheVariants as side
 use Rattle.vortex_sql_rows.specs.declared.types.Takes.{Takes}
 use Rattle.vortex_sql_rows.specs.declared.types.Takes.TheVariants.{Cases}
 use Rattle.vortex_standard.specs.declared.standard.Standard.{Standard}
@@ -184,3 +186,16 @@ abbrev pub applied_by : Bool → List ℕ → List Item → Outcome Item
 applied_by false w is = applied_item w is
 applied_by true w is =
     if same_word w (codes "make_date") then made_date is else kinds_item w is
+
+-- the function that trims there; `trim(both b from a)` is `btrim(a, b)`
+abbrev pub trim_word : TrimSide → List ℕ
+trim_word side.Both = codes "btrim"
+trim_word side.Leading = codes "ltrim"
+trim_word side.Trailing = codes "rtrim"
+
+-- a text without blanks there, and without the characters of the text before it
+abbrev pub trimmed_item : Bool → TrimSide → Item → Outcome Item
+trimmed_item h d a = applied_by h (trim_word d) (a ∷ [])
+
+abbrev pub trimmed_by_item : Bool → TrimSide → Item → Item → Outcome Item
+trimmed_by_item h d b a = applied_by h (trim_word d) (a ∷ b ∷ [])

@@ -1,12 +1,12 @@
 -- Steps in postfix order, each over what the steps before it left: the last item first.
 use Rattle.std.specs.Prelude.{◌≡◌, Result, MatchResult, ℕ, List, [], ◌∷◌, None, Some, map, reverse}
-use Rattle.std.specs.Prelude.{length, take, drop, nat_le, suc, ◌+◌, ◌*◌, Bool}
+use Rattle.std.specs.Prelude.{length, take, drop, nat_le, suc, ◌+◌, ◌*◌, Bool, true, false}
 use Rattle.std.specs.Prelude.{if◌then◌else◌}
 use Rattle.vortex_types.specs.LogicalTypes.{Fields}
 use Rattle.vortex_syntax.specs.declared.step.Call.{Call}
 use Rattle.vortex_syntax.specs.declared.step.Call.TheVariants as call
 use Rattle.vortex_syntax.specs.Postfix.{Step, operand, negative, typed, cast, escaped, applied}
-use Rattle.vortex_syntax.specs.Postfix.{listed, chosen, called}
+use Rattle.vortex_syntax.specs.Postfix.{listed, chosen, trimmed, called}
 use Rattle.vortex_expressions.specs.declared.item.Item as held
 use Rattle.vortex_expressions.specs.declared.binder.Stack as stack
 use Rattle.vortex_expressions.specs.declared.binder.Stopped as stopped
@@ -18,7 +18,7 @@ use Rattle.vortex_expressions.specs.Calls.{typed_by, cast_by}
 use Rattle.vortex_expressions.specs.Calls.{not_item, joined_item, tested_item, distinct_item}
 use Rattle.vortex_expressions.specs.Calls.{between_item, minus_item, listed_item, chosen_item}
 use Rattle.vortex_expressions.specs.Calls.{matched_item, plus_item, bit_not_item}
-use Rattle.vortex_expressions.specs.Functions.{applied_by}
+use Rattle.vortex_expressions.specs.Functions.{applied_by, trimmed_item, trimmed_by_item}
 use Rattle.vortex_expressions.specs.Binding.{LogicalTree, ended}
 use Rattle.vortex_logical.specs.declared.kind.Kind.{Kind}
 
@@ -77,6 +77,8 @@ module _ (columns : Names) where
   stepped (applied w n) st = with_last (applied_by columns.has_kinds w) n st
   stepped (listed n k) st = with_last (listed_item n) (suc k) st
   stepped (chosen h k e) st = with_last (chosen_item h) (case_count h k e) st
+  stepped (trimmed d false) st = with_one (trimmed_item columns.has_kinds d) st
+  stepped (trimmed d true) st = with_two (trimmed_by_item columns.has_kinds d) st
   stepped (called c) st = call_made c st
 
   unfoldable pub run : List Step → List Item → Outcome (List Item)

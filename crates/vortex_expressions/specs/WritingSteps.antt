@@ -25,6 +25,7 @@ use Rattle.vortex_syntax.specs.Syntax.{chosen, chosen_else, nullary, applied, Ar
 use Rattle.vortex_syntax.specs.Syntax.{no_arguments, argument, Branches, without_operand}
 use Rattle.vortex_syntax.specs.Syntax.{of_operand, branch, plus, bit_not, null_tested, converted}
 use Rattle.vortex_syntax.specs.Syntax.{titled, extracted, parted, parted_for, placed}
+use Rattle.vortex_syntax.specs.Syntax.{trimmed, trimmed_by}
 use Rattle.vortex_syntax.specs.Levels.{own, left, right, not_level, is_level, predicate_level}
 use Rattle.vortex_syntax.specs.Levels.{concat_level, atom_level, typed_level, literal_level}
 use Rattle.vortex_syntax.specs.Spelling.{spelling, operator_sign, like_sign}
@@ -100,6 +101,9 @@ abbrev mutual
       && (nests_behind (suc d) s && (nests_behind (suc d) a && nests_behind (suc d) b))
   nests_behind d (placed p f a b) =
       nat_lt d nesting_limit && (nests_behind (suc d) a && nests_behind (suc d) b)
+  nests_behind d (trimmed p f s a) = nat_lt d nesting_limit && nests_behind (suc d) a
+  nests_behind d (trimmed_by p f o c a) =
+      nat_lt d nesting_limit && (nests_behind (suc d) c && nests_behind (suc d) a)
 
   pub all_nest_behind : ℕ → Arguments → Bool
   all_nest_behind d no_arguments = true

@@ -8,8 +8,9 @@ ghost use Rattle.vortex_expressions.specs.Items.{item_in, settled};
 ghost use Rattle.vortex_expressions.specs.Binding.{ended, logical_in};
 ghost use Rattle.vortex_expressions.specs.Stacks.{stack_in, call_made, stepped, tree_left, left_as};
 ghost use Rattle.vortex_expressions.specs.Stacks.{logical_left, RunsTo};
-ghost use Rattle.vortex_expressions.specs.Stacks.{with_two, last_items, with_last, case_count};
-ghost use Rattle.vortex_expressions.specs.Functions.{applied_by};
+ghost use Rattle.vortex_expressions.specs.Stacks.{with_one, with_two, last_items, with_last};
+ghost use Rattle.vortex_expressions.specs.Stacks.{case_count};
+ghost use Rattle.vortex_expressions.specs.Functions.{applied_by, trimmed_item, trimmed_by_item};
 ghost use Rattle.vortex_expressions.specs.Outcomes.{answers};
 ghost use Rattle.vortex_expressions.specs.Calls.{matched_item, listed_item, chosen_item, names_in};
 ghost use Rattle.vortex_expressions.specs.Answering.{Gives, StopsBy};
@@ -20,7 +21,7 @@ use crate::calls::{
     operand_item, plus_item, tested_item,
 };
 use crate::cases::chosen_item;
-use crate::functions::applied_by;
+use crate::functions::{applied_by, trim_word};
 use crate::item::{Item, LogicalTree};
 use crate::kind_casts::cast_by;
 use crate::kind_names::{are_given, typed_by};
@@ -31,7 +32,7 @@ use vortex_columns::StructFields;
 use vortex_functions::BoundExpression;
 use vortex_logical::kind::Kind;
 use vortex_standard::Standard;
-use vortex_syntax::{Call, LikeKind, Step};
+use vortex_syntax::{Call, LikeKind, Step, TrimSide};
 
 /// The items left so far, the last item at the end.
 #[derive(Drop)]
@@ -158,6 +159,27 @@ impl Stack {
         self.push(applied_by(alloc, has_kinds, name, items)?)
     }
 
+    /// The last, a text, without blanks at that side.
+    fn trim(&mut self, alloc: Global, has_kinds: bool, side: TrimSide) -> Result<(), BindStop>
+        ensures { Gives (λ _. stack_in self.new.items.items) result
+            (with_one (trimmed_item has_kinds side) (stack_in self.old.items.items)) }
+    {
+        let text = self.pop()?;
+        let items = vec![in alloc; text]?;
+        self.push(applied_by(alloc, has_kinds, trim_word(side).as_bytes(), items)?)
+    }
+
+    /// The last, a text, without the characters of the one before it.
+    fn trim_by(&mut self, alloc: Global, has_kinds: bool, side: TrimSide) -> Result<(), BindStop>
+        ensures { Gives (λ _. stack_in self.new.items.items) result
+            (with_two (trimmed_by_item has_kinds side) (stack_in self.old.items.items)) }
+    {
+        let text = self.pop()?;
+        let characters = self.pop()?;
+        let items = vec![in alloc; text, characters]?;
+        self.push(applied_by(alloc, has_kinds, trim_word(side).as_bytes(), items)?)
+    }
+
     /// IN of an operand and so many items after it, or NOT IN.
     fn list(&mut self, alloc: Global, negated: bool, count: usize) -> Result<(), BindStop>
         ensures { Gives (λ _. stack_in self.new.items.items) result
@@ -219,6 +241,8 @@ impl Stack {
             Step::Case(has_operand, count, has_else) => {
                 self.case(alloc, has_operand, count, has_else)
             }
+            Step::Trim(side, false) => self.trim(alloc, are_given(kinds), side),
+            Step::Trim(side, true) => self.trim_by(alloc, are_given(kinds), side),
             Step::Call(call) => self.call(alloc, call),
         }
     }

@@ -28,6 +28,7 @@ fn operand_count(step: Option<&Step<'_>>) -> usize {
         Some(Step::Operand(_)) | Some(Step::Negative(_)) => 0,
         Some(Step::Apply(_, count)) => *count,
         Some(Step::In(_, count)) => count.saturating_add(1),
+        Some(Step::Trim(_, has_characters)) => 1 + *has_characters as usize,
         Some(Step::Case(has_operand, count, has_else)) => {
             let pairs = count.saturating_mul(2);
             pairs.saturating_add(*has_operand as usize + *has_else as usize)

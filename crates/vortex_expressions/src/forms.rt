@@ -1,5 +1,6 @@
 //! Functions that there are not, and how what they mean is written.
 use crate::casts::type_of_name;
+use crate::functions::trim_word;
 use crate::hints::missing_function;
 use crate::item::Item;
 use crate::item_texts::push_literal;
@@ -67,6 +68,7 @@ fn nearest_function(alloc: Global, name: &str) -> VortexResult<Option<&'static s
 fn called_name<'a>(step: Option<&Step<'a>>) -> &'a [u8] {
     match step {
         Some(Step::Apply(name, _)) => *name,
+        Some(Step::Trim(side, _)) => trim_word(*side).as_bytes(),
         _ => b"",
     }
 }
@@ -201,6 +203,7 @@ pub(crate) fn function_in(step: Option<&Step<'_>>) -> Option<Standard> {
         Some(Step::Call(Call::Is(_, _))) => Some(Standard::TruthTest(TruthTest::IsTrue)),
         Some(Step::Call(Call::Distinct(_))) => Some(Standard::IsDistinct),
         Some(Step::In(_, _)) => Some(Standard::InList),
+        Some(Step::Trim(side, _)) => named(trim_word(*side).as_bytes()),
         Some(Step::Case(_, _, _)) => Some(Standard::Case),
         Some(Step::Call(Call::Join(WrittenOperator::Mod))) => Some(Standard::Remainder),
         Some(Step::Call(Call::Join(WrittenOperator::Concat))) => Some(Standard::Concat),

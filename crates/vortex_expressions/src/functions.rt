@@ -22,6 +22,7 @@ use vortex_logical::operand::Operand;
 use vortex_logical_calls as calls;
 use vortex_logical_calls::Lowered;
 use vortex_standard::{FloatFunction, Standard, Takes, named};
+use vortex_syntax::TrimSide;
 
 /// Whether the function returns one of its values.
 fn is_choice(function: Standard) -> bool
@@ -379,5 +380,16 @@ pub(crate) fn applied_by(
         made_date(alloc, items)
     } else {
         kinds_item(alloc, name, items)
+    }
+}
+
+/// The name of the function that trims there: `trim(both b from a)` is `btrim(a, b)`.
+pub(crate) fn trim_word(side: TrimSide) -> &'static str
+    ensures { result.now ≡ specs.trim_word side }
+{
+    match side {
+        TrimSide::Both => "btrim",
+        TrimSide::Leading => "ltrim",
+        TrimSide::Trailing => "rtrim",
     }
 }

@@ -45,6 +45,7 @@ fn is_operator(expected: Expected) -> bool {
             | Expected::OperatorOrFrom
             | Expected::OperatorOrFor
             | Expected::OperatorOrIn
+            | Expected::OperatorOrFromOnly
             | Expected::OperatorOrAs
             | Expected::OperatorOrAnd
             | Expected::PredicateWord

@@ -21,6 +21,8 @@ use Rattle.vortex_syntax.specs.Spelling.{distinct_tokens, function_tokens, betwe
 use Rattle.vortex_syntax.specs.declared.step.BetweenKind.{BetweenKind}
 use Rattle.std.proofs.Common.{cond}
 use Rattle.vortex_syntax.specs.Spelling.{in_tokens, like_sign, escape_tokens, branches_spelled}
+use Rattle.vortex_syntax.specs.Spelling.{side_tokens}
+use Rattle.vortex_syntax.specs.declared.token.TrimSide.{TrimSide}
 use Rattle.vortex_syntax.specs.AnswerLists.{Answer, is_name, name_tokens, SpellsAnswer}
 use Rattle.vortex_syntax.specs.AnswerParts.{is_comma, depth_behind, ends_answer, parts_from}
 use Rattle.vortex_syntax.specs.AnswerParts.{answer_parts}
@@ -166,6 +168,10 @@ escape_stays None d = passes_none d
 escape_stays (Some e) d =
     first d d (sign sign.Escape) (text e ∷ []) refl
     (first d d (text e) [] refl (passes_none d))
+
+side_stays : (o : Option TrimSide) → Stays (side_tokens o)
+side_stays None d = passes_none d
+side_stays (Some s) d = first d d (sign (sign.Side s)) [] refl (passes_none d)
 
 in_opens : (n : Bool) (d : ℕ) → Passes d (suc d) (in_tokens n)
 in_opens true d =
@@ -315,6 +321,22 @@ mutual
       (both (suc d) (suc d) d (spelling a) limit (tree_stays a f.3 (suc d))
       (first (suc d) d (name w) end refl
       (last (suc d) (suc d) (spelling b) (sign sign.Close) (tree_stays b f.4 (suc d)) refl)))))
+  tree_stays (tree.trimmed p g s a) f d =
+      let end : List Token = spelling a ++ (sign sign.Close ∷ []) in
+      both d (suc d) d (function_tokens p g) (sign (sign.Side s) ∷ sign sign.From ∷ end)
+      (function_opens p g d)
+      (first (suc d) d (sign (sign.Side s)) (sign sign.From ∷ end) refl
+      (first (suc d) d (sign sign.From) end refl
+      (last (suc d) (suc d) (spelling a) (sign sign.Close) (tree_stays a f.1 (suc d)) refl)))
+  tree_stays (tree.trimmed_by p g o c a) f d =
+      let end : List Token = spelling a ++ (sign sign.Close ∷ []) in
+      let text : List Token = sign sign.From ∷ end in
+      both d (suc d) d (function_tokens p g) (side_tokens o ++ (spelling c ++ text))
+      (function_opens p g d)
+      (both (suc d) (suc d) d (side_tokens o) (spelling c ++ text) (side_stays o (suc d))
+      (both (suc d) (suc d) d (spelling c) text (tree_stays c f.1 (suc d))
+      (first (suc d) d (sign sign.From) end refl
+      (last (suc d) (suc d) (spelling a) (sign sign.Close) (tree_stays a f.2 (suc d)) refl))))
 
   all_stay : (args : Arguments) → AllFit args → (d : ℕ) → Passes (suc d) (suc d) (all_spelled args)
   all_stay tree.no_arguments f d = passes_none (suc d)

@@ -1,6 +1,7 @@
 -- Arguments and items are read as they are spelled.
 use Rattle.std.proofs.Common.{◌≡◌, ℕ, suc, ◌<◌, ◌≤◌, Bool, true, false, List, [], ◌∷◌, ◌++◌}
 use Rattle.std.proofs.Common.{refl, ap, sym, ◌∙◌, append_assoc, arith, lit<, lit≤, map, ◌||◌}
+use Rattle.std.proofs.Common.{Option, Some, None}
 use Rattle.std.specs.Prelude.{codes}
 use Rattle.std.specs.Char.{to_ascii_lowercase}
 use Rattle.std.specs.Str.{bytes_eq}
@@ -14,13 +15,14 @@ use Rattle.vortex_syntax.specs.Tokens.{Token, name, text, sign}
 use Rattle.vortex_syntax.specs.Syntax as tree
 use Rattle.vortex_syntax.specs.Syntax.{Syntax, Tested, Arguments, Branches}
 use Rattle.vortex_syntax.specs.Levels.{sign_level, level, takes_word, takes_from, takes_in, is_for}
-use Rattle.vortex_syntax.specs.Levels.{first_level, first_of}
+use Rattle.vortex_syntax.specs.Levels.{first_level, first_of, takes_side}
+use Rattle.vortex_syntax.specs.declared.token.TrimSide.{TrimSide}
 use Rattle.vortex_syntax.specs.Levels.{predicate_level, concat_level}
 use Rattle.vortex_syntax.specs.Levels.{atom_level, literal_level}
 use Rattle.vortex_syntax.specs.Spelling.{spelling, all_spelled}
-use Rattle.vortex_syntax.specs.Spelling.{in_tokens}
+use Rattle.vortex_syntax.specs.Spelling.{in_tokens, side_tokens}
 use Rattle.vortex_syntax.specs.Spelling.{function_tokens}
-use Rattle.vortex_syntax.specs.Postfix.{Step, operand, applied, listed}
+use Rattle.vortex_syntax.specs.Postfix.{Step, operand, applied, listed, trimmed, side_of}
 use Rattle.vortex_syntax.specs.Postfix.{argument_count, postfix, all_postfix}
 use Rattle.vortex_syntax.proofs.Tables.{level_literal}
 use Rattle.vortex_syntax.proofs.Tables.{ceiling_below}
@@ -30,7 +32,8 @@ use Rattle.vortex_syntax.proofs.StepsRead.{step_function}
 use Rattle.vortex_syntax.proofs.StepsRead.{step_nullary, step_comma, step_applied, step_in}
 use Rattle.vortex_syntax.proofs.StepsRead.{step_item, step_listed, step_word, step_extracted}
 use Rattle.vortex_syntax.proofs.StepsRead.{step_from, step_for, step_parted, step_parted_for}
-use Rattle.vortex_syntax.proofs.StepsRead.{step_place, step_placed}
+use Rattle.vortex_syntax.proofs.StepsRead.{step_place, step_placed, step_side, step_side_from}
+use Rattle.vortex_syntax.proofs.StepsRead.{step_by, step_by_from, step_trimmed, step_trimmed_by}
 
 pub regrouped_2 : (out a : List Step) (x : Step) → (out ++ a) ++ (x ∷ []) ≡ out ++ (a ++ (x ∷ []))
 regrouped_2 out a x = append_assoc out a (x ∷ [])
@@ -251,6 +254,81 @@ read_placed p f a b is h ia ib = λ fs out rest top under end.
     ∙ ib (frame.Place f ∷ fs) (out ++ postfix a) close (omega arith) (level_literal b) (omega arith)
     ∙ step_placed f (level b) fs ((out ++ postfix a) ++ postfix b) rest
     ∙ ap (λ xs. have atom_level fs xs rest) (regrouped_3 out (postfix a) (postfix b) (applied f 2))
+
+-- the function that takes a side takes neither a word, nor `in`, nor `from` before a place
+side_word : (f : List ℕ) → takes_side f ≡ true → map to_ascii_lowercase f ≡ codes "trim"
+side_word f h =
+    let w = map to_ascii_lowercase f in
+    grind (arith, h, bytes_eq-Decides w (codes "trim"))
+
+wordless : (f : List ℕ) → takes_side f ≡ true → takes_word f ≡ false
+wordless f h = ap (λ v. bytes_eq v (codes "extract")) (side_word f h)
+
+placeless : (f : List ℕ) → takes_side f ≡ true → takes_in f ≡ false
+placeless f h = ap (λ v. bytes_eq v (codes "position")) (side_word f h)
+
+partless : (f : List ℕ) → takes_side f ≡ true → takes_from f ≡ false
+partless f h =
+    ap (λ v. bytes_eq v (codes "substring") || bytes_eq v (codes "substr")) (side_word f h)
+
+side_reach : (f : List ℕ) → takes_side f ≡ true → (fs : List Frame) (ts : List Token)
+    → reach_at (frame.Arguments f 0 ∷ fs) (sign sign.From ∷ ts) ≡ 0
+side_reach f h fs ts = unworded (frame.Arguments f 0 ∷ fs) (sign sign.From ∷ ts) (wordless f h)
+
+-- a side, if there is one, what a text is trimmed by and `from`
+by_read : (f : List ℕ) (o : Option TrimSide) (c : Syntax) → takes_side f ≡ true → IsRead c
+    → (fs : List Frame) (out : List Step) (end : List Token)
+    → want (frame.Arguments f 0 ∷ fs) out
+    (side_tokens o ++ (spelling c ++ (sign sign.From ∷ end)))
+    ≡ want (frame.TrimBy (side_of o) ∷ fs) (out ++ postfix c) end
+by_read f None c is ic fs out end =
+    ic (frame.Arguments f 0 ∷ fs) out (sign sign.From ∷ end)
+    (omega (arith, untaken_level f (placeless f is))) (level_literal c)
+    (omega (arith, side_reach f is fs end))
+    ∙ step_by_from f (partless f is) is (level c) fs (out ++ postfix c) end
+by_read f (Some d) c is ic fs out end =
+    step_side f is d fs out (spelling c ++ (sign sign.From ∷ end))
+    ∙ ic (frame.Trim d ∷ fs) out (sign sign.From ∷ end) (omega arith) (level_literal c)
+    (omega arith)
+    ∙ step_by d (level c) fs (out ++ postfix c) end
+
+trimmed_written : (d : TrimSide) (a b rest : List Token)
+    → (a ++ (sign (sign.Side d) ∷ sign sign.From ∷ (b ++ (sign sign.Close ∷ [])))) ++ rest
+    ≡ a ++ (sign (sign.Side d) ∷ sign sign.From ∷ (b ++ (sign sign.Close ∷ rest)))
+trimmed_written d a b rest = simp append_assoc
+
+pub read_trimmed : (p : Bool) (f : List ℕ) (d : TrimSide) (a : Syntax) → takes_side f ≡ true
+    → IsRead a → IsRead (tree.trimmed p f d a)
+read_trimmed p f d a is ia = λ fs out rest top under end.
+    let close : List Token = sign sign.Close ∷ rest in
+    let last : List Token = spelling a ++ close in
+    ap (want fs out) (trimmed_written d (function_tokens p f) (spelling a) rest)
+    ∙ step_function p f fs out (sign (sign.Side d) ∷ sign sign.From ∷ last)
+    ∙ step_side f is d fs out (sign sign.From ∷ last)
+    ∙ step_side_from d fs out last
+    ∙ ia (frame.TrimFrom d ∷ fs) out close (omega arith) (level_literal a) (omega arith)
+    ∙ step_trimmed d (level a) fs (out ++ postfix a) rest
+    ∙ ap (λ xs. have atom_level fs xs rest) (regrouped_2 out (postfix a) (trimmed d false))
+
+trimmed_by_written : (a b c d rest : List Token)
+    → (a ++ (b ++ (c ++ (sign sign.From ∷ (d ++ (sign sign.Close ∷ [])))))) ++ rest
+    ≡ a ++ (b ++ (c ++ (sign sign.From ∷ (d ++ (sign sign.Close ∷ rest)))))
+trimmed_by_written a b c d rest = simp append_assoc
+
+pub read_trimmed_by : (p : Bool) (f : List ℕ) (o : Option TrimSide) (c a : Syntax)
+    → takes_side f ≡ true → IsRead c → IsRead a → IsRead (tree.trimmed_by p f o c a)
+read_trimmed_by p f o c a is ic ia = λ fs out rest top under end.
+    let close : List Token = sign sign.Close ∷ rest in
+    let last : List Token = spelling a ++ close in
+    let first : List Step = out ++ postfix c in
+    ap (want fs out)
+    (trimmed_by_written (function_tokens p f) (side_tokens o) (spelling c) (spelling a) rest)
+    ∙ step_function p f fs out (side_tokens o ++ (spelling c ++ (sign sign.From ∷ last)))
+    ∙ by_read f o c is ic fs out last
+    ∙ ia (frame.TrimBy (side_of o) ∷ fs) first close (omega arith) (level_literal a) (omega arith)
+    ∙ step_trimmed_by (side_of o) (level a) fs (first ++ postfix a) rest
+    ∙ ap (λ xs. have atom_level fs xs rest)
+    (regrouped_3 out (postfix c) (postfix a) (trimmed (side_of o) true))
 
 reach_in : (n : Bool) (fs : List Frame) (ts : List Token)
     → reach_at fs (in_tokens n ++ ts) ≡ predicate_level

@@ -1,6 +1,7 @@
 -- What was read before a token: pending frames with their operands, and an operand after them.
 use Rattle.std.proofs.Common.{◌≡◌, ℕ, ◌≤◌, Bool, true, false, nat_le, ◌&&◌, cond, List, [], ◌∷◌}
-use Rattle.std.proofs.Common.{◌++◌, Some, None, refl, ap, sym, subst, ◌∙◌, append_assoc, arith}
+use Rattle.std.proofs.Common.{◌++◌, Option, Some, None, refl, ap, sym, subst, ◌∙◌, append_assoc}
+use Rattle.std.proofs.Common.{arith}
 use Rattle.std.proofs.lemmas.List.{append-nil}
 use Rattle.std.proofs.lemmas.Bool.Decides.{nat_tests}
 use Rattle.vortex_syntax.specs.declared.step.BetweenKind.{BetweenKind}
@@ -16,10 +17,12 @@ use Rattle.vortex_syntax.specs.Levels.{level, Fits, distinct_level, is_level, pr
 use Rattle.vortex_syntax.specs.Levels.{concat_level, atom_level, typed_level, literal_level}
 use Rattle.vortex_syntax.specs.Spelling.{cast_sign}
 use Rattle.vortex_syntax.specs.Spelling.{spelling, type_token, with_not, is_tokens, like_sign}
-use Rattle.vortex_syntax.specs.Postfix.{Step, operand, cast, argument_count, postfix}
+use Rattle.vortex_syntax.specs.Postfix.{Step, operand, cast, argument_count, postfix, side_of}
 use Rattle.vortex_syntax.specs.Reading.{State, Operand, settled}
 use Rattle.vortex_syntax.proofs.Held.{Held, opened, casting, lower, matching, calling, listing}
-use Rattle.vortex_syntax.proofs.Held.{extracting, parting, limiting, placing}
+use Rattle.vortex_syntax.proofs.Held.{extracting, parting, limiting, placing, siding, trimming}
+use Rattle.vortex_syntax.proofs.Held.{trimming_by}
+use Rattle.vortex_syntax.specs.declared.token.TrimSide.{TrimSide}
 use Rattle.vortex_syntax.proofs.Held.{frame_of, written, held, IsSound, frames_of, all_written}
 use Rattle.vortex_syntax.proofs.Held.{all_held, Nested, Settles, settled_sound}
 
@@ -197,6 +200,31 @@ pub place_is : (f : List ℕ) (h : Held) → frame.Place f ≡ frame_of h
     → (p : Bool) × (a : Syntax) × (h ≡ placing p f a)
 place_is f (placing p g a) e = (p, a, ap (λ v. placing p v a) (sym (place_name f g e)))
 place_is f h e = absurd cc
+
+pub side_mark : (d e : TrimSide) → frame.Trim d ≡ frame.Trim e → d ≡ e
+side_mark d e k = cc
+
+pub side_is : (d : TrimSide) (h : Held) → frame.Trim d ≡ frame_of h
+    → (p : Bool) × (f : List ℕ) × (h ≡ siding p f d)
+side_is d (siding p f e) k = (p, f, ap (λ v. siding p f v) (sym (side_mark d e k)))
+side_is d h k = absurd cc
+
+pub trim_mark : (d e : TrimSide) → frame.TrimFrom d ≡ frame.TrimFrom e → d ≡ e
+trim_mark d e k = cc
+
+pub trim_is : (d : TrimSide) (h : Held) → frame.TrimFrom d ≡ frame_of h
+    → (p : Bool) × (f : List ℕ) × (h ≡ trimming p f d)
+trim_is d (trimming p f e) k = (p, f, ap (λ v. trimming p f v) (sym (trim_mark d e k)))
+trim_is d h k = absurd cc
+
+pub by_mark : (d e : TrimSide) → frame.TrimBy d ≡ frame.TrimBy e → d ≡ e
+by_mark d e k = cc
+
+pub by_is : (d : TrimSide) (h : Held) → frame.TrimBy d ≡ frame_of h
+    → (p : Bool) × (f : List ℕ) × (o : Option TrimSide) × (c : Syntax) × (h ≡ trimming_by p f o c)
+    × (d ≡ side_of o)
+by_is d (trimming_by p f o c) k = (p, f, o, c, refl, by_mark d (side_of o) k)
+by_is d h k = absurd cc
 
 pub item_mark : (n m : Bool) (k i : ℕ) → frame.Items n k ≡ frame.Items m i → n ≡ m
 item_mark n m k i e = cc

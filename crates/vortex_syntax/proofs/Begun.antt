@@ -11,7 +11,7 @@ use Rattle.vortex_syntax.specs.Syntax as tree
 use Rattle.vortex_syntax.specs.Syntax.{Syntax}
 use Rattle.vortex_syntax.specs.Levels.{level, Fits, is_level, concat_level, literal_level}
 use Rattle.vortex_syntax.specs.Levels.{atom_level, typed_level}
-use Rattle.vortex_syntax.specs.Spelling.{cast_sign, between_tokens}
+use Rattle.vortex_syntax.specs.Spelling.{cast_sign, between_tokens, side_tokens}
 use Rattle.vortex_syntax.specs.Reading.{between_kind}
 use Rattle.vortex_syntax.specs.Spelling.{spelling, all_spelled, with_not, is_tokens, like_sign}
 use Rattle.vortex_syntax.specs.Spelling.{type_token, in_tokens, branches_spelled, function_tokens}
@@ -21,7 +21,7 @@ use Rattle.vortex_syntax.specs.Refusals.{Begins}
 use Rattle.vortex_syntax.proofs.Tables.{top_atom, top_sign, own_right, whole_atom, atom_ceiling}
 use Rattle.vortex_syntax.proofs.Held.{Held, opened, casting, negating, minusing, joining}
 use Rattle.vortex_syntax.proofs.Held.{plusing, inverting, extracting, parting, limiting, placing}
-use Rattle.vortex_syntax.proofs.Held.{first_fits}
+use Rattle.vortex_syntax.proofs.Held.{first_fits, siding, trimming, trimming_by}
 use Rattle.vortex_syntax.proofs.Held.{distinguishing, lower, upper, matching, calling, listing}
 use Rattle.vortex_syntax.proofs.Held.{frame_of, written, choosing, asking, answering, defaulting}
 use Rattle.vortex_syntax.proofs.Held.{IsSound, frames_of, all_written, Nested, Plugged, plugged}
@@ -86,6 +86,11 @@ place_closed : (a b c : List Token)
     → ((a ++ (b ++ (sign sign.In ∷ []))) ++ c) ++ (sign sign.Close ∷ [])
     ≡ a ++ (b ++ (sign sign.In ∷ (c ++ (sign sign.Close ∷ []))))
 place_closed a b c = simp append_assoc
+
+trim_closed : (a b c d : List Token)
+    → ((a ++ (b ++ (c ++ (sign sign.From ∷ [])))) ++ d) ++ (sign sign.Close ∷ [])
+    ≡ a ++ (b ++ (c ++ (sign sign.From ∷ (d ++ (sign sign.Close ∷ [])))))
+trim_closed a b c d = simp append_assoc
 
 filled : (h : Held) (e : Syntax) → IsSound h → Fits e → hole (frame_of h) ≤ level e
     → level e ≤ ceiling (frame_of h) → Filled h e
@@ -188,6 +193,29 @@ filled (placing p g b) e s f le under = record {
   level = refl;
   more = sign sign.Close ∷ [];
   tokens = place_closed (function_tokens p g) (spelling b) (spelling e);
+}
+filled (siding p g d) e s f le under = record {
+  tree = tree.trimmed_by p g (Some d) e (tree.operand (name column));
+  fits = (s, f, refl);
+  level = refl;
+  more = sign sign.From ∷ name column ∷ sign sign.Close ∷ [];
+  tokens = call_closed (function_tokens p g) (sign (sign.Side d) ∷ []) (spelling e)
+      (sign sign.From ∷ name column ∷ sign sign.Close ∷ []);
+}
+filled (trimming p g d) e s f le under = record {
+  tree = tree.trimmed p g d e;
+  fits = (s, f);
+  level = refl;
+  more = sign sign.Close ∷ [];
+  tokens = call_closed (function_tokens p g) (sign (sign.Side d) ∷ sign sign.From ∷ [])
+      (spelling e) (sign sign.Close ∷ []);
+}
+filled (trimming_by p g o c) e s f le under = record {
+  tree = tree.trimmed_by p g o c e;
+  fits = (s.0, s.1, f);
+  level = refl;
+  more = sign sign.Close ∷ [];
+  tokens = trim_closed (function_tokens p g) (side_tokens o) (spelling c) (spelling e);
 }
 filled (calling p w args) e s f le under = record {
   tree = tree.applied p w args e;

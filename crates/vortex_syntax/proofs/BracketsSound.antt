@@ -1,6 +1,6 @@
 -- What closing brackets and commas do to what was read.
 use Rattle.std.proofs.Common.{◌≡◌, ℕ, suc, Bool, List, [], ◌∷◌, ◌++◌, Some, ap, sym, subst, ◌∙◌}
-use Rattle.std.proofs.Common.{append_assoc, refl, lit≤, ◌≤◌}
+use Rattle.std.proofs.Common.{append_assoc, refl, lit≤, ◌≤◌, true, false}
 use Rattle.std.proofs.lemmas.List.{append-nil}
 use Rattle.vortex_syntax.specs.declared.token.Sign.{Sign}
 use Rattle.vortex_syntax.specs.declared.token.Sign.TheVariants as sign
@@ -14,17 +14,20 @@ use Rattle.vortex_syntax.specs.Levels.{Fits, predicate_level, atom_level, level,
 use Rattle.vortex_syntax.specs.Levels.{first_of}
 use Rattle.vortex_syntax.specs.Spelling.{spelling, all_spelled, function_tokens}
 use Rattle.vortex_syntax.specs.Postfix.{Step, applied, listed, argument_count, postfix, all_postfix}
+use Rattle.vortex_syntax.specs.Postfix.{trimmed}
 use Rattle.vortex_syntax.specs.Reading.{State, state, close_behind, comma_behind}
 use Rattle.vortex_syntax.proofs.Tables.{top_atom, atom_ceiling}
 use Rattle.vortex_syntax.proofs.Held.{Held, opened, calling, extracting, listing, written, held}
-use Rattle.vortex_syntax.proofs.Held.{parting, limiting, placing, first_fits}
+use Rattle.vortex_syntax.proofs.Held.{parting, limiting, placing, trimming, trimming_by, first_fits}
 use Rattle.vortex_syntax.proofs.Held.{IsSound}
 use Rattle.vortex_syntax.proofs.Before.{Behind, more, more_tokens, as_tokens, as_steps, pushed}
 use Rattle.vortex_syntax.proofs.Before.{popped, open_is, call_is, items_are, HasOperand, HoldsIn}
 use Rattle.vortex_syntax.proofs.Before.{along, operand_is, extract_is, part_is, limit_is, place_is}
+use Rattle.vortex_syntax.proofs.Before.{trim_is, by_is}
 use Rattle.vortex_syntax.proofs.Grown.{Holding, holding_as, sound_as, completed}
 use Rattle.vortex_syntax.proofs.ItemsSound.{item_is, listed_is}
-use Rattle.vortex_syntax.proofs.PartsSound.{parted_is, limited_is, placed_is}
+use Rattle.vortex_syntax.proofs.PartsSound.{parted_is, limited_is, placed_is, trimmed_is}
+use Rattle.vortex_syntax.proofs.PartsSound.{trimmed_by_is}
 
 pub grouped_is : (a : Syntax) (h : Held) (fs : List Frame) (out : List Step) (before : List Token)
     → Fits a → h ≡ opened
@@ -187,6 +190,24 @@ close_sound l (frame.Place f ∷ fs) out s before e a =
     (before ++ (sign sign.Close ∷ [])) e
     (placed_is i.0 f i.1 a.tree fs out before (sound_as r.h (placing i.0 f i.1) i.2 r.sound) a.fits
     (holding_as r.h (placing i.0 f i.1) a.tree fs out before i.2 r.behind))
+close_sound l (frame.TrimFrom d ∷ fs) out s before e a =
+    let r = popped (frame.TrimFrom d) fs out before (postfix a.tree) (spelling a.tree ++ [])
+    a.behind in
+    let i = trim_is d r.h r.is in
+    let h : Held = trimming i.0 i.1 d in
+    along (state (mode.Have atom_level) fs (out ++ (trimmed d false ∷ []))) s
+    (before ++ (sign sign.Close ∷ [])) e
+    (trimmed_is i.0 i.1 d a.tree fs out before (sound_as r.h h i.2 r.sound) a.fits
+    (holding_as r.h h a.tree fs out before i.2 r.behind))
+close_sound l (frame.TrimBy d ∷ fs) out s before e a =
+    let r = popped (frame.TrimBy d) fs out before (postfix a.tree) (spelling a.tree ++ [])
+    a.behind in
+    let i = by_is d r.h r.is in
+    let h : Held = trimming_by i.0 i.1 i.2 i.3 in
+    along (state (mode.Have atom_level) fs (out ++ (trimmed d true ∷ []))) s
+    (before ++ (sign sign.Close ∷ [])) e
+    (trimmed_by_is i.0 i.1 i.2 d i.3 a.tree fs out before i.5 (sound_as r.h h i.4 r.sound) a.fits
+    (holding_as r.h h a.tree fs out before i.4 r.behind))
 close_sound l (frame.For f ∷ fs) out s before e a =
     let r = popped (frame.For f) fs out before (postfix a.tree) (spelling a.tree ++ []) a.behind in
     let i = limit_is f r.h r.is in

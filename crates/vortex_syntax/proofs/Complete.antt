@@ -42,7 +42,7 @@ use Rattle.vortex_syntax.proofs.StepsRead.{step_plus, step_bit_not, step_titled}
 use Rattle.vortex_syntax.proofs.StepsRead.{step_null_test}
 use Rattle.vortex_syntax.proofs.ArgumentsRead.{beneath, AreRead, read_no_arguments, read_argument}
 use Rattle.vortex_syntax.proofs.ArgumentsRead.{read_nullary, read_applied, read_extracted}
-use Rattle.vortex_syntax.proofs.ArgumentsRead.{read_placed}
+use Rattle.vortex_syntax.proofs.ArgumentsRead.{read_placed, read_trimmed, read_trimmed_by}
 use Rattle.vortex_syntax.proofs.ArgumentsRead.{read_listed, read_parted, read_parted_for}
 use Rattle.vortex_syntax.proofs.ArgumentsRead.{regrouped_2, regrouped_3, regrouped_4}
 
@@ -343,6 +343,9 @@ mutual
   is_read (tree.parted_for p f s a w b) h =
       read_parted_for p f s a w b h.0 h.1 (is_read s h.2) (is_read a h.3) (is_read b h.4)
   is_read (tree.placed p f a b) h = read_placed p f a b h.0 h.1 (is_read a h.2) (is_read b h.3)
+  is_read (tree.trimmed p f d a) h = read_trimmed p f d a h.0 (is_read a h.1)
+  is_read (tree.trimmed_by p f o c a) h =
+      read_trimmed_by p f o c a h.0 (is_read c h.1) (is_read a h.2)
 
   are_read : (args : Arguments) → AllFit args → AreRead args
   are_read tree.no_arguments h = read_no_arguments

@@ -1,6 +1,6 @@
 -- Frames with their operands.
 use Rattle.std.proofs.Common.{◌≡◌, ℕ, suc, ◌<◌, ◌≤◌, Bool, true, false, nat_lt, cond, List, [], ◌∷◌}
-use Rattle.std.proofs.Common.{◌++◌, None, refl, ap, sym, subst, ◌∙◌, append_assoc, arith}
+use Rattle.std.proofs.Common.{◌++◌, Option, None, refl, ap, sym, subst, ◌∙◌, append_assoc, arith}
 use Rattle.std.proofs.lemmas.List.{append-nil}
 use Rattle.std.proofs.lemmas.Bool.Decides.{nat_tests}
 use Rattle.vortex_syntax.specs.declared.step.WrittenOperator.{WrittenOperator}
@@ -17,12 +17,13 @@ use Rattle.vortex_syntax.specs.Syntax as tree
 use Rattle.vortex_syntax.specs.Syntax.{Syntax, Arguments, Branches}
 use Rattle.vortex_syntax.specs.Levels.{left, level, Fits, AllFit, BranchesFit, is_level}
 use Rattle.vortex_syntax.specs.Levels.{concat_level, takes_word, takes_from, takes_in, is_for}
-use Rattle.vortex_syntax.specs.Levels.{first_level, first_of}
+use Rattle.vortex_syntax.specs.Levels.{first_level, first_of, takes_side}
+use Rattle.vortex_syntax.specs.declared.token.TrimSide.{TrimSide}
 use Rattle.vortex_syntax.specs.Spelling.{spelling, all_spelled, operator_sign}
 use Rattle.vortex_syntax.specs.Spelling.{distinct_tokens, in_tokens, like_sign, branches_spelled}
-use Rattle.vortex_syntax.specs.Spelling.{function_tokens, between_tokens, cast_sign}
+use Rattle.vortex_syntax.specs.Spelling.{function_tokens, between_tokens, cast_sign, side_tokens}
 use Rattle.vortex_syntax.specs.Postfix.{Step, operand, called, argument_count, has_operand}
-use Rattle.vortex_syntax.specs.Postfix.{branch_count}
+use Rattle.vortex_syntax.specs.Postfix.{branch_count, side_of}
 use Rattle.vortex_syntax.specs.Postfix.{postfix, all_postfix, branches_postfix}
 use Rattle.vortex_syntax.specs.Reading.{Operand, operand_of, settled}
 use Rattle.vortex_syntax.proofs.Tables.{whole_atom, atom_ceiling}
@@ -44,6 +45,9 @@ pub data Held : Type 0 where
   parting : Bool → List ℕ → Syntax → Held
   limiting : Bool → List ℕ → Syntax → Syntax → List ℕ → Held
   placing : Bool → List ℕ → Syntax → Held
+  siding : Bool → List ℕ → TrimSide → Held
+  trimming : Bool → List ℕ → TrimSide → Held
+  trimming_by : Bool → List ℕ → Option TrimSide → Syntax → Held
   listing : Bool → Syntax → Arguments → Held
   choosing : Held
   asking : Branches → Held
@@ -67,6 +71,9 @@ frame_of (extracting p f w) = frame.Extract f
 frame_of (parting p f s) = frame.From f
 frame_of (limiting p f s a w) = frame.For f
 frame_of (placing p f a) = frame.Place f
+frame_of (siding p f d) = frame.Trim d
+frame_of (trimming p f d) = frame.TrimFrom d
+frame_of (trimming_by p f o c) = frame.TrimBy (side_of o)
 frame_of (listing n a args) = frame.Items n (argument_count args)
 frame_of choosing = frame.Case part.Operand false 0
 frame_of (asking bs) = frame.Case part.When (has_operand bs) (branch_count bs)
@@ -92,6 +99,10 @@ written (parting p f s) = function_tokens p f ++ (spelling s ++ (sign sign.From 
 written (limiting p f s a w) =
     function_tokens p f ++ (spelling s ++ (sign sign.From ∷ (spelling a ++ (name w ∷ []))))
 written (placing p f a) = function_tokens p f ++ (spelling a ++ (sign sign.In ∷ []))
+written (siding p f d) = function_tokens p f ++ (sign (sign.Side d) ∷ [])
+written (trimming p f d) = function_tokens p f ++ (sign (sign.Side d) ∷ sign sign.From ∷ [])
+written (trimming_by p f o c) =
+    function_tokens p f ++ (side_tokens o ++ (spelling c ++ (sign sign.From ∷ [])))
 written (listing n a args) = spelling a ++ (in_tokens n ++ all_spelled args)
 written choosing = sign sign.Case ∷ []
 written (asking bs) = branches_spelled bs ++ (sign sign.When ∷ [])
@@ -118,6 +129,9 @@ held (extracting p f w) = operand (text w) ∷ []
 held (parting p f s) = postfix s
 held (limiting p f s a w) = postfix s ++ postfix a
 held (placing p f a) = postfix a
+held (siding p f d) = []
+held (trimming p f d) = []
+held (trimming_by p f o c) = postfix c
 held (listing n a args) = postfix a ++ all_postfix args
 held choosing = []
 held (asking bs) = branches_postfix bs
@@ -152,6 +166,9 @@ IsSound (extracting p f w) = takes_word f ≡ true
 IsSound (parting p f s) = (takes_from f ≡ true) × Fits s
 IsSound (limiting p f s a w) = (takes_from f ≡ true) × (is_for w ≡ true) × Fits s × Fits a
 IsSound (placing p f a) = (takes_in f ≡ true) × (concat_level ≤ level a) × Fits a
+IsSound (siding p f d) = takes_side f ≡ true
+IsSound (trimming p f d) = takes_side f ≡ true
+IsSound (trimming_by p f o c) = (takes_side f ≡ true) × Fits c
 IsSound (listing n a args) = (concat_level ≤ level a) × Fits a × AllFit args
 IsSound choosing = Unit {0}
 IsSound (asking bs) = BranchesFit bs
@@ -235,6 +252,9 @@ plugged (extracting p v w) e g s f le under = absurd (let k : ⊥ = omega (arith
 plugged (parting p v b) e g s f le under = absurd (let k : ⊥ = omega (arith, g) in k)
 plugged (limiting p v b a w) e g s f le under = absurd (let k : ⊥ = omega (arith, g) in k)
 plugged (placing p v b) e g s f le under = absurd (let k : ⊥ = omega (arith, g) in k)
+plugged (siding p v d) e g s f le under = absurd (let k : ⊥ = omega (arith, g) in k)
+plugged (trimming p v d) e g s f le under = absurd (let k : ⊥ = omega (arith, g) in k)
+plugged (trimming_by p v o c) e g s f le under = absurd (let k : ⊥ = omega (arith, g) in k)
 plugged (listing n a args) e g s f le under = absurd (let k : ⊥ = omega (arith, g) in k)
 plugged choosing e g s f le under = absurd (let k : ⊥ = omega (arith, g) in k)
 plugged (asking bs) e g s f le under = absurd (let k : ⊥ = omega (arith, g) in k)

@@ -73,6 +73,10 @@ signed_read (tree.parted_for true f s a w b) h k fs out ts = refl
 signed_read (tree.parted_for false f s a w b) h k fs out ts = refl
 signed_read (tree.placed true f a b) h k fs out ts = refl
 signed_read (tree.placed false f a b) h k fs out ts = refl
+signed_read (tree.trimmed true f d a) h k fs out ts = refl
+signed_read (tree.trimmed false f d a) h k fs out ts = refl
+signed_read (tree.trimmed_by true f o c a) h k fs out ts = refl
+signed_read (tree.trimmed_by false f o c a) h k fs out ts = refl
 signed_read (tree.chosen bs c v) h k fs out ts =
     case_signed bs
     (sign sign.When ∷ (spelling c ++ (sign sign.Then ∷ (spelling v ++ (sign sign.End ∷ [])))))

@@ -27,7 +27,11 @@ use Rattle.vortex_syntax.specs.Reading as specs
 use Rattle.vortex_syntax.specs.Reading.{State, state}
 use Rattle.vortex_syntax.proofs.Tables.{top_atom, top_sign, atom_ceiling}
 use Rattle.vortex_syntax.proofs.Held.{Held, opened, negating, minusing, distinguishing}
-use Rattle.vortex_syntax.proofs.Held.{plusing, inverting, calling, written, held}
+use Rattle.vortex_syntax.proofs.Held.{plusing, inverting, calling, written, held, IsSound}
+use Rattle.vortex_syntax.proofs.Held.{siding, trimming}
+use Rattle.vortex_syntax.proofs.Before.{side_is}
+use Rattle.vortex_syntax.specs.Levels.{takes_side}
+use Rattle.vortex_syntax.specs.declared.token.TrimSide.{TrimSide}
 use Rattle.vortex_syntax.proofs.Before.{Behind, more, more_tokens, as_tokens, as_steps, pushed}
 use Rattle.vortex_syntax.proofs.Before.{popped, call_is, HasOperand, Holds, HoldsIn, along, chosen}
 use Rattle.vortex_syntax.proofs.Before.{fits_below, operand_more, operand_is}
@@ -96,6 +100,62 @@ nullary_sound (frame.Arguments w zero ∷ fs) out s before e b =
     e (nullary_is i.1 w i.0 r.h fs out before i.2 i.3 r.behind)
 nullary_sound fs out s before e b = absurd cc
 
+-- a side, and `from` directly after it
+sided_is : (p : Bool) (f : List ℕ) (d : TrimSide) (args : Arguments) (h : Held) (fs : List Frame)
+    (out : List Step) (before : List Token) → h ≡ calling p f args → 0 ≡ argument_count args
+    → takes_side f ≡ true → Behind fs out before (held h ++ []) (written h ++ [])
+    → Behind (frame.Trim d ∷ fs) out (before ++ (sign (sign.Side d) ∷ [])) [] []
+sided_is p f d args h fs out before e k is r =
+    let same : h ≡ calling p f tree.no_arguments = e ∙ ap (calling p f) (none_are args k) in
+    let here : Behind fs out before [] ((function_tokens p f ++ []) ++ []) =
+    subst (λ (v : Held). Behind fs out before (held v ++ []) (written v ++ [])) same r in
+    let b : Behind fs out before [] (function_tokens p f) =
+    as_tokens fs out before [] ((function_tokens p f ++ []) ++ []) (function_tokens p f)
+    (append-nil (function_tokens p f ++ []) ∙ append-nil (function_tokens p f)) here in
+    let last : List Token = sign (sign.Side d) ∷ [] in
+    pushed (siding p f d) fs out (before ++ last)
+    (more_tokens fs out before [] (function_tokens p f) last b) is (top_atom fs)
+
+side_sound : (d : TrimSide) (fs : List Frame) (out : List Step) (s : State)
+    (before : List Token) → specs.side_expected d fs out ≡ Some s → Behind fs out before [] []
+    → HoldsIn s (before ++ (sign (sign.Side d) ∷ []))
+side_sound d (frame.Arguments f zero ∷ fs) out s before e b =
+    let r = popped (frame.Arguments f 0) fs out before [] [] b in
+    let i = call_is f 0 r.h r.is in
+    let after = state mode.Want (frame.Trim d ∷ fs) out in
+    let c = chosen (takes_side f) after s e in
+    along after s (before ++ (sign (sign.Side d) ∷ [])) c.1
+    (sided_is i.1 f d i.0 r.h fs out before i.2 i.3 c.0 r.behind)
+side_sound d fs out s before e b = absurd cc
+
+trimmed_is : (p : Bool) (f : List ℕ) (d : TrimSide) (h : Held) (fs : List Frame)
+    (out : List Step) (before : List Token) → h ≡ siding p f d → IsSound h
+    → Behind fs out before (held h ++ []) (written h ++ [])
+    → Behind (frame.TrimFrom d ∷ fs) out (before ++ (sign sign.From ∷ [])) [] []
+trimmed_is p f d h fs out before e k r =
+    let here : Behind fs out before [] ((function_tokens p f ++ (sign (sign.Side d) ∷ [])) ++ []) =
+    subst (λ (v : Held). Behind fs out before (held v ++ []) (written v ++ [])) e r in
+    let is : IsSound (siding p f d) = subst (λ (v : Held). IsSound v) e k in
+    let last : List Token = sign sign.From ∷ [] in
+    let side : List Token = sign (sign.Side d) ∷ [] in
+    pushed (trimming p f d) fs out (before ++ last)
+    (as_tokens fs out (before ++ last) [] (((function_tokens p f ++ side) ++ []) ++ last)
+    (written (trimming p f d))
+    (ap (λ ts. ts ++ last) (append-nil (function_tokens p f ++ side))
+    ∙ append_assoc (function_tokens p f) side last)
+    (more_tokens fs out before [] ((function_tokens p f ++ side) ++ []) last here)) is
+    (top_atom fs)
+
+trim_sound : (fs : List Frame) (out : List Step) (s : State) (before : List Token)
+    → specs.from_expected fs out ≡ Some s → Behind fs out before [] []
+    → HoldsIn s (before ++ (sign sign.From ∷ []))
+trim_sound (frame.Trim d ∷ fs) out s before e b =
+    let r = popped (frame.Trim d) fs out before [] [] b in
+    let i = side_is d r.h r.is in
+    along (state mode.Want (frame.TrimFrom d ∷ fs) out) s (before ++ (sign sign.From ∷ [])) e
+    (trimmed_is i.0 i.1 d r.h fs out before i.2 r.sound r.behind)
+trim_sound fs out s before e b = absurd cc
+
 pub sign_wanted_sound : (fs : List Frame) (out : List Step) (u : Sign) (s : State)
     (before : List Token) → specs.sign_expected fs out u ≡ Some s → Behind fs out before [] []
     → HoldsIn s (before ++ (sign u ∷ []))
@@ -122,6 +182,8 @@ sign_wanted_sound fs out sign.Symmetric s before e b = symmetric_sound fs out s 
 sign_wanted_sound fs out sign.Close s before e b = nullary_sound fs out s before e b
 sign_wanted_sound fs out sign.Case s before e b = case_begun fs out s before e b
 sign_wanted_sound fs out sign.When s before e b = when_first fs out s before e b
+sign_wanted_sound fs out (sign.Side d) s before e b = side_sound d fs out s before e b
+sign_wanted_sound fs out sign.From s before e b = trim_sound fs out s before e b
 sign_wanted_sound fs out u s before e b = absurd cc
 
 pub other_wanted_sound : (fs : List Frame) (out : List Step) (t : Token) (s : State)

@@ -16,14 +16,16 @@ use Rattle.vortex_syntax.specs.Syntax as tree
 use Rattle.vortex_syntax.specs.Syntax.{Tested}
 use Rattle.vortex_syntax.specs.Levels.{typed_level, own, left, is_operand, operand_level, and_level}
 use Rattle.vortex_syntax.specs.Levels.{bit_not_level, IsTested, takes_word, takes_from, takes_in}
-use Rattle.vortex_syntax.specs.Levels.{is_for}
+use Rattle.vortex_syntax.specs.Levels.{is_for, takes_side}
+use Rattle.vortex_syntax.specs.declared.token.TrimSide.{TrimSide}
+use Rattle.vortex_syntax.specs.declared.token.TrimSide.TheVariants as side
 use Rattle.vortex_syntax.specs.Levels.{not_level, distinct_level, is_level, predicate_level}
 use Rattle.vortex_syntax.specs.Levels.{concat_level, atom_level, literal_level}
 use Rattle.vortex_syntax.specs.Spelling.{operator_sign, type_token, with_not, is_tokens, test_token}
 use Rattle.vortex_syntax.specs.Spelling.{null_test_sign, function_tokens, between_tokens, cast_sign}
 use Rattle.vortex_syntax.specs.Spelling.{test_tokens, distinct_tokens, in_tokens, like_sign}
 use Rattle.vortex_syntax.specs.Postfix.{Step, operand, negative, typed, cast, escaped, applied}
-use Rattle.vortex_syntax.specs.Postfix.{listed, called, test_of, last_name}
+use Rattle.vortex_syntax.specs.Postfix.{listed, trimmed, called, test_of, last_name}
 use Rattle.vortex_syntax.specs.Reading as specs
 use Rattle.vortex_syntax.specs.Reading.{state, settled, shifted, joining, and_behind, predicate}
 use Rattle.std.proofs.Common.{cond}
@@ -55,6 +57,9 @@ and_joins l (frame.Extract w ∷ fs) out h k = rw (at_most and_level l h) refl
 and_joins l (frame.From w ∷ fs) out h k = rw (at_most and_level l h) refl
 and_joins l (frame.For w ∷ fs) out h k = rw (at_most and_level l h) refl
 and_joins l (frame.Place w ∷ fs) out h k = rw (at_most and_level l h) refl
+and_joins l (frame.Trim d ∷ fs) out h k = rw (at_most and_level l h) refl
+and_joins l (frame.TrimFrom d ∷ fs) out h k = rw (at_most and_level l h) refl
+and_joins l (frame.TrimBy d ∷ fs) out h k = rw (at_most and_level l h) refl
 and_joins l (frame.Items m n ∷ fs) out h k = rw (at_most and_level l h) refl
 and_joins l (frame.Case p m n ∷ fs) out h k = rw (at_most and_level l h) refl
 
@@ -392,13 +397,53 @@ pub step_extracted : (f : List ℕ) (l : ℕ) (fs : List Frame) (out : List Step
 unfolding run next word_after settled
 step_extracted f l fs out ts = refl
 
+pub step_side : (f : List ℕ) → takes_side f ≡ true → (d : TrimSide) (fs : List Frame)
+    (out : List Step) (ts : List Token)
+    → want (frame.Arguments f 0 ∷ fs) out (sign (sign.Side d) ∷ ts) ≡ want (frame.Trim d ∷ fs) out ts
+unfolding run next
+step_side f is d fs out ts =
+    ap (λ b. ran ts (cond b (Some (state mode.Want (frame.Trim d ∷ fs) out)) None)) is
+
+pub step_side_from : (d : TrimSide) (fs : List Frame) (out : List Step) (ts : List Token)
+    → want (frame.Trim d ∷ fs) out (sign sign.From ∷ ts) ≡ want (frame.TrimFrom d ∷ fs) out ts
+unfolding run next
+step_side_from d fs out ts = refl
+
+pub step_by : (d : TrimSide) (l : ℕ) (fs : List Frame) (out : List Step) (ts : List Token)
+    → have l (frame.Trim d ∷ fs) out (sign sign.From ∷ ts) ≡ want (frame.TrimBy d ∷ fs) out ts
+unfolding run next word_after settled
+step_by d l fs out ts = refl
+
+pub step_by_from : (f : List ℕ) → takes_from f ≡ false → takes_side f ≡ true → (l : ℕ)
+    (fs : List Frame) (out : List Step) (ts : List Token)
+    → have l (frame.Arguments f 0 ∷ fs) out (sign sign.From ∷ ts)
+    ≡ want (frame.TrimBy side.Both ∷ fs) out ts
+unfolding run next word_after settled
+step_by_from f other is l fs out ts =
+    ap (λ b. ran ts (cond b (Some (state mode.Want (frame.From f ∷ fs) out))
+    (specs.by_behind f fs out))) other
+    ∙ ap (λ b. ran ts (cond b (Some (state mode.Want (frame.TrimBy side.Both ∷ fs) out)) None)) is
+
+pub step_trimmed : (d : TrimSide) (l : ℕ) (fs : List Frame) (out : List Step) (ts : List Token)
+    → have l (frame.TrimFrom d ∷ fs) out (sign sign.Close ∷ ts)
+    ≡ have atom_level fs (out ++ (trimmed d false ∷ [])) ts
+unfolding run next word_after settled
+step_trimmed d l fs out ts = refl
+
+pub step_trimmed_by : (d : TrimSide) (l : ℕ) (fs : List Frame) (out : List Step) (ts : List Token)
+    → have l (frame.TrimBy d ∷ fs) out (sign sign.Close ∷ ts)
+    ≡ have atom_level fs (out ++ (trimmed d true ∷ [])) ts
+unfolding run next word_after settled
+step_trimmed_by d l fs out ts = refl
+
 pub step_from : (f : List ℕ) → takes_from f ≡ true → (l : ℕ) (fs : List Frame) (out : List Step)
     (ts : List Token)
     → have l (frame.Arguments f 0 ∷ fs) out (sign sign.From ∷ ts)
     ≡ want (frame.From f ∷ fs) out ts
 unfolding run next word_after settled
 step_from f is l fs out ts =
-    ap (λ b. ran ts (cond b (Some (state mode.Want (frame.From f ∷ fs) out)) None)) is
+    ap (λ b. ran ts (cond b (Some (state mode.Want (frame.From f ∷ fs) out))
+    (specs.by_behind f fs out))) is
 
 pub step_for : (f w : List ℕ) → is_for w ≡ true → (l : ℕ) (fs : List Frame) (out : List Step)
     (ts : List Token)

@@ -66,6 +66,9 @@ guard_hole (frame.Extract w) = lit≤ tt
 guard_hole (frame.From w) = lit≤ tt
 guard_hole (frame.For w) = lit≤ tt
 guard_hole (frame.Place w) = lit≤ tt
+guard_hole (frame.Trim d) = lit≤ tt
+guard_hole (frame.TrimFrom d) = lit≤ tt
+guard_hole (frame.TrimBy d) = lit≤ tt
 guard_hole (frame.Items m n) = lit≤ tt
 guard_hole (frame.Case p m n) = lit≤ tt
 

@@ -6,6 +6,7 @@ use Rattle.std.proofs.lemmas.List.{append-nil}
 use Rattle.std.proofs.lemmas.Bool.{false≢true}
 use Rattle.vortex_syntax.specs.declared.token.Sign.{Sign}
 use Rattle.vortex_syntax.specs.declared.token.Sign.TheVariants as sign
+use Rattle.vortex_syntax.specs.declared.token.TrimSide.TheVariants as side
 use Rattle.vortex_syntax.specs.declared.writing.Ending.{Ending}
 use Rattle.vortex_syntax.specs.declared.writing.Ending.TheVariants as at
 use Rattle.vortex_syntax.specs.declared.writing.Writer.{Writer}
@@ -134,6 +135,12 @@ plain_piece sign.TryCast rest s =
     known_piece (codes "try_cast") rest (Some sign.TryCast) refl refl refl s
 plain_piece sign.Symmetric rest s =
     known_piece (codes "symmetric") rest (Some sign.Symmetric) refl refl refl s
+plain_piece (sign.Side side.Both) rest s =
+    known_piece (codes "both") rest (Some (sign.Side side.Both)) refl refl refl s
+plain_piece (sign.Side side.Leading) rest s =
+    known_piece (codes "leading") rest (Some (sign.Side side.Leading)) refl refl refl s
+plain_piece (sign.Side side.Trailing) rest s =
+    known_piece (codes "trailing") rest (Some (sign.Side side.Trailing)) refl refl refl s
 plain_piece sign.From rest s = known_piece (codes "from") rest (Some sign.From) refl refl refl s
 plain_piece sign.Equal rest s = equal_piece rest s
 plain_piece sign.NotEqual rest s = refl

@@ -3,6 +3,7 @@ use Rattle.std.specs.Prelude.{ℕ, zero, suc, List, [], ◌∷◌, Bool}
 use Rattle.vortex_syntax.specs.declared.step.WrittenOperator.{WrittenOperator}
 use Rattle.vortex_syntax.specs.declared.step.BetweenKind.{BetweenKind}
 use Rattle.vortex_syntax.specs.declared.step.LikeKind.{LikeKind}
+use Rattle.vortex_syntax.specs.declared.token.TrimSide.{TrimSide}
 use Rattle.vortex_syntax.specs.declared.frame.CasePart.{CasePart}
 use Rattle.vortex_syntax.specs.declared.frame.Frame as held
 use Rattle.vortex_syntax.specs.declared.frame.Frame.TheVariants as variant
@@ -15,8 +16,9 @@ use Rattle.vortex_syntax.specs.Postfix.{Step, called}
 -- Cast is by `try_cast` if the flag is true; Between is before its `and`, Bounded after it; Arguments
 -- is a call of that name, after as many arguments; Extract is one after a word and `from`; From is
 -- one after an argument and `from`, For after one more and `for`; Place is one after an argument
--- and `in`; Items are those of IN, after as many; Case is before that part of a CASE, which has an
--- operand if the flag is true, after as many values
+-- and `in`; Trim is one after a side, TrimFrom after a side and `from`, TrimBy after what it trims
+-- by and `from`; Items are those of IN, after as many; Case is before that part of a CASE, which has
+-- an operand if the flag is true, after as many values
 pub data Frame : Type 0 where
   Open : Frame
   Cast : Bool → Frame
@@ -34,6 +36,9 @@ pub data Frame : Type 0 where
   From : List ℕ → Frame
   For : List ℕ → Frame
   Place : List ℕ → Frame
+  Trim : TrimSide → Frame
+  TrimFrom : TrimSide → Frame
+  TrimBy : TrimSide → Frame
   Items : Bool → ℕ → Frame
   Case : CasePart → Bool → ℕ → Frame
 
@@ -54,6 +59,9 @@ frame_in (variant.Extract w) = Extract w.now
 frame_in (variant.From w) = From w.now
 frame_in (variant.For w) = For w.now
 frame_in (variant.Place w) = Place w.now
+frame_in (variant.Trim d) = Trim d
+frame_in (variant.TrimFrom d) = TrimFrom d
+frame_in (variant.TrimBy d) = TrimBy d
 frame_in (variant.Items n k) = Items n k
 frame_in (variant.Case p n k) = Case p n k
 
@@ -76,6 +84,9 @@ hole (Extract w) = 0
 hole (From w) = 0
 hole (For w) = 0
 hole (Place w) = 0
+hole (Trim d) = 0
+hole (TrimFrom d) = 0
+hole (TrimBy d) = 0
 hole (Items n k) = 0
 hole (Case p n k) = 0
 
@@ -111,6 +122,9 @@ guard (Extract w) = 0
 guard (From w) = 0
 guard (For w) = 0
 guard (Place w) = 0
+guard (Trim d) = 0
+guard (TrimFrom d) = 0
+guard (TrimBy d) = 0
 guard (Items n k) = 0
 guard (Case p n k) = 0
 
@@ -132,6 +146,9 @@ whole (Extract w) = atom_level
 whole (From w) = atom_level
 whole (For w) = atom_level
 whole (Place w) = atom_level
+whole (Trim d) = atom_level
+whole (TrimFrom d) = atom_level
+whole (TrimBy d) = atom_level
 whole (Items n k) = predicate_level
 whole (Case p n k) = atom_level
 
@@ -152,5 +169,8 @@ closing (Extract w) = called call.Not
 closing (From w) = called call.Not
 closing (For w) = called call.Not
 closing (Place w) = called call.Not
+closing (Trim d) = called call.Not
+closing (TrimFrom d) = called call.Not
+closing (TrimBy d) = called call.Not
 closing (Items n k) = called call.Not
 closing (Case p n k) = called call.Not

@@ -4,6 +4,7 @@ use Rattle.std.specs.Char.{to_ascii_lowercase}
 use Rattle.std.specs.Str.{bytes_eq}
 use Rattle.vortex_syntax.specs.declared.token.Sign.{Sign}
 use Rattle.vortex_syntax.specs.declared.token.Sign.TheVariants as sign
+use Rattle.vortex_syntax.specs.declared.token.TrimSide.TheVariants as side
 
 -- the same word, ignoring case
 abbrev pub same_word : List ℕ → List ℕ → Bool
@@ -38,4 +39,7 @@ keyword_of w =
     else (if same_word w (codes "symmetric") then Some sign.Symmetric
     else (if same_word w (codes "regexp") then Some sign.BitNot
     else (if same_word w (codes "rlike") then Some sign.BitNot
-    else None))))))))))))))))))))))))))
+    else (if same_word w (codes "both") then Some (sign.Side side.Both)
+    else (if same_word w (codes "leading") then Some (sign.Side side.Leading)
+    else (if same_word w (codes "trailing") then Some (sign.Side side.Trailing)
+    else None)))))))))))))))))))))))))))))

@@ -11,6 +11,7 @@ use Rattle.vortex_syntax.specs.Syntax.{joined, tested, distinct, between, matche
 use Rattle.vortex_syntax.specs.Syntax.{plus, bit_not, null_tested, Tested, Null, True, False}
 use Rattle.vortex_syntax.specs.Syntax.{Unknown, converted, titled, extracted, parted, parted_for}
 use Rattle.vortex_syntax.specs.Syntax.{placed, nullary, chosen, chosen_else, applied, Arguments}
+use Rattle.vortex_syntax.specs.Syntax.{trimmed, trimmed_by}
 use Rattle.vortex_syntax.specs.Syntax.{no_arguments, argument, Branches, without_operand}
 use Rattle.vortex_syntax.specs.Syntax.{of_operand, branch}
 
@@ -178,6 +179,8 @@ level (extracted p f w a) = atom_level
 level (parted p f s a) = atom_level
 level (parted_for p f s a w b) = atom_level
 level (placed p f a b) = atom_level
+level (trimmed p f d a) = atom_level
+level (trimmed_by p f o c a) = atom_level
 
 -- the word of a test is the right one
 abbrev pub IsTested : Tested → Type 0
@@ -200,6 +203,10 @@ is_for w = same_word w (codes "for")
 -- the function that takes `in` after its first argument
 abbrev pub takes_in : List ℕ → Bool
 takes_in f = same_word f (codes "position")
+
+-- the function that takes a side, and `from` after what it trims by
+abbrev pub takes_side : List ℕ → Bool
+takes_side f = same_word f (codes "trim")
 
 -- the least level of a first argument: what may stand before `in`, where the function takes it
 abbrev pub first_level : List ℕ → ℕ
@@ -242,6 +249,8 @@ abbrev mutual
   Fits (parted_for p f s a w b) =
       (takes_from f ≡ true) × (is_for w ≡ true) × Fits s × Fits a × Fits b
   Fits (placed p f a b) = (takes_in f ≡ true) × (concat_level ≤ level a) × Fits a × Fits b
+  Fits (trimmed p f d a) = (takes_side f ≡ true) × Fits a
+  Fits (trimmed_by p f o c a) = (takes_side f ≡ true) × Fits c × Fits a
 
   pub AllFit : Arguments → Type 0
   AllFit no_arguments = Unit {0}

@@ -8,6 +8,8 @@ use Rattle.vortex_syntax.specs.declared.step.Call.{Call}
 use Rattle.vortex_syntax.specs.declared.step.Call.TheVariants as call
 use Rattle.vortex_syntax.specs.declared.step.Step as read
 use Rattle.vortex_syntax.specs.declared.step.Step.TheVariants as variant
+use Rattle.vortex_syntax.specs.declared.token.TrimSide.{TrimSide}
+use Rattle.vortex_syntax.specs.declared.token.TrimSide.TheVariants.{Both}
 use Rattle.vortex_syntax.specs.Tokens.{Token, name, text, token_in}
 use Rattle.vortex_syntax.specs.Syntax as tree
 use Rattle.vortex_syntax.specs.Syntax.{Syntax, Tested, Arguments, Branches}
@@ -21,6 +23,7 @@ pub data Step : Type 0 where
   applied : List ℕ → ℕ → Step
   listed : Bool → ℕ → Step
   chosen : Bool → ℕ → Bool → Step
+  trimmed : TrimSide → Bool → Step
   called : Call → Step
 
 abbrev pub step_in : read.Step → Step
@@ -32,6 +35,7 @@ step_in (variant.Escaped k e) = escaped k e.now
 step_in (variant.Apply w n) = applied w.now n
 step_in (variant.In n k) = listed n k
 step_in (variant.Case n k e) = chosen n k e
+step_in (variant.Trim d c) = trimmed d c
 step_in (variant.Call c) = called c
 
 abbrev pub like_step : LikeKind → Option (List ℕ) → Step
@@ -43,6 +47,11 @@ test_of tree.Null = test.Null
 test_of tree.True = test.True
 test_of tree.False = test.False
 test_of (tree.Unknown w) = test.Unknown
+
+-- both sides where none is meant
+abbrev pub side_of : Option TrimSide → TrimSide
+side_of None = Both
+side_of (Some d) = d
 
 abbrev pub argument_count : Arguments → ℕ
 argument_count tree.no_arguments = 0
@@ -94,6 +103,9 @@ abbrev mutual
   postfix (tree.parted_for p f s a w b) =
       postfix s ++ (postfix a ++ (postfix b ++ (applied f 3 ∷ [])))
   postfix (tree.placed p f a b) = postfix a ++ (postfix b ++ (applied f 2 ∷ []))
+  postfix (tree.trimmed p f d a) = postfix a ++ (trimmed d false ∷ [])
+  postfix (tree.trimmed_by p f o c a) =
+      postfix c ++ (postfix a ++ (trimmed (side_of o) true ∷ []))
 
   pub all_postfix : Arguments → List Step
   all_postfix tree.no_arguments = []

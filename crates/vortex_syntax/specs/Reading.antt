@@ -23,14 +23,16 @@ use Rattle.vortex_syntax.specs.Levels.{own, left, or_level, and_level, not_level
 use Rattle.vortex_syntax.specs.Levels.{typed_level, distinct_level, is_level}
 use Rattle.vortex_syntax.specs.Levels.{predicate_level, concat_level, atom_level, literal_level}
 use Rattle.vortex_syntax.specs.Levels.{bit_not_level, is_operand, operand_level, takes_word}
-use Rattle.vortex_syntax.specs.Levels.{takes_from, takes_in, is_for}
+use Rattle.vortex_syntax.specs.Levels.{takes_from, takes_in, takes_side, is_for}
 use Rattle.vortex_syntax.specs.Spelling.{operator_of}
 use Rattle.vortex_syntax.specs.declared.reading.Reading.{Reading}
 use Rattle.vortex_syntax.specs.Frames as frame
 use Rattle.vortex_syntax.specs.Frames.{Frame, frame_in, top_hole, top_ceiling, guard, whole}
 use Rattle.vortex_syntax.specs.Frames.{closing}
 use Rattle.vortex_syntax.specs.Postfix.{Step, step_in, operand, negative, typed, cast, escaped}
-use Rattle.vortex_syntax.specs.Postfix.{applied, listed, chosen, called, last_name}
+use Rattle.vortex_syntax.specs.Postfix.{applied, listed, chosen, trimmed, called, last_name}
+use Rattle.vortex_syntax.specs.declared.token.TrimSide.{TrimSide}
+use Rattle.vortex_syntax.specs.declared.token.TrimSide.TheVariants as side
 
 -- the last frame is first
 pub record State : Type 0 where
@@ -146,6 +148,10 @@ close_behind (frame.For w ∷ fs) out =
     Some (state (mode.Have atom_level) fs (out ++ (applied w 3 ∷ [])))
 close_behind (frame.Place w ∷ fs) out =
     Some (state (mode.Have atom_level) fs (out ++ (applied w 2 ∷ [])))
+close_behind (frame.TrimFrom d ∷ fs) out =
+    Some (state (mode.Have atom_level) fs (out ++ (trimmed d false ∷ [])))
+close_behind (frame.TrimBy d ∷ fs) out =
+    Some (state (mode.Have atom_level) fs (out ++ (trimmed d true ∷ [])))
 close_behind (frame.Items n k ∷ fs) out =
     Some (state (mode.Have predicate_level) fs (out ++ (listed n (suc k) ∷ [])))
 close_behind (f ∷ fs) out = None
@@ -158,11 +164,17 @@ comma_behind (frame.Arguments w n ∷ fs) out =
 comma_behind (frame.Items n k ∷ fs) out = Some (state mode.Want (frame.Items n (suc k) ∷ fs) out)
 comma_behind (f ∷ fs) out = None
 
--- a `from` ends the first argument of a function that takes it, and a word `for` the second
+-- a `from` ends the first argument of a function that takes it, or what a text is trimmed by, and a
+-- word `for` the second argument
+abbrev pub by_behind : List ℕ → List Frame → List Step → Option State
+by_behind f fs out =
+    if takes_side f then Some (state mode.Want (frame.TrimBy side.Both ∷ fs) out) else None
+
 abbrev pub from_behind : List Frame → List Step → Option State
 from_behind [] out = None
 from_behind (frame.Arguments f zero ∷ fs) out =
-    if takes_from f then Some (state mode.Want (frame.From f ∷ fs) out) else None
+    if takes_from f then Some (state mode.Want (frame.From f ∷ fs) out) else by_behind f fs out
+from_behind (frame.Trim d ∷ fs) out = Some (state mode.Want (frame.TrimBy d ∷ fs) out)
 from_behind (f ∷ fs) out = None
 
 abbrev pub for_behind : List ℕ → List Frame → List Step → Option State
@@ -347,6 +359,18 @@ symmetric_expected (frame.Between k ∷ fs) out =
     else Some (state mode.Want (frame.Between (between_kind k.negated true) ∷ fs) out)
 symmetric_expected (f ∷ fs) out = None
 
+-- a side after the bracket of a function that takes it, and `from` directly after the side
+abbrev pub side_expected : TrimSide → List Frame → List Step → Option State
+side_expected d [] out = None
+side_expected d (frame.Arguments f zero ∷ fs) out =
+    if takes_side f then Some (state mode.Want (frame.Trim d ∷ fs) out) else None
+side_expected d (f ∷ fs) out = None
+
+abbrev pub from_expected : List Frame → List Step → Option State
+from_expected [] out = None
+from_expected (frame.Trim d ∷ fs) out = Some (state mode.Want (frame.TrimFrom d ∷ fs) out)
+from_expected (f ∷ fs) out = None
+
 -- an operand's first token
 abbrev pub sign_expected : List Frame → List Step → Sign → Option State
 sign_expected fs out sign.Minus = Some (state mode.Signed fs out)
@@ -363,6 +387,8 @@ sign_expected fs out sign.Symmetric = symmetric_expected fs out
 sign_expected fs out sign.Case = case_waits part.Operand false 0 fs out
 sign_expected fs out sign.When = when_expected fs out
 sign_expected fs out sign.Close = close_expected fs out
+sign_expected fs out (sign.Side d) = side_expected d fs out
+sign_expected fs out sign.From = from_expected fs out
 sign_expected fs out s = None
 
 abbrev pub other_wanted : List Frame → List Step → Token → Option State

@@ -7,12 +7,14 @@ use Rattle.vortex_syntax.specs.declared.step.BetweenKind.{BetweenKind}
 use Rattle.vortex_syntax.specs.declared.step.LikeKind.{LikeKind}
 use Rattle.vortex_syntax.specs.declared.token.Sign.{Sign}
 use Rattle.vortex_syntax.specs.declared.token.Sign.TheVariants as sign
+use Rattle.vortex_syntax.specs.declared.token.TrimSide.{TrimSide}
 use Rattle.vortex_syntax.specs.Tokens.{Token, name, nullable, function, number, text, sign}
 use Rattle.vortex_syntax.specs.Syntax.{Syntax, operand, negative, minus, typed, grouped, negated}
 use Rattle.vortex_syntax.specs.Syntax.{joined, tested, distinct, between, matched, listed, cast}
 use Rattle.vortex_syntax.specs.Syntax.{plus, bit_not, null_tested, Tested, Null, True, False}
 use Rattle.vortex_syntax.specs.Syntax.{Unknown, converted, titled, extracted, parted, parted_for}
 use Rattle.vortex_syntax.specs.Syntax.{placed, nullary, chosen, chosen_else, applied, Arguments}
+use Rattle.vortex_syntax.specs.Syntax.{trimmed, trimmed_by}
 use Rattle.vortex_syntax.specs.Syntax.{no_arguments, argument, Branches, without_operand}
 use Rattle.vortex_syntax.specs.Syntax.{of_operand, branch}
 
@@ -114,6 +116,11 @@ abbrev pub function_tokens : Bool → List ℕ → List Token
 function_tokens false w = function w ∷ []
 function_tokens true w = name w ∷ sign sign.Open ∷ []
 
+-- a side, if there is one
+abbrev pub side_tokens : Option TrimSide → List Token
+side_tokens None = []
+side_tokens (Some d) = sign (sign.Side d) ∷ []
+
 abbrev pub escape_tokens : Option (List ℕ) → List Token
 escape_tokens None = []
 escape_tokens (Some e) = sign sign.Escape ∷ text e ∷ []
@@ -164,6 +171,13 @@ abbrev mutual
   spelling (placed p f a b) =
       function_tokens p f
       ++ (spelling a ++ (sign sign.In ∷ (spelling b ++ (sign sign.Close ∷ []))))
+  spelling (trimmed p f d a) =
+      function_tokens p f
+      ++ (sign (sign.Side d) ∷ sign sign.From ∷ (spelling a ++ (sign sign.Close ∷ [])))
+  spelling (trimmed_by p f o c a) =
+      function_tokens p f
+      ++ (side_tokens o
+      ++ (spelling c ++ (sign sign.From ∷ (spelling a ++ (sign sign.Close ∷ [])))))
 
   -- a comma follows each
   pub all_spelled : Arguments → List Token

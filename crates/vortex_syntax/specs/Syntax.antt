@@ -3,6 +3,7 @@ use Rattle.std.specs.Prelude.{ℕ, List, Bool, Option}
 use Rattle.vortex_syntax.specs.declared.step.WrittenOperator.{WrittenOperator}
 use Rattle.vortex_syntax.specs.declared.step.BetweenKind.{BetweenKind}
 use Rattle.vortex_syntax.specs.declared.step.LikeKind.{LikeKind}
+use Rattle.vortex_syntax.specs.declared.token.TrimSide.{TrimSide}
 use Rattle.vortex_syntax.specs.Tokens.{Token}
 
 -- what IS tests for: Unknown by a word that is `unknown`, ignoring case
@@ -41,6 +42,9 @@ pub data Tested : Type 0 where
 -- parted_for: the same with a tree after a word that is `for`, ignoring case
 -- placed: the function of that name, which takes `in`, of the trees before and after it; its
 -- bracket is as above
+-- trimmed: the function of that name, which takes a side, of that side and the tree after `from`;
+-- its bracket is as above
+-- trimmed_by: the same of the trees before and after `from`, and of the side if there is one
 mutual
   pub data Syntax : Type 0 where
     operand : Token → Syntax
@@ -69,6 +73,8 @@ mutual
     parted : Bool → List ℕ → Syntax → Syntax → Syntax
     parted_for : Bool → List ℕ → Syntax → Syntax → List ℕ → Syntax → Syntax
     placed : Bool → List ℕ → Syntax → Syntax → Syntax
+    trimmed : Bool → List ℕ → TrimSide → Syntax → Syntax
+    trimmed_by : Bool → List ℕ → Option TrimSide → Syntax → Syntax → Syntax
 
   -- the arguments or items before the last one
   pub data Arguments : Type 0 where

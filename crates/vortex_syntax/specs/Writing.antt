@@ -4,6 +4,7 @@ use Rattle.std.specs.Prelude.{codes, is_none, string_bytes, Option, Some, None, 
 use Rattle.std.specs.List.{list_all}
 use Rattle.vortex_syntax.specs.declared.token.Sign.{Sign}
 use Rattle.vortex_syntax.specs.declared.token.Sign.TheVariants as sign
+use Rattle.vortex_syntax.specs.declared.token.TrimSide.TheVariants as side
 use Rattle.vortex_syntax.specs.declared.pieces.Run.TheVariants.{Word}
 use Rattle.vortex_syntax.specs.declared.writing.Ending.{Ending}
 use Rattle.vortex_syntax.specs.declared.writing.Ending.TheVariants as at
@@ -39,6 +40,9 @@ sign_text sign.IsNull = codes "isnull"
 sign_text sign.NotNull = codes "notnull"
 sign_text sign.TryCast = codes "try_cast"
 sign_text sign.Symmetric = codes "symmetric"
+sign_text (sign.Side side.Both) = codes "both"
+sign_text (sign.Side side.Leading) = codes "leading"
+sign_text (sign.Side side.Trailing) = codes "trailing"
 sign_text sign.Equal = codes "="
 sign_text sign.NotEqual = codes "<>"
 sign_text sign.Less = codes "<"

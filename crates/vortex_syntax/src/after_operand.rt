@@ -153,6 +153,18 @@ impl<'a> Reading<'a> {
                 self.emit(Step::Apply(name, 3))?;
                 Ok(Some(Mode::Have(ATOM)))
             }
+            Some(Frame::TrimFrom(side)) => {
+                self.at = self.top_sign();
+                self.drop_top();
+                self.emit(Step::Trim(side, false))?;
+                Ok(Some(Mode::Have(ATOM)))
+            }
+            Some(Frame::TrimBy(side)) => {
+                self.at = self.top_sign();
+                self.drop_top();
+                self.emit(Step::Trim(side, true))?;
+                Ok(Some(Mode::Have(ATOM)))
+            }
             Some(Frame::Items(negated, count)) => {
                 self.at = self.top_sign();
                 self.drop_top();

@@ -96,6 +96,8 @@ impl<'a> Reading<'a> {
                 Ok(Some(Mode::Want))
             }
             Sign::When => self.when_expected(),
+            Sign::Side(side) => self.side_expected(side),
+            Sign::From => self.from_expected(),
             Sign::Close => self.close_expected(),
             _ => Ok(None),
         }

@@ -33,6 +33,10 @@ pub enum Expected {
     OperatorOrFor,
     /// After the first operand in the brackets of a function that takes `in`.
     OperatorOrIn,
+    /// After a side.
+    OperandOrFrom,
+    /// After a side and an operand.
+    OperatorOrFromOnly,
     /// After an operand in the brackets of `cast`.
     OperatorOrAs,
     /// After `case`.
@@ -93,6 +97,8 @@ impl Expected {
             Expected::OperatorOrFrom => "an operator, from, a comma or )",
             Expected::OperatorOrFor => "an operator, for or )",
             Expected::OperatorOrIn => "an operator that binds tighter, in, a comma or )",
+            Expected::OperandOrFrom => "an expression or from",
+            Expected::OperatorOrFromOnly => "an operator or from",
             Expected::OperatorOrAs => "an operator, or as and a type",
             Expected::OperandOrWhen => "an expression or when",
             Expected::OperatorOrWhen => "an operator or when",

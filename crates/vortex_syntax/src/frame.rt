@@ -9,6 +9,7 @@ use crate::levels::{
     own, right,
 };
 use crate::step::{BetweenKind, Call, LikeKind, WrittenOperator};
+use crate::token::TrimSide;
 
 /// The part of a CASE that comes next.
 #[derive(Clone, Copy, Debug, PartialEq, Eq)]
@@ -54,6 +55,12 @@ pub enum Frame<'a> {
     For(&'a [u8]),
     /// A call of the function of that name, which takes `in`, after an argument and `in`.
     Place(&'a [u8]),
+    /// A call of `trim` after a side.
+    Trim(TrimSide),
+    /// The same after a side and `from`.
+    TrimFrom(TrimSide),
+    /// The same after what it trims by and `from`.
+    TrimBy(TrimSide),
     /// The bracket of IN, or of NOT IN, after as many items.
     Items(bool, usize),
     /// A CASE with an operand if the flag is true, after as many values.
@@ -107,6 +114,9 @@ pub fn hole(frame: Frame<'_>) -> u8
         | Frame::From(_)
         | Frame::For(_)
         | Frame::Place(_)
+        | Frame::Trim(_)
+        | Frame::TrimFrom(_)
+        | Frame::TrimBy(_)
         | Frame::Items(..)
         | Frame::Case(..) => OR,
         Frame::Not => NOT,
@@ -150,6 +160,9 @@ pub fn whole(frame: Frame<'_>) -> u8
         | Frame::From(_)
         | Frame::For(_)
         | Frame::Place(_)
+        | Frame::Trim(_)
+        | Frame::TrimFrom(_)
+        | Frame::TrimBy(_)
         | Frame::Case(..) => ATOM,
         Frame::Not => NOT,
         Frame::Join(operator) => own(operator),
@@ -172,6 +185,9 @@ pub fn closing(frame: Frame<'_>) -> Call
         | Frame::From(_)
         | Frame::For(_)
         | Frame::Place(_)
+        | Frame::Trim(_)
+        | Frame::TrimFrom(_)
+        | Frame::TrimBy(_)
         | Frame::Items(..)
         | Frame::Case(..) => Call::Not,
         Frame::Join(operator) => Call::Join(operator),

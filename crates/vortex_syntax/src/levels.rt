@@ -149,6 +149,13 @@ pub(crate) fn takes_in(function: &[u8]) -> bool
     is_same_word(function, b"position")
 }
 
+/// The function that takes a side, and `from` after what it trims by.
+pub(crate) fn takes_side(function: &[u8]) -> bool
+    ensures { result ≡ levels.takes_side function.now }
+{
+    is_same_word(function, b"trim")
+}
+
 /// The least level of a first argument.
 pub(crate) fn first_level(function: &[u8]) -> u8
     ensures { result ≡ levels.first_level function.now }

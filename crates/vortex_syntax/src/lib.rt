@@ -38,6 +38,6 @@ pub use sizes::{sizes_of, text_size_of};
 pub use step::{BetweenKind, Call, LikeKind, Step, Test, WrittenOperator};
 pub use syntax::read_syntax;
 pub use texts::answer_texts;
-pub use token::{Sign, Token};
+pub use token::{Sign, Token, TrimSide};
 pub use tree::SyntaxTree;
 pub use writing::{Writer, is_bare};

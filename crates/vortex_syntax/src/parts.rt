@@ -1,15 +1,16 @@
-//! What `from`, `for` and `in` do to what is read, in a call of a function that takes them.
+//! What `from`, `for`, `in` and a side do to what is read, in a call of a function that takes them.
 ghost use Rattle.std.specs.Prelude.{◌≡◌};
 ghost use Rattle.vortex_syntax.specs.Reading as specs;
 ghost use Rattle.vortex_syntax.specs.Reading.{frames_in, steps_in, Gives};
 
 use crate::frame::{Frame, Mode};
-use crate::levels::{is_for, takes_from, takes_in};
+use crate::levels::{is_for, takes_from, takes_in, takes_side};
 use crate::reading::Reading;
+use crate::token::TrimSide;
 use std::alloc::AllocError;
 
 impl<'a> Reading<'a> {
-    /// `from`, which ends the first argument.
+    /// `from`, which ends the first argument, or what a text is trimmed by.
     pub(crate) fn from_of(&mut self) -> Result<Option<Mode>, AllocError>
         ensures { Gives result self.new
             (specs.from_behind (frames_in self.old) (steps_in self.old)) }
@@ -21,9 +22,56 @@ impl<'a> Reading<'a> {
                     self.drop_top();
                     self.wait(Frame::From(function))?;
                     Ok(Some(Mode::Want))
+                } else if takes_side(function) {
+                    self.at = self.top_sign();
+                    self.drop_top();
+                    self.wait(Frame::TrimBy(TrimSide::Both))?;
+                    Ok(Some(Mode::Want))
                 } else {
                     Ok(None)
                 }
+            }
+            Some(Frame::Trim(side)) => {
+                self.at = self.top_sign();
+                self.drop_top();
+                self.wait(Frame::TrimBy(side))?;
+                Ok(Some(Mode::Want))
+            }
+            _ => Ok(None),
+        }
+    }
+
+    /// A side after the bracket of a function that takes it.
+    pub(crate) fn side_expected(&mut self, side: TrimSide) -> Result<Option<Mode>, AllocError>
+        ensures { Gives result self.new
+            (specs.side_expected side (frames_in self.old) (steps_in self.old)) }
+    {
+        match self.top() {
+            Some(Frame::Arguments(function, 0)) => {
+                if takes_side(function) {
+                    self.at = self.top_sign();
+                    self.drop_top();
+                    self.wait(Frame::Trim(side))?;
+                    Ok(Some(Mode::Want))
+                } else {
+                    Ok(None)
+                }
+            }
+            _ => Ok(None),
+        }
+    }
+
+    /// `from` directly after a side.
+    pub(crate) fn from_expected(&mut self) -> Result<Option<Mode>, AllocError>
+        ensures { Gives result self.new
+            (specs.from_expected (frames_in self.old) (steps_in self.old)) }
+    {
+        match self.top() {
+            Some(Frame::Trim(side)) => {
+                self.at = self.top_sign();
+                self.drop_top();
+                self.wait(Frame::TrimFrom(side))?;
+                Ok(Some(Mode::Want))
             }
             _ => Ok(None),
         }

@@ -13,7 +13,7 @@ ghost use Rattle.vortex_syntax.specs.Pieces.{is_sized_word};
 
 use crate::gaps::{divide_or_comment, minus_or_comment};
 use crate::sizes::sized_or_word;
-use crate::token::{Sign, Token};
+use crate::token::{Sign, Token, TrimSide};
 
 /// Classes of bytes that continue a run.
 #[derive(Clone, Copy, Debug, PartialEq, Eq)]
@@ -143,6 +143,12 @@ pub(crate) fn keyword_of(word: &[u8]) -> Option<Sign>
         Some(Sign::Symmetric)
     } else if is_same_word(word, b"regexp") || is_same_word(word, b"rlike") {
         Some(Sign::BitNot)
+    } else if is_same_word(word, b"both") {
+        Some(Sign::Side(TrimSide::Both))
+    } else if is_same_word(word, b"leading") {
+        Some(Sign::Side(TrimSide::Leading))
+    } else if is_same_word(word, b"trailing") {
+        Some(Sign::Side(TrimSide::Trailing))
     } else {
         None
     }

@@ -1,7 +1,7 @@
 //! What was expected where reading stops.
 use crate::expected::Expected;
 use crate::frame::{CasePart, Frame, Mode, hole};
-use crate::levels::{NOT, takes_from, takes_in};
+use crate::levels::{NOT, takes_from, takes_in, takes_side};
 use crate::reading::Reading;
 use crate::token::{Sign, Token};
 
@@ -57,11 +57,15 @@ impl<'a> Reading<'a> {
     fn expected_after(&self, whole: Expected) -> Expected {
         for frame in self.frames.iter().rev() {
             match frame {
-                Frame::Open | Frame::Extract(_) | Frame::For(_) | Frame::Place(_) => {
-                    return Expected::OperatorOrClose;
-                }
+                Frame::Open
+                | Frame::Extract(_)
+                | Frame::For(_)
+                | Frame::Place(_)
+                | Frame::TrimFrom(_)
+                | Frame::TrimBy(_) => return Expected::OperatorOrClose,
+                Frame::Trim(_) => return Expected::OperatorOrFromOnly,
                 Frame::From(_) => return Expected::OperatorOrFor,
-                Frame::Arguments(function, 0) if takes_from(function) => {
+                Frame::Arguments(function, 0) if takes_from(function) || takes_side(function) => {
                     return Expected::OperatorOrFrom;
                 }
                 Frame::Arguments(function, 0) if takes_in(function) => {
@@ -80,6 +84,7 @@ impl<'a> Reading<'a> {
     fn operand_expected(&self) -> Expected {
         match self.top() {
             Some(Frame::Arguments(_, 0)) => Expected::ArgumentOrClose,
+            Some(Frame::Trim(_)) => Expected::OperandOrFrom,
             Some(Frame::Case(CasePart::Operand, ..)) => Expected::OperandOrWhen,
             Some(frame) if NOT < hole(frame) => Expected::TightOperand,
             _ => Expected::Operand,

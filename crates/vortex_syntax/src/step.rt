@@ -1,5 +1,5 @@
 //! Trees in postfix order.
-use crate::token::Token;
+use crate::token::{Token, TrimSide};
 
 /// An operator between two operands.
 #[derive(Clone, Copy, Debug, PartialEq, Eq)]
@@ -99,5 +99,8 @@ pub enum Step<'a> {
     /// CASE with an operand if the first flag is true, of as many pairs of a condition and a value
     /// after it, and of what follows `else` if the second flag is true.
     Case(bool, usize, bool),
+    /// A text is trimmed there: the tree before it, by the characters of the tree before that one
+    /// if the flag is true, else by blanks.
+    Trim(TrimSide, bool),
     Call(Call),
 }

@@ -1,5 +1,13 @@
 //! Tokens of expressions.
 
+/// Where a text is trimmed.
+#[derive(Clone, Copy, Debug, PartialEq, Eq)]
+pub enum TrimSide {
+    Both,
+    Leading,
+    Trailing,
+}
+
 /// A keyword or a sign.
 #[derive(Clone, Copy, Debug, PartialEq, Eq)]
 pub enum Sign {
@@ -28,6 +36,8 @@ pub enum Sign {
     IsNull,
     NotNull,
     Symmetric,
+    /// `both`, `leading` or `trailing`.
+    Side(TrimSide),
     Equal,
     NotEqual,
     Less,

@@ -11,7 +11,7 @@ ghost use Rattle.vortex_syntax.specs.Writing.{Holds, Adds, written, name_token, 
 ghost use Rattle.vortex_syntax.specs.Writing.{blank_unless, doubled, in_quotes};
 
 use crate::pieces::{Run, begins_word, is_in, keyword_of};
-use crate::token::{Sign, Token};
+use crate::token::{Sign, Token, TrimSide};
 use std::alloc::{AllocError, Global};
 
 /// What comes before the next token.
@@ -65,6 +65,9 @@ pub(crate) fn sign_text(sign: Sign) -> &'static str
         Sign::IsNull => "isnull",
         Sign::NotNull => "notnull",
         Sign::Symmetric => "symmetric",
+        Sign::Side(TrimSide::Both) => "both",
+        Sign::Side(TrimSide::Leading) => "leading",
+        Sign::Side(TrimSide::Trailing) => "trailing",
         Sign::Equal => "=",
         Sign::NotEqual => "<>",
         Sign::Less => "<",
