@@ -17,7 +17,7 @@ use Rattle.vortex_syntax.specs.Levels.{level, Fits, distinct_level, is_level, pr
 use Rattle.vortex_syntax.specs.Levels.{concat_level, atom_level, typed_level, literal_level}
 use Rattle.vortex_syntax.specs.Spelling.{cast_sign}
 use Rattle.vortex_syntax.specs.Spelling.{spelling, type_token, with_not, is_tokens, like_sign}
-use Rattle.vortex_syntax.specs.Postfix.{Step, operand, cast, argument_count, postfix}
+use Rattle.vortex_syntax.specs.Postfix.{Step, operand, cast, argument_count, postfix, side_of}
 use Rattle.vortex_syntax.specs.Reading.{State, Operand, settled}
 use Rattle.vortex_syntax.proofs.Held.{Held, opened, casting, lower, matching, calling, listing}
 use Rattle.vortex_syntax.proofs.Held.{extracting, parting, limiting, placing, siding, trimming}
