@@ -39,7 +39,58 @@ fn may_fault_late(program: &Program, columns: &[Option<ArrowColumn<'_>>]) -> boo
         && is_lent(program, columns)
 }
 
+/// Whether so many rows are run over the columns where they lie, without a fault.
+fn gives_where_lent(
+    alloc: Global,
+    program: &Program,
+    columns: &[Option<ArrowColumn<'_>>],
+    first: usize,
+    count: usize,
+) -> bool
+    requires chunk { All (HasChunkIfRead first count) columns.now }
+    requires optimized { All IsBound (trees_of program.now.optimized.items) }
+    ensures { IsTrue result → (n : ℕ) → other_length n (map (batch_column n) columns.now) ≡ None
+        → (j : ℕ) → j < count → AllGive meaning (map (batch_column n) columns.now) (first + j)
+        (trees_of program.now.optimized.items) }
+{
+    let Some(parts) = parts_of(alloc, columns, first, count) else {
+        return false;
+    };
+    execute_parts(alloc, &program.optimized, &parts, count).is_some()
+}
+
+/// How many rows from the first on are run over the columns where they lie without a fault, so many
+/// at a time: none where an answer is not executed so.
+fn faultless_front(
+    alloc: Global,
+    program: &Program,
+    columns: &[Option<ArrowColumn<'_>>],
+    rows: usize,
+    count: usize,
+) -> usize
+    requires count { 0 < count }
+    requires chunk { All (HasChunkIfRead 0 rows) columns.now }
+    requires place { All (λ o. IfSome o (λ c. c.offset + rows < 2 ^ 64)) columns.now }
+    requires some { 0 < rows }
+    requires even { other_length rows (map (batch_column rows) columns.now) ≡ None }
+    requires optimized { All IsBound (trees_of program.now.optimized.items) }
+    ensures some { result < rows }
+    ensures given { AllGiveWithin meaning (map (batch_column rows) columns.now) 0 result
+        (trees_of program.now.optimized.items) }
+{
+    let mut first = 0;
+    'parts: while rows - first > count {
+        if !gives_where_lent(alloc, program, columns, first, count) {
+            return first;
+        }
+        first += count;
+    }
+    first
+}
+
 /// Runs a batch so many rows at a time, and keeps no answer: fails as `run_chunks` does.
+/// First larger parts are run where the columns lie, as long as none has a fault: so only the rows
+/// of the part that has the first fault, and those behind it, are run in smaller ones.
 fn look_through(
     alloc: Global,
     program: &Program,
@@ -59,7 +110,7 @@ fn look_through(
     learn_bound(&program.written);
     learn_bound(&program.optimized);
     let is_lent = is_lent(program, columns);
-    let mut first = 0;
+    let mut first = faultless_front(alloc, program, columns, rows, 8192);
     'chunks: while rows - first > count {
         match run_chunk(alloc, program, columns, rows, first, count, is_lent) {
             Ok(_) => first += count,
@@ -89,7 +140,7 @@ pub(crate) fn check_faults(
         (trees_of program.now.written.items) (trees_of program.now.optimized.items)) }
 {
     if may_fault_late(program, columns) {
-        look_through(alloc, program, columns, rows, 8192)
+        look_through(alloc, program, columns, rows, 512)
     } else {
         Ok(())
     }
