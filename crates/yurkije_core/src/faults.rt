@@ -9,7 +9,8 @@ ghost use Rattle.yurkije_columns.specs.Batches.{batch_column};
 ghost use Rattle.yurkije_core.specs.Chunks.{HasChunkIfRead};
 
 use crate::chunks::{is_single, learn_bound, run_chunk};
-use crate::lent::is_lent;
+use crate::lent::{execute_parts, is_lent};
+use crate::parts::parts_of;
 use std::alloc::Global;
 use vortex_arrow::ArrowColumn;
 use vortex_functions::BoundExpression;
