@@ -7,8 +7,9 @@ use crate::mixed::MixedColumn;
 use crate::scope::{DeclarationError, ScopeReason};
 use std::alloc::{AllocError, AllocFailed};
 use std::{fmt, io};
-use vortex_columns::VortexError;
+use vortex_columns::{DType, VortexError};
 use vortex_expressions::TextError;
+use vortex_logical::kind::Kind;
 
 /// Where a text stands among the words of a program.
 #[derive(Clone, Copy, Debug, PartialEq, Eq)]
@@ -149,6 +150,11 @@ impl QueryError {
     }
 }
 
+/// Whether the values are whole numbers, and nothing else that integers stand for.
+fn is_whole(column: &ColumnType) -> bool {
+    matches!(column.dtype, DType::Primitive(_, _)) && matches!(column.kind, Kind::Plain)
+}
+
 /// Which text is refused, and why, in one line.
 impl fmt::Display for QueryError {
     fn fmt<W: fmt::Write>(&self, f: &mut fmt::Formatter<W>) -> fmt::Result {
@@ -160,7 +166,12 @@ impl fmt::Display for QueryError {
             }
             QueryError::Columns(error) => write!(f, "--columns: {error}"),
             QueryError::NoTruth(column) => {
-                write!(f, "--where: expected a truth value, not {column}")
+                write!(f, "--where: expected a truth value, not {column}")?;
+                f.write_str(if is_whole(column) {
+                    ": write n <> 0"
+                } else {
+                    ""
+                })
             }
             QueryError::Header(fault) => write!(f, "{fault}"),
             QueryError::Reading(error) => write!(f, "reading: {error}"),

@@ -1,7 +1,5 @@
-use Rattle.std.proofs.Common.{◌≡◌, ◌∙◌, Option, Some, get_or, subst, arith, sym}
+use Rattle.std.proofs.Common.{◌≡◌, ◌∙◌, Option, Some, get_or, subst, arith}
 use Rattle.std.specs.Prelude.{slice_get}
-use Rattle.vortex_types.specs.TypeOf.{type_of}
-use Rattle.vortex_types.specs.TypeEquality.{type_eq-decides}
 use Rattle.vortex_arrow.specs.Columns.{arrow_column}
 use Rattle.yurkije_columns.specs.Batches.{batch_column}
 use Rattle.vortex_arrow.specs.declared.column.ArrowColumn.{ArrowColumn}
@@ -15,10 +13,8 @@ returns-in-Some-Some c = λ yes n.
     let there : slice_get c.args.columns.now c.args.place ≡ Some (Some column) =
     get_at c.args.columns.now c.args.place (Some column) (grind arith)
     (subst (λ (o : Option ArrowColumn). o ≡ get_or c.args.columns.now c.args.place o)
-    c.in-Some-Some.field-0-is c.in-Some-Some.ensures.lookup.1) in
-    let same = (type_eq-decides (type_of c.dtype_of.result) (type_of c.args.dtype.now)).0
-    (sym c.eq.ensures ∙ yes) in (
+    c.in-Some-Some.field-0-is c.in-Some-Some.ensures.lookup.1) in (
       arrow_column column,
       mapped_at (batch_column n) c.args.columns.now c.args.place (Some column) there,
-      lent_type column ∙ sym c.dtype_of.ensures ∙ same,
+      lent_type column ∙ c.has_dtype.ensures.0 yes,
     )
