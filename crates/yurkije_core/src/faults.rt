@@ -1,8 +1,11 @@
 //! A batch that is looked through for its first fault before answers are kept: where one call over
 //! the whole of it, where its columns lie, has met a fault in some row, all that is run again up to
 //! that row would be kept in vain.
-ghost use Rattle.std.specs.Prelude.{◌≡◌, ◌<◌, ◌+◌, ◌^◌, All, IfErr, IfSome, None, map};
+ghost use Rattle.std.specs.Prelude.{◌≡◌, ◌<◌, ◌+◌, ◌^◌, ℕ, All, IfErr, IfSome, IsTrue, None, map};
+ghost use Rattle.vortex_interface.specs.Bound.{IsBound};
 ghost use Rattle.vortex_interface.specs.Execution.{other_length};
+ghost use Rattle.vortex_expressions.specs.Items.{meaning};
+ghost use Rattle.vortex_program.specs.Executing.{AllGive, AllGiveWithin};
 ghost use Rattle.vortex_program.specs.Programs.{trees_of, AreRewrites};
 ghost use Rattle.vortex_program.specs.Running.{RefusesTrees};
 ghost use Rattle.yurkije_columns.specs.Batches.{batch_column};
@@ -50,14 +53,17 @@ fn gives_where_lent(
 ) -> bool
     requires chunk { All (HasChunkIfRead first count) columns.now }
     requires optimized { All IsBound (trees_of program.now.optimized.items) }
-    ensures { IsTrue result → (n : ℕ) → other_length n (map (batch_column n) columns.now) ≡ None
-        → (j : ℕ) → j < count → AllGive meaning (map (batch_column n) columns.now) (first + j)
+    ensures { IsTrue result → (n j : ℕ) → j < count
+        → AllGive meaning (map (batch_column n) columns.now) (first + j)
         (trees_of program.now.optimized.items) }
 {
     let Some(parts) = parts_of(alloc, columns, first, count) else {
         return false;
     };
-    execute_parts(alloc, &program.optimized, &parts, count).is_some()
+    match execute_parts(alloc, &program.optimized, &parts, count) {
+        Some(_) => true,
+        None => false,
+    }
 }
 
 /// How many rows from the first on are run over the columns where they lie without a fault, so many
