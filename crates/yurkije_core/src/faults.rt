@@ -87,10 +87,11 @@ fn faultless_front(
 {
     let mut first = 0;
     'parts: while rows - first > count {
-        if !gives_where_lent(alloc, program, columns, first, count) {
+        if gives_where_lent(alloc, program, columns, first, count) {
+            first += count;
+        } else {
             return first;
         }
-        first += count;
     }
     first
 }

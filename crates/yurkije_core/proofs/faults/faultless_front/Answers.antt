@@ -17,5 +17,5 @@ parts-preserved c =
     record {
       some = omega (arith, c.parts-test.true);
       given = given_on cs c.parts.first c.args.count us c.parts.invariant.given
-      (c.gives_where_lent.ensures c.if-gives_where_lent.true c.args.rows);
+          (c.gives_where_lent.ensures c.if-gives_where_lent.true c.args.rows);
     }

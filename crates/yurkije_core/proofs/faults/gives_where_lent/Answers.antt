@@ -20,19 +20,19 @@ execute_parts-requires c =
     (even_chunk c.args.first count (map (batch_column 0) c.args.columns.now)
     (map (batch_column count) c.in-Some.parts.items) (c.in-Some.ensures 0))
 
-pub returns-in-Some-Some : goal.returns-in-Some-Some
-returns-in-Some-Some c = λ yes n j lt.
+pub returns-in-Some-execute_parts : goal.returns-in-Some-execute_parts
+returns-in-Some-execute_parts c = λ yes n j lt.
     let count = c.args.count in
     let cs = map (batch_column n) c.args.columns.now in
     let ds = map (batch_column count) c.in-Some.parts.items in
     let us = trees_of c.args.program.now.optimized.items in
-    let os = c.in-Some-Some.field-0.items in
+    let os = c.in-Some-execute_parts.field-0.items in
     let there : AllMean (Executes meaning ds count) (trees_of c.deref.result.now) os =
     subst
     (λ (ps : List (Option ArrowColumn)).
     AllMean (Executes meaning (map (batch_column count) ps) count)
     (trees_of c.deref.result.now) os)
-    c.deref-2.ensures.value c.in-Some-Some.ensures in
+    c.deref-2.ensures.value c.in-Some-execute_parts.ensures in
     run_gives cs c.args.first count us os
     (chunk_run c.args.first count cs ds (c.in-Some.ensures n) us os c.requires.optimized
     (subst (λ (xs : List Answer). AllMean (Executes meaning ds count) (trees_of xs) os)
