@@ -154,7 +154,7 @@ static void refused_texts(void) {
         {"price + 1 = 3000000000", YK_NOT_HELD, 10},
         {"price = 'x'", YK_NOT_HELD, 6},
         {"name like 'a' escape 'xy'", YK_NO_ESCAPE, 5},
-        {"price and true", YK_TYPE_MISMATCH, 6},
+        {"price and 'a'", YK_TYPE_MISMATCH, 6},
         {"cast(price as u8?)", YK_NO_CAST, 14},
         {"price + f(price)", YK_NO_FUNCTION, 8},
         {"\xff", YK_NOT_A_TEXT, YK_NONE},

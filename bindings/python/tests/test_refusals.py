@@ -27,7 +27,7 @@ class Refusals(unittest.TestCase):
         self.assertIn("price", error.message)
         self.refused(ExpressionError, lambda: evaluate("price +", columns), number=112, name="NoExpression", byte=7)
         self.refused(ExpressionError, lambda: evaluate("price = 'a'", columns), number=114, name="NotHeld")
-        self.refused(ExpressionError, lambda: evaluate("price and true", columns), number=3, name="TypeMismatch")
+        self.refused(ExpressionError, lambda: evaluate("price and 'a'", columns), number=3, name="TypeMismatch")
         self.refused(ExpressionError, lambda: Expression("a", {"a": "int"}), number=113, name="UnknownType", column="a")
 
     def test_a_text_that_is_wrong_is_told_before_any_column(self):
