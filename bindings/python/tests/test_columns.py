@@ -60,8 +60,8 @@ class Numpy(unittest.TestCase):
 
     def test_truth_values(self):
         x, y = np.array([True, False, True]), np.ma.MaskedArray([True, True, False], [False, True, False])
-        answers = evaluate("x and y as both, not x as other", {"x": x, "y": y})
-        self.assertEqual(rows_of(answers["both"]), [True, False, False])
+        answers = evaluate("x and y as joint, not x as other", {"x": x, "y": y})
+        self.assertEqual(rows_of(answers["joint"]), [True, False, False])
         self.assertEqual(answers["other"].dtype, np.bool_)
 
     def test_arrays_of_texts(self):
