@@ -52,14 +52,14 @@ use Rattle.vortex_syntax.specs.declared.step.WrittenOperator as written
 use Rattle.vortex_syntax.specs.declared.step.WrittenOperator.TheVariants as signs
 use Rattle.vortex_expressions.specs.Literals.{Literal, number, text, truth, null}
 use Rattle.vortex_expressions.specs.Items.{Tree, Item, literal, bound, kinded, fraction, interval}
-use Rattle.vortex_expressions.specs.Items.{meaning, constant_at, call_of, callable}
+use Rattle.vortex_expressions.specs.Items.{meaning, constant_at, call_of, callable, text_of}
 use Rattle.vortex_expressions.specs.Kinded.{told, stored_item, first_kind, whole_ptype}
 use Rattle.vortex_expressions.specs.Kinded.{whole_literal, text_literal, number_literal, null_of}
 use Rattle.vortex_expressions.specs.Kinded.{literal_operand, item_operand, value_item}
 use Rattle.vortex_expressions.specs.Kinded.{KindedOperator, compares, computes, neither, operated}
 use Rattle.vortex_expressions.specs.Kinded.{kinded_operator, kinded_joined, kinded_between}
 use Rattle.vortex_expressions.specs.Kinded.{within_bounds, is_interval, shifted_item, shifted_items}
-use Rattle.vortex_expressions.specs.Kinded.{joined_beside, moved_item}
+use Rattle.vortex_expressions.specs.Kinded.{joined_beside, moved_item, folded_by, folded_or_joined}
 use Rattle.vortex_expressions.specs.Months.{months_function, months_moved}
 use Rattle.vortex_expressions.specs.KindCasts.{kind_literal, kind_item, becomes_float, float_item}
 use Rattle.vortex_expressions.specs.KindCasts.{kind_cast, cast_to_kind, cast_by, instant_cast}
@@ -84,7 +84,7 @@ use Rattle.vortex_expressions.specs.Functions.{aligned_cases, aligned_arguments,
 use Rattle.vortex_sql_rows.specs.declared.types.Takes.{Takes}
 use Rattle.vortex_sql_rows.specs.declared.types.Takes.TheVariants.{Alike, Each, Cases}
 use Rattle.vortex_expressions.proofs.SureCalls.{Sure, sure_then, IsTyped, IsItem, sure_constant}
-use Rattle.vortex_expressions.proofs.SureCalls.{sure_item, sure_if, AllItems, sure_named_call}
+use Rattle.vortex_expressions.proofs.SureCalls.{sure_item, sure_if, AllItems, sure_named_call, sure_text}
 
 -- P of the result, if there is one
 abbrev IfMade : {A : Type 0} → (A → Type 0) → calls.Outcome A → Type 0
@@ -273,11 +273,16 @@ sure_beside k o a b =
     (λ x h. sure_then Any IsItem (item_operand k b) _ (sure_operand k b)
     (λ y j. sure_operated k o x y))
 
+sure_folded : (f : Option (List ℕ)) (o : KindedOperator) (a b : Item)
+    → Sure IsItem (folded_or_joined f o a b)
+sure_folded (Some bs) o a b = sure_then _ IsItem (text_of bs) _ (sure_text bs) (λ w h. tt)
+sure_folded None o a b = sure_beside (first_kind (a ∷ b ∷ [])) o a b
+
 pub sure_kinded_joined : (o : written.WrittenOperator) (a b : Item)
     → Sure IsItem (kinded_joined o a b)
 sure_kinded_joined o a b =
     sure_if IsItem (is_interval a || is_interval b) _ _ (sure_shifted_items o a b)
-    (sure_beside (first_kind (a ∷ b ∷ [])) (kinded_operator o) a b)
+    (sure_folded (folded_by (kinded_operator o) a b) (kinded_operator o) a b)
 
 pub sure_kinded_between : (a b c : Item) → Sure IsTyped (kinded_between a b c)
 sure_kinded_between a b c =

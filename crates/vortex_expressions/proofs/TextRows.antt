@@ -1,6 +1,6 @@
 -- The rows of comparisons, bounds and arithmetic in texts over columns with kinds.
 use Rattle.std.proofs.Common.{◌≡◌, ◌||◌, ℕ, Bool, true, false, cond, List, [], ◌∷◌, ap, sym, ◌∙◌, refl}
-use Rattle.std.specs.Prelude.{Option, Some, None, reverse, codes}
+use Rattle.std.specs.Prelude.{Option, Some, None, reverse, codes, option_and_then}
 use Rattle.vortex_types.specs.LogicalTypes.{Fields}
 use Rattle.vortex_errors.specs.declared.error.NumericOperator.{NumericOperator}
 use Rattle.vortex_errors.specs.declared.error.NumericOperator.TheVariants as numeric
@@ -26,11 +26,14 @@ use Rattle.vortex_standard.specs.Names.{standard_named}
 use Rattle.vortex_expressions.specs.declared.kind_words.KindName.{KindName}
 use Rattle.vortex_expressions.specs.declared.refusal.Refusal.TheVariants.{NotHeld, NoFunction}
 use Rattle.vortex_expressions.specs.Outcomes.{Outcome, answers, refuses, and_then, or_refuses}
-use Rattle.vortex_expressions.specs.Items.{Item, bound, kinded, interval, Tree, as_item, settled}
+use Rattle.vortex_expressions.specs.Items.{Item, bound, kinded, fraction, interval, Tree, as_item}
+use Rattle.vortex_expressions.specs.Items.{settled, text_of}
 use Rattle.vortex_expressions.specs.Kinded.{is_kinded, is_interval, is_plain, first_kind}
 use Rattle.vortex_expressions.specs.Kinded.{item_operand, told}
 use Rattle.vortex_expressions.specs.Kinded.{value_item, kinded_operator, KindedOperator, compares}
 use Rattle.vortex_expressions.specs.Kinded.{computes, operated, joined_beside, shifted_items}
+use Rattle.vortex_expressions.specs.Kinded.{values_joined, folded_or_joined, fraction_of}
+use Rattle.vortex_expressions.specs.Folding.{folded, digits_of_item}
 use Rattle.vortex_expressions.specs.Kinded.{kinded_joined, kinded_between, within_bounds}
 use Rattle.vortex_expressions.specs.Calls.{Names, names_in, joined_item, plain_joined, between_three}
 use Rattle.vortex_expressions.specs.Calls.{between_all, between_tree, negated_if}
@@ -49,9 +52,10 @@ use Rattle.vortex_expressions.specs.FunctionRows.{FunctionsCallInKind, IsCall}
 use Rattle.vortex_expressions.specs.RowLaws.{ComparesItems, ComputesItems, BoundsItems}
 use Rattle.vortex_expressions.specs.RowLaws.{EitherBoundsItems, EitherBoundsBound, Shift, shift, shift_of, IntervalsShift}
 use Rattle.vortex_expressions.specs.RowLaws.{ComparisonsCompare, ArithmeticComputes, BoundsBound}
+use Rattle.vortex_expressions.specs.RowLaws.{NumbersFold}
 use Rattle.vortex_expressions.specs.RowLaws.{ListsCall, DistinctCalls, NamesCall, CasesCall}
 use Rattle.vortex_expressions.specs.RowLaws.{ElseCasesCall, TextsMeanTheirRows}
-use Rattle.vortex_expressions.proofs.LiteralsOver.{Then, then_is, answers_is}
+use Rattle.vortex_expressions.proofs.LiteralsOver.{Then, then_is, answers_is, text_read}
 use Rattle.vortex_expressions.proofs.FunctionRows.{made_told, IsTold, item_told, functions}
 
 -- a comparison of intervals is refused
@@ -91,12 +95,31 @@ computes_apart : (o : WrittenOperator) (op : NumericOperator) → kinded_operato
 computes_apart written.Concat op c = cc
 computes_apart o op c = refl
 
-beside_of : (o : WrittenOperator) (i j r : Item) → (is_interval i || is_interval j) ≡ false
-    → kinded_joined o i j ≡ answers r
-    → joined_beside (first_kind (i ∷ j ∷ [])) (kinded_operator o) i j ≡ answers r
-beside_of o i j r h e =
-    ap (λ b. cond b (shifted_items o i j)
-    (joined_beside (first_kind (i ∷ j ∷ [])) (kinded_operator o) i j)) (sym h) ∙ e
+values_of : (o : WrittenOperator) (op : NumericOperator) (i j r : Item) → kinded_operator o ≡ computes op
+    → (is_interval i || is_interval j) ≡ false → kinded_joined o i j ≡ answers r
+    → values_joined (computes op) i j ≡ answers r
+values_of o op i j r c h e =
+    ap (λ q. values_joined q i j) (sym c)
+    ∙ ap (λ b. cond b (shifted_items o i j) (values_joined (kinded_operator o) i j)) (sym h) ∙ e
+
+beside_of : (op : NumericOperator) (i j r : Item) → folded op i j ≡ None
+    → values_joined (computes op) i j ≡ answers r
+    → joined_beside (first_kind (i ∷ j ∷ [])) (computes op) i j ≡ answers r
+beside_of op i j r h e = ap (λ f. folded_or_joined f (computes op) i j) (sym h) ∙ e
+
+-- literal numbers are no intervals
+no_interval : (op : NumericOperator) (i j : Item) (w : List ℕ) → folded op i j ≡ Some w
+    → (is_interval i || is_interval j) ≡ false
+no_interval op i j w e = by i j e
+  where
+    behind : (o : Option (List ℕ)) → option_and_then (λ v. None) o ≡ Some w → ⊥
+    behind None h = cc
+    behind (Some v) h = cc
+
+    by : (i j : Item) → folded op i j ≡ Some w → (is_interval i || is_interval j) ≡ false
+    by (interval z) j h = absurd cc
+    by i (interval z) h = absurd (behind (digits_of_item i) h)
+    by i j h = refl
 
 compared_beside : (o : WrittenOperator) (op : CompareOperator) (i j r : Item)
     → kinded_operator o ≡ compares op → kinded_joined o i j ≡ answers r
@@ -104,12 +127,11 @@ compared_beside : (o : WrittenOperator) (op : CompareOperator) (i j r : Item)
 compared_beside o op i j r c e = by (is_interval i || is_interval j) refl e
   where
     by : (b : Bool) → (is_interval i || is_interval j) ≡ b
-        → cond b (shifted_items o i j)
-        (joined_beside (first_kind (i ∷ j ∷ [])) (kinded_operator o) i j) ≡ answers r
+        → cond b (shifted_items o i j) (values_joined (kinded_operator o) i j) ≡ answers r
         → joined_beside (first_kind (i ∷ j ∷ [])) (compares op) i j ≡ answers r
     by true h g =
         let none : refuses NotHeld ≡ answers r = sym (no_shift o op i j c) ∙ g in absurd cc
-    by false h g = ap (λ q. joined_beside (first_kind (i ∷ j ∷ [])) q i j) (sym c) ∙ g
+    by false h g = ap (λ q. values_joined q i j) (sym c) ∙ g
 
 shift_is : (s u : Shift) → Some s ≡ Some u → s ≡ u
 shift_is s u e = cc
@@ -154,13 +176,13 @@ module _ (scope : Fields) (kinds : List Kind) where
       record { x = left.a; y = right.a; left = left.first; right = right.first; rows = rows }
 
   arithmetic : ComputationsAreExact → ArithmeticComputes scope kinds
-  arithmetic law o op a b i j t c h k g n e =
+  arithmetic law o op a b i j t c h k g n f e =
       let whole = then_is (and_then (item_by names a)
       (λ x. and_then (item_by names b) (joined_item o x))) ended t e in
       let r = whole.a in
       let one = parts_are (item_by names a) (item_by names b) (joined_item o) i j r h k whole.first in
-      let beside = ap (λ q. joined_beside (first_kind (i ∷ j ∷ [])) q i j) (sym c)
-      ∙ beside_of o i j r n (joined_kinded o i j r (computes_apart o op c) g one) in
+      let kinded = joined_kinded o i j r (computes_apart o op c) g one in
+      let beside = beside_of op i j r f (values_of o op i j r c n kinded) in
       let left = then_is (item_operand (first_kind (i ∷ j ∷ [])) i) _ r beside in
       let right = then_is (item_operand (first_kind (i ∷ j ∷ [])) j) _ r left.second in
       let done = then_is (told (computed op left.a right.a))
@@ -173,8 +195,22 @@ module _ (scope : Fields) (kinds : List Kind) where
         left = left.first;
         right = right.first;
         value = ap ended (answers_is (value_item z.operand z.tree) r done.second) ∙ whole.second;
-        rows = λ f. law op left.a right.a z f (made_told (computed op left.a right.a) z done.first);
+        rows = λ m. law op left.a right.a z m (made_told (computed op left.a right.a) z done.first);
       }
+
+  numbers : NumbersFold scope kinds
+  numbers o op a b i j w t c h k g f e =
+      let whole = then_is (and_then (item_by names a)
+      (λ x. and_then (item_by names b) (joined_item o x))) ended t e in
+      let r = whole.a in
+      let one = parts_are (item_by names a) (item_by names b) (joined_item o) i j r h k whole.first in
+      let kinded = joined_kinded o i j r (computes_apart o op c) g one in
+      let values = values_of o op i j r c (no_interval op i j w f) kinded in
+      let made : fraction_of w ≡ answers r =
+      ap (λ q. folded_or_joined q (computes op) i j) (sym f) ∙ values in
+      let text = then_is (text_of w) (λ v. answers (fraction v)) r made in
+      let same = ap fraction (text_read w text.a text.first).same in
+      ap ended (same ∙ answers_is (fraction text.a) r text.second) ∙ whole.second
 
   -- a BETWEEN of three items
   three_bounds : BoundsGoByOrder → (i j k : Item) (u : Tree)
@@ -375,6 +411,7 @@ module _ (scope : Fields) (kinds : List Kind) where
     bounds = all_bounds b;
     either_bounds = either b;
     arithmetic = arithmetic a;
+    numbers = numbers;
     shifts = shifts s;
     lists = lists (functions v m);
     distinctions = distinctions (functions v m);

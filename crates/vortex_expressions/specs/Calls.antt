@@ -1,7 +1,7 @@
 -- The result of each form of syntax for its parts.
 use Rattle.std.specs.Prelude.{ℕ, List, [], ◌∷◌, Bool, true, false, Option, Some, None, ◌==◌}
 use Rattle.std.specs.Prelude.{zero, suc, ◌||◌, ◌&&◌, codes, if◌then◌else◌}
-use Rattle.std.specs.Str.{is_utf8, chars}
+use Rattle.std.specs.Str.{chars}
 use Rattle.vortex_errors.specs.declared.error.VortexError.TheVariants.{ScopeMismatch}
 use Rattle.vortex_types.specs.declared.dtype.PType.TheVariants.{I64}
 use Rattle.vortex_types.specs.LogicalTypes.{LogicalType, Fields, integer_type, text_type, find_field}
@@ -35,7 +35,7 @@ use Rattle.vortex_syntax.specs.SizeDigits.{text_size_of}
 use Rattle.vortex_syntax.specs.declared.token.Sign.{Sign}
 use Rattle.vortex_syntax.specs.declared.token.Sign.TheVariants as sign
 use Rattle.vortex_syntax.specs.Tokens.{Token, name, nullable, function, quoted, number, text, sign}
-use Rattle.vortex_expressions.specs.declared.refusal.Refusal.TheVariants.{NotUtf8, UnknownType}
+use Rattle.vortex_expressions.specs.declared.refusal.Refusal.TheVariants.{UnknownType}
 use Rattle.vortex_expressions.specs.declared.refusal.Refusal.TheVariants.{NoEscape, Binding, Kinds}
 use Rattle.vortex_expressions.specs.Literals as literal
 use Rattle.vortex_expressions.specs.Literals.{Literal, has_fraction}
@@ -48,7 +48,7 @@ use Rattle.vortex_expressions.specs.Functions.{function_item}
 use Rattle.vortex_expressions.specs.Joining.{as_text}
 use Rattle.vortex_expressions.specs.Items.{constant_at, settled, call_of}
 use Rattle.vortex_expressions.specs.Truths.{as_truth}
-pub use Rattle.vortex_expressions.specs.Items.{as_item, truth_type}
+pub use Rattle.vortex_expressions.specs.Items.{as_item, truth_type, text_of}
 use Rattle.vortex_expressions.specs.TypeNames.{named_type}
 pub use Rattle.vortex_expressions.specs.Casts.{cast_to}
 pub use Rattle.vortex_expressions.specs.Kinded.{is_kinded, kinded_joined, kinded_between, within_bounds}
@@ -65,9 +65,6 @@ unquoted_behind q false (b ∷ bs) = b ∷ unquoted_behind q (b == q) bs
 
 abbrev pub unquoted : ℕ → List ℕ → List ℕ
 unquoted q bs = unquoted_behind q false bs
-
-abbrev pub text_of : List ℕ → Outcome (List ℕ)
-text_of bs = if is_utf8 bs then answers bs else refuses NotUtf8
 
 abbrev pub between_quotes : ℕ → List ℕ → Outcome (List ℕ)
 between_quotes q bs = text_of (unquoted q bs)

@@ -2,6 +2,7 @@
 use Rattle.std.specs.Prelude.{ℕ, ℤ, List, [], ◌∷◌, length, map, Option, Some, None, is_some}
 use Rattle.std.specs.Prelude.{Bool, true, false, if◌then◌else◌, string_bytes}
 use Rattle.std.specs.Option.{option_or}
+use Rattle.std.specs.Str.{is_utf8}
 use Rattle.vortex_errors.specs.declared.error.MismatchPlace.{MismatchPlace}
 use Rattle.vortex_errors.specs.declared.error.MismatchPlace.TheVariants.{Scalars}
 use Rattle.vortex_errors.specs.declared.error.VortexError.TheVariants.{ArityMismatch, TypeMismatch}
@@ -24,6 +25,7 @@ use Rattle.vortex_standard.specs.declared.standard.Standard.TheVariants as stand
 use Rattle.vortex_expressions.specs.declared.item.Item as held
 use Rattle.vortex_expressions.specs.declared.item.Item.TheVariants as variant
 use Rattle.vortex_expressions.specs.declared.refusal.Refusal.TheVariants.{UntypedNull, NotHeld}
+use Rattle.vortex_expressions.specs.declared.refusal.Refusal.TheVariants.{NotUtf8}
 use Rattle.vortex_expressions.specs.declared.refusal.Refusal.TheVariants.{Binding, OfKind}
 use Rattle.vortex_expressions.specs.Literals.{Literal, literal_in, own_type, type_beside, value_at}
 use Rattle.vortex_expressions.specs.Literals.{number}
@@ -63,6 +65,10 @@ item_in (variant.Bound t) = bound t
 item_in (variant.Kinded k t) = kinded k t
 item_in (variant.Fraction w) = fraction (string_bytes w)
 item_in (variant.Interval z) = interval z
+
+-- the bytes of a text
+abbrev pub text_of : List ℕ → Outcome (List ℕ)
+text_of bs = if is_utf8 bs then answers bs else refuses NotUtf8
 
 -- the type of a tree, and the default type of a literal
 abbrev pub bound_type : Item → Option LogicalType

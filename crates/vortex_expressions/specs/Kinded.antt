@@ -42,7 +42,8 @@ use Rattle.vortex_expressions.specs.Literals.{Literal, number, text, truth, null
 use Rattle.vortex_expressions.specs.Outcomes.{Outcome, answers, refuses, and_then}
 use Rattle.vortex_expressions.specs.Items.{Item, literal, bound, kinded, fraction, interval, Tree}
 use Rattle.vortex_expressions.specs.Months.{months_moved}
-use Rattle.vortex_expressions.specs.Items.{meaning, constant_at, as_item}
+use Rattle.vortex_expressions.specs.Items.{meaning, constant_at, as_item, text_of}
+use Rattle.vortex_expressions.specs.Folding.{folded}
 
 -- values of a kind, and what has a meaning only next to them
 abbrev pub is_kinded : Item → Bool
@@ -198,11 +199,27 @@ shifted_items written.Add (interval z) (kinded k t) = moved_item numeric.Add k t
 shifted_items written.Sub (kinded k t) (interval z) = moved_item numeric.Sub k t z
 shifted_items o a b = refuses NotHeld
 
+-- the text of the result of two literal numbers
+abbrev pub folded_by : KindedOperator → Item → Item → Option (List ℕ)
+folded_by (computes o) a b = folded o a b
+folded_by o a b = None
+
+abbrev pub fraction_of : List ℕ → Outcome Item
+fraction_of bs = and_then (text_of bs) (λ w. answers (fraction w))
+
+-- two literal numbers are one; else the operator is called
+abbrev pub folded_or_joined : Option (List ℕ) → KindedOperator → Item → Item → Outcome Item
+folded_or_joined (Some bs) o a b = fraction_of bs
+folded_or_joined None o a b = joined_beside (first_kind (a ∷ b ∷ [])) o a b
+
+abbrev pub values_joined : KindedOperator → Item → Item → Outcome Item
+values_joined o a b = folded_or_joined (folded_by o a b) o a b
+
 -- an operator, one of whose operands has a kind or is an interval
 abbrev pub kinded_joined : syntax.WrittenOperator → Item → Item → Outcome Item
 kinded_joined o a b =
     if is_interval a || is_interval b then shifted_items o a b
-    else joined_beside (first_kind (a ∷ b ∷ [])) (kinded_operator o) a b
+    else values_joined (kinded_operator o) a b
 
 -- both bounds are inclusive
 abbrev pub within_bounds : BetweenOptions

@@ -26,7 +26,8 @@ use Rattle.vortex_standard.specs.declared.standard.Standard.{Standard}
 use Rattle.vortex_standard.specs.declared.standard.Standard.TheVariants as standard
 use Rattle.vortex_standard.specs.Names.{standard_named}
 use Rattle.vortex_expressions.specs.Outcomes.{Outcome, answers}
-use Rattle.vortex_expressions.specs.Items.{Item, bound, kinded, interval, Tree, called}
+use Rattle.vortex_expressions.specs.Folding.{folded}
+use Rattle.vortex_expressions.specs.Items.{Item, bound, kinded, fraction, interval, Tree, called}
 use Rattle.vortex_expressions.specs.Kinded.{is_kinded, is_interval, first_kind, value_item}
 use Rattle.vortex_expressions.specs.Kinded.{kinded_operator, compares, computes, within_bounds}
 use Rattle.vortex_expressions.specs.KindWords.{kind_word}
@@ -113,7 +114,17 @@ module _ (scope : Fields) (kinds : List Kind) where
       (o : WrittenOperator) (op : NumericOperator) (a b : Syntax) (i j : Item) (t : LogicalTree)
       → kinded_operator o ≡ computes op → Is a i → Is b j
       → (is_kinded i || is_kinded j) ≡ true → (is_interval i || is_interval j) ≡ false
+      → folded op i j ≡ None
       → logical_of scope kinds (joined o a b) ≡ answers t → ComputesItems op i j t
+
+  -- a sum, a difference or a product of two literal numbers, one of them with a point, is the number
+  -- with that text
+  abbrev pub NumbersFold : Type 0
+  NumbersFold =
+      (o : WrittenOperator) (op : NumericOperator) (a b : Syntax) (i j : Item) (w : List ℕ)
+      (t : LogicalTree) → kinded_operator o ≡ computes op → Is a i → Is b j
+      → (is_kinded i || is_kinded j) ≡ true → folded op i j ≡ Some w
+      → logical_of scope kinds (joined o a b) ≡ answers t → ended (fraction w) ≡ answers t
 
   abbrev pub BoundsBound : Type 0
   BoundsBound =
@@ -184,13 +195,14 @@ module _ (scope : Fields) (kinds : List Kind) where
       → IsEnded standard.Case js answers t
 
 -- each comparison, BETWEEN and operator of arithmetic between values of kinds in a text means what
--- its operands do, an interval moves them, and each call of a function on them is that on what
+-- its operands do, two literal numbers are one, an interval moves them, and each call of a function on them is that on what
 -- stores them in one kind: IN, IS DISTINCT FROM, a function's name, and CASE
 pub record TextsMeanTheirRows (scope : Fields) (kinds : List Kind) : Type 0 where
   pub comparisons : ComparisonsCompare scope kinds
   pub bounds : BoundsBound scope kinds
   pub either_bounds : EitherBoundsBound scope kinds
   pub arithmetic : ArithmeticComputes scope kinds
+  pub numbers : NumbersFold scope kinds
   pub shifts : IntervalsShift scope kinds
   pub lists : ListsCall scope kinds
   pub distinctions : DistinctCalls scope kinds

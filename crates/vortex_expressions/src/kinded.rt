@@ -1,5 +1,6 @@
 //! Calls on values of kinds: dates, timestamps, decimals and floats.
-ghost use Rattle.std.specs.Prelude.{◌≡◌, Some};
+ghost use Rattle.std.specs.Prelude.{◌≡◌, Some, option_map};
+ghost use Rattle.vortex_errors.specs.Answers.{AnswersUnlessMemory};
 ghost use Rattle.vortex_types.specs.TypeOf.{type_of};
 ghost use Rattle.vortex_lowering.specs.Rows.{lowered};
 ghost use Rattle.vortex_expressions.specs.Kinded as specs;
@@ -8,12 +9,14 @@ ghost use Rattle.vortex_expressions.specs.Literals as literals;
 ghost use Rattle.vortex_expressions.specs.Literals.{literal_in};
 ghost use Rattle.vortex_expressions.specs.Answering.{Gives};
 
+use crate::folding::folded;
 use crate::intervals::shifted_items;
 use crate::item::{Item, constant_at};
 use crate::literal::Literal;
+use crate::quotes::text_of;
 use crate::refusal::{BindStop, Refusal};
 use std::alloc::Global;
-use vortex_columns::{DType, MismatchPlace, Nullability, PType, VortexError};
+use vortex_columns::{DType, MismatchPlace, Nullability, PType, VortexError, VortexResult};
 use vortex_functions::BoundExpression;
 use vortex_logical::kind::Kind;
 use vortex_logical::operand::Operand;
@@ -304,6 +307,43 @@ fn joined_beside(
     operated(alloc, kind, written, first, second)
 }
 
+/// The text of the result of two literal numbers. E9 where an allocation fails.
+fn folded_by(
+    alloc: Global,
+    written: Written,
+    left: &Item,
+    right: &Item,
+) -> VortexResult<Option<Vec<u8>>>
+    ensures { AnswersUnlessMemory result (λ o. option_map (λ w. w.items) o ≡ specs.folded_by
+        (specs.kinded_operator written) (item_in left.now) (item_in right.now)) }
+{
+    match written {
+        Written::Add => folded(alloc, NumericOperator::Add, left, right),
+        Written::Sub => folded(alloc, NumericOperator::Sub, left, right),
+        Written::Mul => folded(alloc, NumericOperator::Mul, left, right),
+        Written::Div => folded(alloc, NumericOperator::Div, left, right),
+        _ => Ok(None),
+    }
+}
+
+/// An operator next to a value of a kind; two literal numbers are one.
+fn values_joined(
+    alloc: Global,
+    written: Written,
+    left: Item,
+    right: Item,
+) -> Result<Item, BindStop>
+    ensures { Gives item_in result (specs.values_joined (specs.kinded_operator written)
+        (item_in left) (item_in right)) }
+{
+    if let Some(text) = folded_by(alloc, written, &left, &right)? {
+        return Ok(Item::Fraction(text_of(alloc, &text)?));
+    }
+    let other = kind_or(&right, Kind::Plain);
+    let kind = kind_or(&left, other);
+    joined_beside(alloc, kind, written, left, right)
+}
+
 /// An operator, one of whose operands has a kind or is an interval.
 pub(crate) fn kinded_joined(
     alloc: Global,
@@ -317,9 +357,7 @@ pub(crate) fn kinded_joined(
     if is_interval(&left) || is_interval(&right) {
         return shifted_items(alloc, written, left, right);
     }
-    let other = kind_or(&right, Kind::Plain);
-    let kind = kind_or(&left, other);
-    joined_beside(alloc, kind, written, left, right)
+    values_joined(alloc, written, left, right)
 }
 
 /// Both bounds are inclusive.

@@ -12,6 +12,7 @@ pub mod casts;
 mod decimal_casts;
 pub mod error;
 mod failures;
+mod folding;
 mod forms;
 mod functions;
 mod hints;

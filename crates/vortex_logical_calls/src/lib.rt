@@ -16,5 +16,5 @@ pub use bounds::between;
 pub use comparison::compare;
 pub use computation::compute;
 pub use intervals::{Interval, interval_of, shift};
-pub use literals::{kind_beside, literal};
+pub use literals::{kind_beside, literal, number_kind};
 pub use vortex_lowering::{Lowered, Refusal};

@@ -33,7 +33,7 @@ fn behind_point(number: &[u8]) -> &[u8]
 
 /// The kind of decimals of 18 digits, as many of them after the point as the number has; none for
 /// more than 18.
-fn number_kind(number: &[u8]) -> Option<Kind>
+pub fn number_kind(number: &[u8]) -> Option<Kind>
     ensures { result ≡ specs.number_kind number.now }
 {
     let scale = behind_point(number).len();
