@@ -22,6 +22,8 @@ use Rattle.vortex_expressions.specs.declared.refusal.Refusal.{Refusal}
 use Rattle.vortex_expressions.specs.Literals.{Literal, value_at, type_beside}
 use Rattle.vortex_expressions.specs.Outcomes.{Outcome, answers, refuses, missing, and_then}
 use Rattle.vortex_expressions.specs.Outcomes.{or_refuses}
+use Rattle.vortex_expressions.specs.declared.item.Timespan.{Timespan}
+use Rattle.vortex_expressions.specs.declared.item.Timespan.TheVariants.{Given, Elapsed}
 use Rattle.vortex_expressions.specs.Items.{Tree, Item, literal, bound, kinded, meaning}
 use Rattle.vortex_expressions.specs.Items.{fraction, interval}
 use Rattle.vortex_expressions.specs.Items.{settled, all_settled}
@@ -61,12 +63,16 @@ sure_if P false o u h k = k
 abbrev pub IsTyped : Tree → Type 0
 IsTyped t = is_some (tree_type meaning t) ≡ true
 
+abbrev pub IsSpan : Timespan → Type 0
+IsSpan (Given z) = Unit {0}
+IsSpan (Elapsed t) = IsTyped t
+
 abbrev pub IsItem : Item → Type 0
 IsItem (literal l) = Unit {0}
 IsItem (bound t) = IsTyped t
 IsItem (kinded k t) = IsTyped t
 IsItem (fraction w) = Unit {0}
-IsItem (interval z) = Unit {0}
+IsItem (interval z) = IsSpan z
 
 abbrev pub AllTyped : List Tree → Type 0
 AllTyped [] = Unit {0}

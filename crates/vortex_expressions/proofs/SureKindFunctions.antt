@@ -1,6 +1,8 @@
 -- Calls of functions on values of kinds are trees with a type, or are refused.
-use Rattle.std.proofs.Common.{ℕ, List, [], ◌∷◌, ◌++◌, Option, Some, None}
+use Rattle.std.proofs.Common.{ℕ, List, [], ◌∷◌, ◌++◌, Option, Some, None, refl}
 use Rattle.std.specs.Prelude.{codes}
+use Rattle.vortex_operators.specs.declared.operators.Operator.TheVariants as operator
+use Rattle.vortex_interface.specs.Shipped.{Binary}
 use Rattle.vortex_interface.specs.Eval.{tree_type}
 use Rattle.vortex_logical.specs.Digits.{Digits}
 use Rattle.vortex_logical_casts.specs.declared.roundings.Rounded.{Rounded}
@@ -17,6 +19,7 @@ use Rattle.vortex_logical_calls.specs.Calls.{Lowered}
 use Rattle.vortex_logical_calls.specs.Conversions.{as_float}
 use Rattle.vortex_sql_float_functions.specs.declared.functions.FloatFunction.{FloatFunction}
 use Rattle.vortex_sql_dates.specs.declared.parts.Part.{Part}
+use Rattle.vortex_sql_dates.specs.declared.parts.Part.TheVariants as part
 use Rattle.vortex_sql_dates.specs.declared.truncations.Unit as units
 use Rattle.vortex_standard.specs.declared.standard.Standard.TheVariants as standard
 use Rattle.vortex_expressions.specs.declared.refusal.Refusal.TheVariants.{NotHeld}
@@ -39,11 +42,13 @@ use Rattle.vortex_expressions.specs.KindFunctions.{rounded_or_float, decimal_cal
 use Rattle.vortex_expressions.specs.KindFunctions.{float_places, number_places, placed}
 use Rattle.vortex_expressions.specs.KindFunctions.{places_call, part_function, part_call}
 use Rattle.vortex_expressions.specs.KindFunctions.{unit_function, unit_call, of_value, pair_call}
+use Rattle.vortex_expressions.specs.KindFunctions.{elapsed_part, day_micros}
+use Rattle.vortex_expressions.specs.declared.item.Timespan.TheVariants.{Elapsed}
 use Rattle.vortex_expressions.specs.KindFunctions.{function_by, single_call, text_call, kind_call}
 use Rattle.vortex_expressions.specs.KindFunctions.{months_added, months_after, months_call}
 use Rattle.vortex_expressions.specs.KindFunctions.{char_function, written_by, char_of, char_call}
 use Rattle.vortex_expressions.proofs.SureCalls.{Sure, sure_then, sure_if, sure_or, IsTyped, IsItem}
-use Rattle.vortex_expressions.proofs.SureCalls.{AllItems, sure_named_call, sure_item, sure_settled}
+use Rattle.vortex_expressions.proofs.SureCalls.{AllItems, sure_named_call, sure_item, sure_settled, sure_called}
 use Rattle.vortex_expressions.specs.Months.{months_function}
 use Rattle.vortex_expressions.proofs.SureKinds.{Any, sure_text_literal, sure_step}
 use Rattle.vortex_expressions.proofs.SureKinds.{sure_months_function}
@@ -160,10 +165,18 @@ sure_unit_call u k t =
     (λ f h. sure_then IsTyped IsItem (call_of (callable f) (t ∷ [])) _
     (sure_named_call f (t ∷ [])) (λ s l. l))
 
+sure_elapsed_part : (p : Part) (t : Tree) → IsTyped t → Sure IsItem (elapsed_part p t)
+sure_elapsed_part part.Epoch t h = h
+sure_elapsed_part part.Day t h =
+    sure_item _ (sure_called (Binary operator.Div) None (bound t ∷ bound day_micros ∷ []) refl
+    (λ ks. refl) (h, refl, tt))
+sure_elapsed_part p t h = tt
+
 sure_of_value : (f : KindFunction) (i : Item) → IsItem i → Sure IsItem (of_value f i)
 sure_of_value (OfFloat f) i h = sure_number_call f i h
 sure_of_value (OfPart p) (kinded k t) h = sure_part_call p k t
 sure_of_value (ToUnit u) (kinded k t) h = sure_unit_call u k t
+sure_of_value (OfPart p) (interval (Elapsed t)) h = sure_elapsed_part p t h
 sure_of_value f (fraction w) h = tt
 sure_of_value f i h = tt
 

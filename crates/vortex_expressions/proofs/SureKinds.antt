@@ -47,7 +47,7 @@ use Rattle.vortex_logical_calls.specs.Computation.{computed}
 use Rattle.vortex_logical_calls.specs.Alignment.{meet_next, aligned}
 use Rattle.vortex_lowering.specs.Operands.{scale_of}
 use Rattle.vortex_logical_calls.specs.Literals.{kind_beside, literal_of}
-use Rattle.vortex_logical_calls.specs.Intervals.{moved_by, moved, shifted}
+use Rattle.vortex_logical_calls.specs.Intervals.{moved_by, moved, shifted, elapses, elapsed}
 use Rattle.vortex_syntax.specs.declared.step.WrittenOperator as written
 use Rattle.vortex_syntax.specs.declared.step.WrittenOperator.TheVariants as signs
 use Rattle.vortex_expressions.specs.Literals.{Literal, number, text, truth, null}
@@ -56,7 +56,12 @@ use Rattle.vortex_expressions.specs.Items.{meaning, constant_at, call_of, callab
 use Rattle.vortex_expressions.specs.Kinded.{told, stored_item, first_kind, whole_ptype}
 use Rattle.vortex_expressions.specs.Kinded.{whole_literal, text_literal, number_literal, null_of}
 use Rattle.vortex_expressions.specs.Kinded.{literal_operand, item_operand, value_item}
-use Rattle.vortex_expressions.specs.Kinded.{KindedOperator, compares, computes, neither, operated}
+use Rattle.vortex_expressions.specs.declared.item.Timespan.TheVariants.{Given, Elapsed}
+use Rattle.vortex_expressions.specs.declared.kind_operators.KindedOperator.{KindedOperator}
+use Rattle.vortex_expressions.specs.declared.kind_operators.KindedOperator.TheVariants.{Compares}
+use Rattle.vortex_expressions.specs.declared.kind_operators.KindedOperator.TheVariants.{Computes}
+use Rattle.vortex_expressions.specs.declared.kind_operators.KindedOperator.TheVariants.{Neither}
+use Rattle.vortex_expressions.specs.Kinded.{operated, span_operand, spans_joined}
 use Rattle.vortex_expressions.specs.Kinded.{kinded_operator, kinded_joined, kinded_between}
 use Rattle.vortex_expressions.specs.Kinded.{within_bounds, is_interval, shifted_item, shifted_items}
 use Rattle.vortex_expressions.specs.Kinded.{joined_beside, moved_item, folded_by, folded_or_joined}
@@ -217,23 +222,38 @@ value_is : (a : Operand) (t : Tree) → IsTyped t → IsItem (value_item a t)
 value_is (Whole p) t h = h
 value_is (Of k) t h = h
 
+on_two_made : (o : NumericOperator) (t u : Tree)
+    → IfMade IsTyped (call_on (ours (Binary (arithmetic_operator o))) (t ∷ u ∷ []))
+on_two_made o t u =
+    let f = ours (Binary (arithmetic_operator o)) in
+    if_chosen IsTyped (fits (function_arity meaning f) 2) (typed (call f (trees_of (t ∷ u ∷ []))))
+    calls.untyped (typed_made (call f (trees_of (t ∷ u ∷ [])))) tt
+
+elapsed_made : (x y : Lowered) → IfMade IsTyped (elapsed x y)
+elapsed_made x y =
+    if_then IsTyped (converted (conversion_beside x.operand y.operand) x) _
+    (λ a. if_then IsTyped (converted (conversion_beside y.operand x.operand) y) _
+    (λ b. on_two_made numeric.Sub a.tree b.tree))
+
 sure_operated : (k : Kind) (o : KindedOperator) (x y : Lowered) → Sure IsItem (operated k o x y)
-sure_operated k (compares op) x y =
+sure_operated k (Compares op) x y =
     sure_item _ (sure_told IsTyped (compared op x y) (compared_made op x y))
-sure_operated k (computes o) x y =
-    sure_then IsValue IsItem (told (computed o x y)) _
+sure_operated k (Computes o) x y =
+    sure_if IsItem (elapses o x.operand y.operand) _ _
+    (sure_then IsTyped IsItem (told (elapsed x y)) (λ t. answers (interval (Elapsed t)))
+    (sure_told IsTyped (elapsed x y) (elapsed_made x y)) (λ t h. h))
+    (sure_then IsValue IsItem (told (computed o x y)) _
     (sure_told IsValue (computed o x y) (computed_made o x y))
-    (λ z h. value_is z.operand z.tree h)
-sure_operated k neither x y = tt
+    (λ z h. value_is z.operand z.tree h))
+sure_operated k Neither x y = tt
 
 -- intervals
 moved_made : (o : NumericOperator) (x : Lowered) (s : Option ScalarView) → IfMade IsValue (moved o x s)
 moved_made o x None = tt
 moved_made o x (Some s) =
-    let f = ours (Binary (arithmetic_operator o)) in
-    let t = call f (trees_of (x.tree ∷ constant s ∷ [])) in
-    operand_made x.operand (call_on f (x.tree ∷ constant s ∷ []))
-    (if_chosen IsTyped (fits (function_arity meaning f) 2) (typed t) calls.untyped (typed_made t) tt)
+    operand_made x.operand
+    (call_on (ours (Binary (arithmetic_operator o))) (x.tree ∷ constant s ∷ []))
+    (on_two_made o x.tree (constant s))
 
 sure_shifted : (o : NumericOperator) (k : Kind) (t : Tree) (z : ℤ)
     → Sure IsItem (shifted_item o k t z)
@@ -261,11 +281,23 @@ sure_moved o k t (Micros z) = sure_shifted o k t z
 sure_moved numeric.Sub k t (Months n) = sure_months_moved k t (pos 0 -ℤ n)
 sure_moved o k t (Months n) = sure_months_moved k t n
 
+sure_span : (i : Item) → Sure Any (span_operand i)
+sure_span (interval (Given (Micros z))) = tt
+sure_span (interval (Elapsed t)) = tt
+sure_span i = tt
+
+sure_spans : (o : KindedOperator) (a b : Item) → Sure IsItem (spans_joined o a b)
+sure_spans (Compares op) a b =
+    sure_then Any IsItem (span_operand a) _ (sure_span a)
+    (λ x h. sure_then Any IsItem (span_operand b) _ (sure_span b)
+    (λ y j. sure_operated Plain (Compares op) x y))
+sure_spans o a b = tt
+
 sure_shifted_items : (o : written.WrittenOperator) (a b : Item) → Sure IsItem (shifted_items o a b)
-sure_shifted_items signs.Add (kinded k t) (interval z) = sure_moved numeric.Add k t z
-sure_shifted_items signs.Add (interval z) (kinded k t) = sure_moved numeric.Add k t z
-sure_shifted_items signs.Sub (kinded k t) (interval z) = sure_moved numeric.Sub k t z
-sure_shifted_items o a b = tt
+sure_shifted_items signs.Add (kinded k t) (interval (Given z)) = sure_moved numeric.Add k t z
+sure_shifted_items signs.Add (interval (Given z)) (kinded k t) = sure_moved numeric.Add k t z
+sure_shifted_items signs.Sub (kinded k t) (interval (Given z)) = sure_moved numeric.Sub k t z
+sure_shifted_items o a b = sure_spans (kinded_operator o) a b
 
 sure_beside : (k : Kind) (o : KindedOperator) (a b : Item) → Sure IsItem (joined_beside k o a b)
 sure_beside k o a b =

@@ -17,21 +17,30 @@ use Rattle.vortex_logical_calls.specs.Computation.{computed}
 use Rattle.vortex_logical_calls.specs.Bounds as bounds
 use Rattle.vortex_logical_calls.specs.RowLaws.{ComparisonsGoByOrder, BoundsGoByOrder}
 use Rattle.vortex_logical_calls.specs.RowLaws.{ComputationsAreExact, ValuesAreAligned, KindsMeet}
-use Rattle.vortex_logical_calls.specs.RowLaws.{IntervalsMove, is_sum}
-use Rattle.vortex_logical_calls.specs.Intervals.{shifted}
+use Rattle.vortex_logical_calls.specs.RowLaws.{IntervalsMove, InstantsElapse, is_sum}
+use Rattle.vortex_logical_calls.specs.Intervals.{shifted, elapses, elapsed}
+use Rattle.vortex_logical_calls.specs.Calls.{Lowered}
+use Rattle.vortex_logical.specs.declared.operand.Operand.{Operand}
+use Rattle.vortex_logical.specs.declared.operand.Operand.TheVariants.{Whole, Of}
 use Rattle.vortex_logical_calls.specs.declared.intervals.Interval.TheVariants.{Micros}
 use Rattle.vortex_standard.specs.declared.standard.Standard.{Standard}
 use Rattle.vortex_standard.specs.declared.standard.Standard.TheVariants as standard
 use Rattle.vortex_standard.specs.Names.{standard_named}
 use Rattle.vortex_expressions.specs.declared.kind_words.KindName.{KindName}
-use Rattle.vortex_expressions.specs.declared.refusal.Refusal.TheVariants.{NotHeld, NoFunction}
+use Rattle.vortex_expressions.specs.declared.refusal.Refusal.TheVariants.{NoFunction}
 use Rattle.vortex_expressions.specs.Outcomes.{Outcome, answers, refuses, and_then, or_refuses}
 use Rattle.vortex_expressions.specs.Items.{Item, bound, kinded, fraction, interval, Tree, as_item}
 use Rattle.vortex_expressions.specs.Items.{settled, text_of}
 use Rattle.vortex_expressions.specs.Kinded.{is_kinded, is_interval, is_plain, first_kind}
 use Rattle.vortex_expressions.specs.Kinded.{item_operand, told}
-use Rattle.vortex_expressions.specs.Kinded.{value_item, kinded_operator, KindedOperator, compares}
-use Rattle.vortex_expressions.specs.Kinded.{computes, operated, joined_beside, shifted_items}
+use Rattle.vortex_expressions.specs.declared.item.Timespan.{Timespan}
+use Rattle.vortex_expressions.specs.declared.item.Timespan.TheVariants.{Given, Elapsed}
+use Rattle.vortex_expressions.specs.declared.kind_operators.KindedOperator.{KindedOperator}
+use Rattle.vortex_expressions.specs.declared.kind_operators.KindedOperator.TheVariants.{Compares}
+use Rattle.vortex_expressions.specs.declared.kind_operators.KindedOperator.TheVariants.{Computes}
+use Rattle.vortex_expressions.specs.Kinded.{value_item, kinded_operator, operated, joined_beside}
+use Rattle.vortex_expressions.specs.Kinded.{shifted_items, span_operand, spans_compared}
+use Rattle.vortex_expressions.specs.Kinded.{spans_joined, computed_item}
 use Rattle.vortex_expressions.specs.Kinded.{values_joined, folded_or_joined, fraction_of}
 use Rattle.vortex_expressions.specs.Folding.{folded, digits_of_item}
 use Rattle.vortex_expressions.specs.Kinded.{kinded_joined, kinded_between, within_bounds}
@@ -52,18 +61,19 @@ use Rattle.vortex_expressions.specs.FunctionRows.{FunctionsCallInKind, IsCall}
 use Rattle.vortex_expressions.specs.RowLaws.{ComparesItems, ComputesItems, BoundsItems}
 use Rattle.vortex_expressions.specs.RowLaws.{EitherBoundsItems, EitherBoundsBound, Shift, shift, shift_of, IntervalsShift}
 use Rattle.vortex_expressions.specs.RowLaws.{ComparisonsCompare, ArithmeticComputes, BoundsBound}
-use Rattle.vortex_expressions.specs.RowLaws.{NumbersFold}
+use Rattle.vortex_expressions.specs.RowLaws.{NumbersFold, TimestampsElapse, IntervalsCompare}
+use Rattle.vortex_expressions.specs.RowLaws.{ElapsesItem, ComparesSpans}
 use Rattle.vortex_expressions.specs.RowLaws.{ListsCall, DistinctCalls, NamesCall, CasesCall}
 use Rattle.vortex_expressions.specs.RowLaws.{ElseCasesCall, TextsMeanTheirRows}
 use Rattle.vortex_expressions.proofs.LiteralsOver.{Then, then_is, answers_is, text_read}
 use Rattle.vortex_expressions.proofs.FunctionRows.{made_told, IsTold, item_told, functions}
 
--- a comparison of intervals is refused
-no_shift : (o : WrittenOperator) (op : CompareOperator) (i j : Item) → kinded_operator o ≡ compares op
-    → shifted_items o i j ≡ refuses NotHeld
-no_shift written.Add op i j e = absurd cc
-no_shift written.Sub op i j e = absurd cc
-no_shift o op i j e = refl
+-- intervals compare
+spans_of : (o : WrittenOperator) (op : CompareOperator) (i j : Item) → kinded_operator o ≡ Compares op
+    → shifted_items o i j ≡ spans_joined (kinded_operator o) i j
+spans_of written.Add op i j e = absurd cc
+spans_of written.Sub op i j e = absurd cc
+spans_of o op i j e = refl
 
 -- behind the parts of a text
 parts_are : {A : Type 0} (o p : Outcome Item) (f : Item → Item → Outcome A) (i j : Item) (a : A)
@@ -85,27 +95,45 @@ joined_kinded o i j r c h e =
     (cond (is_kinded i || is_kinded j) (kinded_joined o i j) (plain_joined o i j))) (sym c) ∙ e
 
 -- what compares or computes joins no texts
-compares_apart : (o : WrittenOperator) (op : CompareOperator) → kinded_operator o ≡ compares op
+compares_apart : (o : WrittenOperator) (op : CompareOperator) → kinded_operator o ≡ Compares op
     → is_concat o ≡ false
 compares_apart written.Concat op c = cc
 compares_apart o op c = refl
 
-computes_apart : (o : WrittenOperator) (op : NumericOperator) → kinded_operator o ≡ computes op
+computes_apart : (o : WrittenOperator) (op : NumericOperator) → kinded_operator o ≡ Computes op
     → is_concat o ≡ false
 computes_apart written.Concat op c = cc
 computes_apart o op c = refl
 
-values_of : (o : WrittenOperator) (op : NumericOperator) (i j r : Item) → kinded_operator o ≡ computes op
+values_of : (o : WrittenOperator) (q : KindedOperator) (i j r : Item) → kinded_operator o ≡ q
     → (is_interval i || is_interval j) ≡ false → kinded_joined o i j ≡ answers r
-    → values_joined (computes op) i j ≡ answers r
-values_of o op i j r c h e =
-    ap (λ q. values_joined q i j) (sym c)
+    → values_joined q i j ≡ answers r
+values_of o q i j r c h e =
+    ap (λ p. values_joined p i j) (sym c)
     ∙ ap (λ b. cond b (shifted_items o i j) (values_joined (kinded_operator o) i j)) (sym h) ∙ e
 
 beside_of : (op : NumericOperator) (i j r : Item) → folded op i j ≡ None
-    → values_joined (computes op) i j ≡ answers r
-    → joined_beside (first_kind (i ∷ j ∷ [])) (computes op) i j ≡ answers r
-beside_of op i j r h e = ap (λ f. folded_or_joined f (computes op) i j) (sym h) ∙ e
+    → values_joined (Computes op) i j ≡ answers r
+    → joined_beside (first_kind (i ∷ j ∷ [])) (Computes op) i j ≡ answers r
+beside_of op i j r h e = ap (λ f. folded_or_joined f (Computes op) i j) (sym h) ∙ e
+
+spans_made : (o : WrittenOperator) (op : CompareOperator) (i j r : Item)
+    → kinded_operator o ≡ Compares op → (is_interval i || is_interval j) ≡ true
+    → kinded_joined o i j ≡ answers r → spans_compared op i j ≡ answers r
+spans_made o op i j r c h e =
+    ap (λ p. spans_joined p i j) (sym c) ∙ sym (spans_of o op i j c)
+    ∙ ap (λ b. cond b (shifted_items o i j) (values_joined (kinded_operator o) i j)) (sym h) ∙ e
+
+-- an interval is a value next to another
+interval_kinded : (i j : Item) → (is_interval i || is_interval j) ≡ true
+    → (is_kinded i || is_kinded j) ≡ true
+interval_kinded (interval z) j h = refl
+interval_kinded i (interval z) h = by (is_kinded i)
+  where
+    by : (b : Bool) → (b || true) ≡ true
+    by true = refl
+    by false = refl
+interval_kinded i j h = absurd cc
 
 -- literal numbers are no intervals
 no_interval : (op : NumericOperator) (i j : Item) (w : List ℕ) → folded op i j ≡ Some w
@@ -121,17 +149,53 @@ no_interval op i j w e = by i j e
     by i (interval z) h = absurd (behind (digits_of_item i) h)
     by i j h = refl
 
-compared_beside : (o : WrittenOperator) (op : CompareOperator) (i j r : Item)
-    → kinded_operator o ≡ compares op → kinded_joined o i j ≡ answers r
-    → joined_beside (first_kind (i ∷ j ∷ [])) (compares op) i j ≡ answers r
-compared_beside o op i j r c e = by (is_interval i || is_interval j) refl e
+-- values are no intervals
+no_value : (a : Operand) (u : Tree) (z : Timespan) → answers (value_item a u) ≡ answers (interval z) → ⊥
+no_value (Whole p) u z e = cc
+no_value (Of k) u z e = cc
+
+no_fraction : (w : List ℕ) (z : Timespan) → fraction_of w ≡ answers (interval z) → ⊥
+no_fraction w z e =
+    let text = then_is (text_of w) (λ v. answers (fraction v)) (interval z) e in
+    let no : answers (fraction text.a) ≡ answers (interval z) = text.second in cc
+
+-- what has no tree is no difference of timestamps
+value_made : (op : NumericOperator) (x y : Lowered) (r : Item) (t : LogicalTree)
+    → computed_item op x y ≡ answers r → ended r ≡ answers t
+    → and_then (told (computed op x y)) (λ z. answers (value_item z.operand z.tree)) ≡ answers r
+value_made op x y r t e f = by (elapses op x.operand y.operand) e
   where
-    by : (b : Bool) → (is_interval i || is_interval j) ≡ b
-        → cond b (shifted_items o i j) (values_joined (kinded_operator o) i j) ≡ answers r
-        → joined_beside (first_kind (i ∷ j ∷ [])) (compares op) i j ≡ answers r
-    by true h g =
-        let none : refuses NotHeld ≡ answers r = sym (no_shift o op i j c) ∙ g in absurd cc
-    by false h g = ap (λ q. values_joined q i j) (sym c) ∙ g
+    value : Outcome Item
+    value = and_then (told (computed op x y)) (λ z. answers (value_item z.operand z.tree))
+
+    by : (b : Bool)
+        → cond b (and_then (told (elapsed x y)) (λ u. answers (interval (Elapsed u)))) value ≡ answers r
+        → value ≡ answers r
+    by true g =
+        let u = then_is (told (elapsed x y)) (λ u. answers (interval (Elapsed u))) r g in
+        let no : ended (interval (Elapsed u.a)) ≡ answers t =
+        ap ended (answers_is (interval (Elapsed u.a)) r u.second) ∙ f in
+        absurd cc
+    by false g = g
+
+-- the microseconds of a difference
+elapsed_is : (x y : Lowered) (t : Tree) → computed_item numeric.Sub x y ≡ answers (interval (Elapsed t))
+    → told (elapsed x y) ≡ answers t
+elapsed_is x y t e = by (elapses numeric.Sub x.operand y.operand) e
+  where
+    by : (b : Bool)
+        → cond b (and_then (told (elapsed x y)) (λ u. answers (interval (Elapsed u))))
+        (and_then (told (computed numeric.Sub x y)) (λ z. answers (value_item z.operand z.tree)))
+        ≡ answers (interval (Elapsed t))
+        → told (elapsed x y) ≡ answers t
+    by true g =
+        let u = then_is (told (elapsed x y)) (λ u. answers (interval (Elapsed u))) (interval (Elapsed t)) g in
+        let same : answers (interval (Elapsed u.a)) ≡ answers (interval (Elapsed t)) = u.second in
+        u.first ∙ ap (λ v. answers v) (let one : u.a ≡ t = cc in one)
+    by false g =
+        let z = then_is (told (computed numeric.Sub x y))
+        (λ z. answers (value_item z.operand z.tree)) (interval (Elapsed t)) g in
+        absurd (no_value z.a.operand z.a.tree (Elapsed t) z.second)
 
 shift_is : (s u : Shift) → Some s ≡ Some u → s ≡ u
 shift_is s u e = cc
@@ -143,13 +207,13 @@ moved_by_shift s =
 
 shift_made : (o : WrittenOperator) (i j : Item) (s : Shift) (r : Item) → shift_of o i j ≡ Some s
     → joined_item o i j ≡ answers r → (is_sum s.operator ≡ true) × (moved_by_shift s ≡ answers r)
-shift_made written.Add (kinded k t) (interval (Micros z)) s r e f =
+shift_made written.Add (kinded k t) (interval (Given (Micros z))) s r e f =
     let same = sym (shift_is (shift numeric.Add k t z) s e) in
     (ap (λ u. is_sum u.operator) same, ap moved_by_shift same ∙ f)
-shift_made written.Add (interval (Micros z)) (kinded k t) s r e f =
+shift_made written.Add (interval (Given (Micros z))) (kinded k t) s r e f =
     let same = sym (shift_is (shift numeric.Add k t z) s e) in
     (ap (λ u. is_sum u.operator) same, ap moved_by_shift same ∙ f)
-shift_made written.Sub (kinded k t) (interval (Micros z)) s r e f =
+shift_made written.Sub (kinded k t) (interval (Given (Micros z))) s r e f =
     let same = sym (shift_is (shift numeric.Sub k t z) s e) in
     (ap (λ u. is_sum u.operator) same, ap moved_by_shift same ∙ f)
 shift_made o i j s r e f = cc
@@ -159,13 +223,13 @@ module _ (scope : Fields) (kinds : List Kind) where
   names = names_in scope kinds
 
   comparisons : ComparisonsGoByOrder → ComparisonsCompare scope kinds
-  comparisons law o op a b i j t c h k g e =
+  comparisons law o op a b i j t c h k g n e =
       let whole = then_is (and_then (item_by names a)
       (λ x. and_then (item_by names b) (joined_item o x))) ended t e in
       let r = whole.a in
       let one = parts_are (item_by names a) (item_by names b) (joined_item o) i j r h k whole.first in
-      let beside =
-      compared_beside o op i j r c (joined_kinded o i j r (compares_apart o op c) g one) in
+      let kinded = joined_kinded o i j r (compares_apart o op c) g one in
+      let beside = values_of o (Compares op) i j r c n kinded in
       let left = then_is (item_operand (first_kind (i ∷ j ∷ [])) i) _ r beside in
       let right = then_is (item_operand (first_kind (i ∷ j ∷ [])) j) _ r left.second in
       let done = item_told (told (compared op left.a right.a)) r right.second in
@@ -182,11 +246,12 @@ module _ (scope : Fields) (kinds : List Kind) where
       let r = whole.a in
       let one = parts_are (item_by names a) (item_by names b) (joined_item o) i j r h k whole.first in
       let kinded = joined_kinded o i j r (computes_apart o op c) g one in
-      let beside = beside_of op i j r f (values_of o op i j r c n kinded) in
+      let beside = beside_of op i j r f (values_of o (Computes op) i j r c n kinded) in
       let left = then_is (item_operand (first_kind (i ∷ j ∷ [])) i) _ r beside in
       let right = then_is (item_operand (first_kind (i ∷ j ∷ [])) j) _ r left.second in
       let done = then_is (told (computed op left.a right.a))
-      (λ z. answers (value_item z.operand z.tree)) r right.second in
+      (λ z. answers (value_item z.operand z.tree)) r
+      (value_made op left.a right.a r t right.second whole.second) in
       let z = done.a in
       record {
         x = left.a;
@@ -205,12 +270,60 @@ module _ (scope : Fields) (kinds : List Kind) where
       let r = whole.a in
       let one = parts_are (item_by names a) (item_by names b) (joined_item o) i j r h k whole.first in
       let kinded = joined_kinded o i j r (computes_apart o op c) g one in
-      let values = values_of o op i j r c (no_interval op i j w f) kinded in
+      let values = values_of o (Computes op) i j r c (no_interval op i j w f) kinded in
       let made : fraction_of w ≡ answers r =
-      ap (λ q. folded_or_joined q (computes op) i j) (sym f) ∙ values in
+      ap (λ q. folded_or_joined q (Computes op) i j) (sym f) ∙ values in
       let text = then_is (text_of w) (λ v. answers (fraction v)) r made in
       let same = ap fraction (text_read w text.a text.first).same in
       ap ended (same ∙ answers_is (fraction text.a) r text.second) ∙ whole.second
+
+  -- intervals, and differences of timestamps
+  intervals : ComparisonsGoByOrder → IntervalsCompare scope kinds
+  intervals law o op a b i j t c h k g e =
+      let whole = then_is (and_then (item_by names a)
+      (λ x. and_then (item_by names b) (joined_item o x))) ended t e in
+      let r = whole.a in
+      let one = parts_are (item_by names a) (item_by names b) (joined_item o) i j r h k whole.first in
+      let kinded = joined_kinded o i j r (compares_apart o op c) (interval_kinded i j g) one in
+      let spans = spans_made o op i j r c g kinded in
+      let left = then_is (span_operand i) _ r spans in
+      let right = then_is (span_operand j) _ r left.second in
+      let done = item_told (told (compared op left.a right.a)) r right.second in
+      let same : t.tree ≡ done.tree =
+      tree_is done.tree t (ap ended done.same ∙ whole.second) in
+      let rows = law op left.a right.a t.tree
+      (made_told (compared op left.a right.a) t.tree (done.is ∙ ap (λ u. answers u) (sym same))) in
+      record { x = left.a; y = right.a; left = left.first; right = right.first; rows = rows }
+
+  elapses_beside : InstantsElapse → (i j : Item) (t : Tree)
+      → joined_beside (first_kind (i ∷ j ∷ [])) (Computes numeric.Sub) i j
+      ≡ answers (interval (Elapsed t))
+      → ElapsesItem i j t
+  elapses_beside law i j t e =
+      let r = interval (Elapsed t) in
+      let left = then_is (item_operand (first_kind (i ∷ j ∷ [])) i) _ r e in
+      let right = then_is (item_operand (first_kind (i ∷ j ∷ [])) j) _ r left.second in
+      let micros = made_told (elapsed left.a right.a) t (elapsed_is left.a right.a t right.second) in
+      record {
+        x = left.a;
+        y = right.a;
+        left = left.first;
+        right = right.first;
+        rows = law left.a right.a t micros;
+      }
+
+  differences : InstantsElapse → TimestampsElapse scope kinds
+  differences law o a b i j t c h k g n e =
+      let r = interval (Elapsed t) in
+      let one = parts_are (item_by names a) (item_by names b) (joined_item o) i j r h k e in
+      let kinded = joined_kinded o i j r (computes_apart o numeric.Sub c) g one in
+      by (folded numeric.Sub i j) (values_of o (Computes numeric.Sub) i j r c n kinded)
+    where
+      by : (f : Option (List ℕ))
+          → folded_or_joined f (Computes numeric.Sub) i j ≡ answers (interval (Elapsed t))
+          → ElapsesItem i j t
+      by (Some w) q = absurd (no_fraction w (Elapsed t) q)
+      by None q = elapses_beside law i j t q
 
   -- a BETWEEN of three items
   three_bounds : BoundsGoByOrder → (i j k : Item) (u : Tree)
@@ -405,14 +518,16 @@ module _ (scope : Fields) (kinds : List Kind) where
         (λ r g. case_call (has_operand bs) (reverse us) js r k g) e
 
   pub texts : ComparisonsGoByOrder → BoundsGoByOrder → ComputationsAreExact → IntervalsMove
-      → ValuesAreAligned → KindsMeet → TextsMeanTheirRows scope kinds
-  texts c b a s v m = record {
+      → InstantsElapse → ValuesAreAligned → KindsMeet → TextsMeanTheirRows scope kinds
+  texts c b a s d v m = record {
     comparisons = comparisons c;
     bounds = all_bounds b;
     either_bounds = either b;
     arithmetic = arithmetic a;
     numbers = numbers;
     shifts = shifts s;
+    differences = differences d;
+    intervals = intervals c;
     lists = lists (functions v m);
     distinctions = distinctions (functions v m);
     functions = names_call (functions v m);

@@ -16,7 +16,6 @@ use Rattle.vortex_interface.specs.Trees as trees
 use Rattle.vortex_interface.specs.Trees.{constant, call, trees_of}
 use Rattle.vortex_interface.specs.Eval.{tree_type, tree_types, types_or_none}
 use Rattle.vortex_interface.specs.declared.options.EmptyOptions.{EmptyOptions}
-use Rattle.vortex_logical_calls.specs.declared.intervals.Interval.{Interval}
 use Rattle.vortex_logical.specs.declared.kind.Kind.{Kind}
 use Rattle.vortex_logical.specs.declared.kind.Kind.TheVariants.{F64}
 use Rattle.vortex_standard.specs.Standard.{standard_meaning}
@@ -24,6 +23,7 @@ use Rattle.vortex_standard.specs.declared.standard.Standard.{Standard}
 use Rattle.vortex_standard.specs.declared.standard.Standard.TheVariants as standard
 use Rattle.vortex_expressions.specs.declared.item.Item as held
 use Rattle.vortex_expressions.specs.declared.item.Item.TheVariants as variant
+use Rattle.vortex_expressions.specs.declared.item.Timespan.{Timespan}
 use Rattle.vortex_expressions.specs.declared.refusal.Refusal.TheVariants.{UntypedNull, NotHeld}
 use Rattle.vortex_expressions.specs.declared.refusal.Refusal.TheVariants.{NotUtf8}
 use Rattle.vortex_expressions.specs.declared.refusal.Refusal.TheVariants.{Binding, OfKind}
@@ -51,13 +51,13 @@ callable f = custom f (record {})
 -- bound: a tree
 -- kinded: a tree of the stored integers of a kind
 -- fraction: a number with a point or an exponent, where columns have kinds
--- interval: so many microseconds or months
+-- interval: so many microseconds or months, or how long it is from one timestamp to another
 pub data Item : Type 0 where
   literal : Literal → Item
   bound : Tree → Item
   kinded : Kind → Tree → Item
   fraction : List ℕ → Item
-  interval : Interval → Item
+  interval : Timespan → Item
 
 abbrev pub item_in : held.Item → Item
 item_in (variant.Literal l) = literal (literal_in l)

@@ -34,6 +34,7 @@ use Rattle.vortex_standard.specs.declared.standard.Standard.TheVariants as stand
 use Rattle.vortex_expressions.specs.declared.refusal.Refusal.TheVariants.{NoCast, NotHeld, OfKind}
 use Rattle.vortex_expressions.specs.Literals.{Literal, number, text, truth, null}
 use Rattle.vortex_expressions.specs.Outcomes.{Outcome, answers, refuses, and_then}
+use Rattle.vortex_expressions.specs.declared.item.Timespan.TheVariants.{Given}
 use Rattle.vortex_expressions.specs.Items.{Item, literal, bound, kinded, fraction, interval, Tree}
 use Rattle.vortex_expressions.specs.Items.{meaning, as_item, constant_at}
 use Rattle.vortex_expressions.specs.Items.{callable, call_of}
@@ -215,7 +216,7 @@ is_interval_name w n = if n then false else same_word w (codes "interval")
 
 abbrev pub interval_told : Option Interval → Outcome Item
 interval_told None = refuses NotHeld
-interval_told (Some z) = answers (interval z)
+interval_told (Some z) = answers (interval (Given z))
 
 abbrev pub interval_item : Literal → Outcome Item
 interval_item (text bs) = interval_told (interval_of bs)

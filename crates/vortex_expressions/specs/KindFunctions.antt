@@ -1,7 +1,13 @@
 -- Calls of functions on values of kinds: of numbers as floats, of dates and timestamps.
 use Rattle.std.specs.Prelude.{ℕ, List, [], ◌∷◌, ◌++◌, Bool, true, false, length, codes}
-use Rattle.std.specs.Prelude.{Option, Some, None, if◌then◌else◌}
+use Rattle.std.specs.Prelude.{Option, Some, None, if◌then◌else◌, pos}
 use Rattle.std.specs.Option.{option_map}
+use Rattle.vortex_types.specs.declared.dtype.PType.TheVariants.{I64}
+use Rattle.vortex_columns.specs.ScalarOf.{int_scalar}
+use Rattle.vortex_operators.specs.declared.operators.Operator.TheVariants as operator
+use Rattle.vortex_interface.specs.Shipped.{Binary}
+use Rattle.vortex_interface.specs.Functions.{ours}
+use Rattle.vortex_interface.specs.Trees.{constant}
 use Rattle.vortex_interface.specs.Eval.{tree_type}
 use Rattle.vortex_errors.specs.declared.arity.Arity.TheVariants.{Exact}
 use Rattle.vortex_errors.specs.declared.error.VortexError.TheVariants.{ArityMismatch, TypeMismatch}
@@ -11,7 +17,7 @@ use Rattle.vortex_logical.specs.declared.kind.Kind.TheVariants.{Date, Timestamp,
 use Rattle.vortex_logical.specs.declared.kind.Kind.TheVariants.{F64, F32}
 use Rattle.vortex_logical.specs.declared.operand.Operand.{Operand}
 use Rattle.vortex_logical.specs.declared.operand.Operand.TheVariants.{Whole, Of}
-use Rattle.vortex_logical.specs.Digits.{Digits}
+use Rattle.vortex_logical.specs.Digits.{Digits, digits_of}
 use Rattle.vortex_logical_casts.specs.declared.roundings.Rounded.{Rounded}
 use Rattle.vortex_logical_casts.specs.Roundings.{is_rounding, rounded}
 use Rattle.vortex_lowering.specs.Rows.{lowered}
@@ -21,6 +27,7 @@ use Rattle.vortex_sql_float_functions.specs.declared.functions.FloatFunction.{Fl
 use Rattle.vortex_sql_float_functions.specs.declared.functions.FloatFunction.TheVariants as float
 use Rattle.vortex_sql_floats.specs.declared.floats.FloatOperator.TheVariants.{Multiply, Divide}
 use Rattle.vortex_sql_dates.specs.declared.parts.Part.{Part}
+use Rattle.vortex_sql_dates.specs.declared.parts.Part.TheVariants as part
 use Rattle.vortex_sql_dates.specs.declared.truncations.Unit as units
 use Rattle.vortex_standard.specs.declared.standard.Standard.{Standard}
 use Rattle.vortex_standard.specs.declared.standard.Standard.TheVariants as standard
@@ -35,8 +42,9 @@ use Rattle.vortex_expressions.specs.declared.kind_words.KindName.TheVariants.{Si
 use Rattle.vortex_expressions.specs.declared.kind_words.KindName.TheVariants.{UnitByText, AddMonths, ToChar}
 use Rattle.vortex_expressions.specs.Literals.{number, text}
 use Rattle.vortex_expressions.specs.Outcomes.{Outcome, answers, refuses, and_then, or_refuses}
-use Rattle.vortex_expressions.specs.Items.{Item, literal, bound, kinded, fraction, Tree, as_item}
-use Rattle.vortex_expressions.specs.Items.{meaning, callable, call_of, settled}
+use Rattle.vortex_expressions.specs.declared.item.Timespan.TheVariants.{Elapsed}
+use Rattle.vortex_expressions.specs.Items.{Item, literal, bound, kinded, fraction, interval, Tree}
+use Rattle.vortex_expressions.specs.Items.{as_item, meaning, callable, call_of, called, settled}
 use Rattle.vortex_expressions.specs.Kinded.{told, text_literal, plain_operand}
 use Rattle.vortex_expressions.specs.KindCasts.{step_on, count_of}
 use Rattle.vortex_expressions.specs.Months.{months_function}
@@ -147,10 +155,26 @@ unit_call u k t =
     and_then (unit_function u k) (λ f.
     and_then (call_of (callable f) (t ∷ [])) (λ s. answers (kinded k s)))
 
+-- microseconds as seconds, with six digits after the point
+abbrev pub seconds_item : Tree → Outcome Item
+seconds_item t = answers (kinded (Decimal (digits_of 18 6)) t)
+
+-- the microseconds of a day
+abbrev pub day_micros : Tree
+day_micros = constant (int_scalar I64 (pos 86_400_000_000))
+
+-- of the microseconds from one timestamp to another the seconds, or the whole days
+abbrev pub elapsed_part : Part → Tree → Outcome Item
+elapsed_part part.Epoch t = seconds_item t
+elapsed_part part.Day t =
+    as_item (called (ours (Binary operator.Div)) None (bound t ∷ bound day_micros ∷ []))
+elapsed_part p t = refuses NotHeld
+
 abbrev pub of_value : KindFunction → Item → Outcome Item
 of_value (OfFloat f) i = number_call f i
 of_value (OfPart p) (kinded k t) = part_call p k t
 of_value (ToUnit u) (kinded k t) = unit_call u k t
+of_value (OfPart p) (interval (Elapsed t)) = elapsed_part p t
 of_value f (fraction w) = refuses (OfKind F64)
 of_value f i = refuses (Binding (TypeMismatch Scalars))
 

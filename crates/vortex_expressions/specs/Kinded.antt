@@ -12,7 +12,9 @@ use Rattle.vortex_operators.specs.declared.operators.CompareOperator.{CompareOpe
 use Rattle.vortex_operators.specs.declared.operators.CompareOperator.TheVariants as compare
 use Rattle.vortex_operators.specs.declared.between.BetweenOptions.{BetweenOptions}
 use Rattle.vortex_operators.specs.declared.between.StrictComparison.TheVariants.{NonStrict}
+use Rattle.vortex_columns.specs.ScalarOf.{int_scalar}
 use Rattle.vortex_interface.specs.Eval.{tree_type}
+use Rattle.vortex_interface.specs.Trees.{constant}
 use Rattle.vortex_syntax.specs.declared.step.WrittenOperator as syntax
 use Rattle.vortex_syntax.specs.declared.step.WrittenOperator.TheVariants as written
 use Rattle.vortex_logical.specs.declared.kind.Kind.{Kind}
@@ -30,7 +32,7 @@ use Rattle.vortex_logical_calls.specs.Comparison.{compared}
 use Rattle.vortex_logical_calls.specs.Bounds as bounds
 use Rattle.vortex_logical_calls.specs.Computation.{computed}
 use Rattle.vortex_logical_calls.specs.Literals.{kind_beside, literal_of}
-use Rattle.vortex_logical_calls.specs.Intervals.{shifted}
+use Rattle.vortex_logical_calls.specs.Intervals.{shifted, elapses, elapsed}
 use Rattle.vortex_logical_calls.specs.declared.intervals.Interval.{Interval}
 use Rattle.vortex_logical_calls.specs.declared.intervals.Interval.TheVariants.{Micros, Months}
 use Rattle.vortex_sql_kind_texts.specs.TextKinds.{overflows}
@@ -38,6 +40,11 @@ use Rattle.vortex_expressions.specs.declared.refusal.Refusal.TheVariants.{NotHel
 use Rattle.vortex_expressions.specs.declared.refusal.Refusal.TheVariants.{OfKind, Kinds, Binding}
 use Rattle.vortex_expressions.specs.declared.refusal.BindStop.{BindStop}
 use Rattle.vortex_expressions.specs.declared.refusal.BindStop.TheVariants.{Refused}
+use Rattle.vortex_expressions.specs.declared.item.Timespan.TheVariants.{Given, Elapsed}
+use Rattle.vortex_expressions.specs.declared.kind_operators.KindedOperator.{KindedOperator}
+use Rattle.vortex_expressions.specs.declared.kind_operators.KindedOperator.TheVariants.{Compares}
+use Rattle.vortex_expressions.specs.declared.kind_operators.KindedOperator.TheVariants.{Computes}
+use Rattle.vortex_expressions.specs.declared.kind_operators.KindedOperator.TheVariants.{Neither}
 use Rattle.vortex_expressions.specs.Literals.{Literal, number, text, truth, null}
 use Rattle.vortex_expressions.specs.Outcomes.{Outcome, answers, refuses, and_then}
 use Rattle.vortex_expressions.specs.Items.{Item, literal, bound, kinded, fraction, interval, Tree}
@@ -147,35 +154,33 @@ value_item (Whole p) t = bound t
 value_item (Of k) t = kinded k t
 
 -- what an operator does with values of kinds
-pub data KindedOperator : Type 0 where
-  compares : CompareOperator → KindedOperator
-  computes : NumericOperator → KindedOperator
-  neither : KindedOperator
-
 abbrev pub kinded_operator : syntax.WrittenOperator → KindedOperator
-kinded_operator written.Equal = compares compare.Eq
-kinded_operator written.NotEqual = compares compare.NotEq
-kinded_operator written.Less = compares compare.Lt
-kinded_operator written.LessOrEqual = compares compare.Lte
-kinded_operator written.Greater = compares compare.Gt
-kinded_operator written.GreaterOrEqual = compares compare.Gte
-kinded_operator written.Add = computes numeric.Add
-kinded_operator written.Sub = computes numeric.Sub
-kinded_operator written.Mul = computes numeric.Mul
-kinded_operator written.Div = computes numeric.Div
-kinded_operator o = neither
+kinded_operator written.Equal = Compares compare.Eq
+kinded_operator written.NotEqual = Compares compare.NotEq
+kinded_operator written.Less = Compares compare.Lt
+kinded_operator written.LessOrEqual = Compares compare.Lte
+kinded_operator written.Greater = Compares compare.Gt
+kinded_operator written.GreaterOrEqual = Compares compare.Gte
+kinded_operator written.Add = Computes numeric.Add
+kinded_operator written.Sub = Computes numeric.Sub
+kinded_operator written.Mul = Computes numeric.Mul
+kinded_operator written.Div = Computes numeric.Div
+kinded_operator o = Neither
 
 abbrev pub compared_item : CompareOperator → Lowered → Lowered → Outcome Item
 compared_item op x y = as_item (told (compared op x y))
 
+-- the time from one timestamp to another, or a value
 abbrev pub computed_item : NumericOperator → Lowered → Lowered → Outcome Item
 computed_item o x y =
-    and_then (told (computed o x y)) (λ z. answers (value_item z.operand z.tree))
+    if elapses o x.operand y.operand
+    then and_then (told (elapsed x y)) (λ t. answers (interval (Elapsed t)))
+    else and_then (told (computed o x y)) (λ z. answers (value_item z.operand z.tree))
 
 abbrev pub operated : Kind → KindedOperator → Lowered → Lowered → Outcome Item
-operated k (compares op) x y = compared_item op x y
-operated k (computes o) x y = computed_item o x y
-operated k neither x y = refuses (OfKind k)
+operated k (Compares op) x y = compared_item op x y
+operated k (Computes o) x y = computed_item o x y
+operated k Neither x y = refuses (OfKind k)
 
 abbrev pub joined_beside : Kind → KindedOperator → Item → Item → Outcome Item
 joined_beside k o a b =
@@ -192,16 +197,32 @@ moved_item o k t (Micros z) = shifted_item o k t z
 moved_item numeric.Sub k t (Months n) = months_moved k t (pos 0 -ℤ n)
 moved_item o k t (Months n) = months_moved k t n
 
+-- how long it is, in microseconds, but for an interval of months
+abbrev pub span_operand : Item → Outcome Lowered
+span_operand (interval (Given (Micros z))) =
+    answers (lowered (constant (int_scalar I64 z)) (Whole I64))
+span_operand (interval (Elapsed t)) = answers (lowered t (Whole I64))
+span_operand i = refuses NotHeld
+
+-- which of two is longer
+abbrev pub spans_compared : CompareOperator → Item → Item → Outcome Item
+spans_compared op a b =
+    and_then (span_operand a) (λ x. and_then (span_operand b) (λ y. compared_item op x y))
+
+abbrev pub spans_joined : KindedOperator → Item → Item → Outcome Item
+spans_joined (Compares op) a b = spans_compared op a b
+spans_joined o a b = refuses NotHeld
+
 -- an interval is added to them, and taken from them
 abbrev pub shifted_items : syntax.WrittenOperator → Item → Item → Outcome Item
-shifted_items written.Add (kinded k t) (interval z) = moved_item numeric.Add k t z
-shifted_items written.Add (interval z) (kinded k t) = moved_item numeric.Add k t z
-shifted_items written.Sub (kinded k t) (interval z) = moved_item numeric.Sub k t z
-shifted_items o a b = refuses NotHeld
+shifted_items written.Add (kinded k t) (interval (Given z)) = moved_item numeric.Add k t z
+shifted_items written.Add (interval (Given z)) (kinded k t) = moved_item numeric.Add k t z
+shifted_items written.Sub (kinded k t) (interval (Given z)) = moved_item numeric.Sub k t z
+shifted_items o a b = spans_joined (kinded_operator o) a b
 
 -- the text of the result of two literal numbers
 abbrev pub folded_by : KindedOperator → Item → Item → Option (List ℕ)
-folded_by (computes o) a b = folded o a b
+folded_by (Computes o) a b = folded o a b
 folded_by o a b = None
 
 abbrev pub fraction_of : List ℕ → Outcome Item

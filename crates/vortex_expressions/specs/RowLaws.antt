@@ -21,15 +21,18 @@ use Rattle.vortex_logical_calls.specs.declared.intervals.Interval.TheVariants.{M
 use Rattle.vortex_logical_calls.specs.Calls.{Lowered}
 use Rattle.vortex_logical_calls.specs.Conversions.{meet_in_float}
 use Rattle.vortex_logical_calls.specs.RowLaws.{ComparedRows, BoundedRows, ComputedRows}
-use Rattle.vortex_logical_calls.specs.RowLaws.{ShiftedRows}
+use Rattle.vortex_logical_calls.specs.RowLaws.{ShiftedRows, ElapsedRows}
 use Rattle.vortex_standard.specs.declared.standard.Standard.{Standard}
 use Rattle.vortex_standard.specs.declared.standard.Standard.TheVariants as standard
 use Rattle.vortex_standard.specs.Names.{standard_named}
+use Rattle.vortex_expressions.specs.declared.item.Timespan.TheVariants.{Given, Elapsed}
+use Rattle.vortex_expressions.specs.declared.kind_operators.KindedOperator.TheVariants.{Compares}
+use Rattle.vortex_expressions.specs.declared.kind_operators.KindedOperator.TheVariants.{Computes}
 use Rattle.vortex_expressions.specs.Outcomes.{Outcome, answers}
 use Rattle.vortex_expressions.specs.Folding.{folded}
 use Rattle.vortex_expressions.specs.Items.{Item, bound, kinded, fraction, interval, Tree, called}
 use Rattle.vortex_expressions.specs.Kinded.{is_kinded, is_interval, first_kind, value_item}
-use Rattle.vortex_expressions.specs.Kinded.{kinded_operator, compares, computes, within_bounds}
+use Rattle.vortex_expressions.specs.Kinded.{kinded_operator, within_bounds, span_operand}
 use Rattle.vortex_expressions.specs.KindWords.{kind_word}
 use Rattle.vortex_expressions.specs.Calls.{Names, names_in, negated_if, negated_item, conditions_of}
 use Rattle.vortex_expressions.specs.Binding.{LogicalTree, item_by, items_by, branches_by, with_item}
@@ -72,6 +75,22 @@ pub record EitherBoundsItems (i low high : Item) (t : Tree) : Type 0 where
   pub turned : BoundsItems i high low second
   pub either : called (ours (Binary operator.Or)) None (bound first ∷ bound second ∷ []) ≡ answers t
 
+-- how long it is from one timestamp to another
+pub record ElapsesItem (i j : Item) (t : Tree) : Type 0 where
+  pub x : Lowered
+  pub y : Lowered
+  pub left : IsNext (first_kind (i ∷ j ∷ [])) i x
+  pub right : IsNext (first_kind (i ∷ j ∷ [])) j y
+  pub rows : ElapsedRows x y t
+
+-- a comparison of intervals, or of such differences
+pub record ComparesSpans (op : CompareOperator) (i j : Item) (t : Tree) : Type 0 where
+  pub x : Lowered
+  pub y : Lowered
+  pub left : span_operand i ≡ answers x
+  pub right : span_operand j ≡ answers y
+  pub rows : ComparedRows op x y t
+
 -- a value, the interval that moves it, and whether it is added
 pub record Shift : Type 0 where
   pub operator : NumericOperator
@@ -83,9 +102,9 @@ shift o k t z = record { operator = o; value = lowered t (Of k); micros = z }
 
 -- an interval of a fixed length is added to a value of a kind, or taken from it
 abbrev pub shift_of : WrittenOperator → Item → Item → Option Shift
-shift_of written.Add (kinded k t) (interval (Micros z)) = Some (shift Add k t z)
-shift_of written.Add (interval (Micros z)) (kinded k t) = Some (shift Add k t z)
-shift_of written.Sub (kinded k t) (interval (Micros z)) = Some (shift Sub k t z)
+shift_of written.Add (kinded k t) (interval (Given (Micros z))) = Some (shift Add k t z)
+shift_of written.Add (interval (Given (Micros z))) (kinded k t) = Some (shift Add k t z)
+shift_of written.Sub (kinded k t) (interval (Given (Micros z))) = Some (shift Sub k t z)
 shift_of o i j = None
 
 -- a value moved by an interval, and its rows
@@ -105,14 +124,14 @@ module _ (scope : Fields) (kinds : List Kind) where
   abbrev pub ComparisonsCompare : Type 0
   ComparisonsCompare =
       (o : WrittenOperator) (op : CompareOperator) (a b : Syntax) (i j : Item) (t : LogicalTree)
-      → kinded_operator o ≡ compares op → Is a i → Is b j
-      → (is_kinded i || is_kinded j) ≡ true
+      → kinded_operator o ≡ Compares op → Is a i → Is b j
+      → (is_kinded i || is_kinded j) ≡ true → (is_interval i || is_interval j) ≡ false
       → logical_of scope kinds (joined o a b) ≡ answers t → ComparesItems op i j t.tree
 
   abbrev pub ArithmeticComputes : Type 0
   ArithmeticComputes =
       (o : WrittenOperator) (op : NumericOperator) (a b : Syntax) (i j : Item) (t : LogicalTree)
-      → kinded_operator o ≡ computes op → Is a i → Is b j
+      → kinded_operator o ≡ Computes op → Is a i → Is b j
       → (is_kinded i || is_kinded j) ≡ true → (is_interval i || is_interval j) ≡ false
       → folded op i j ≡ None
       → logical_of scope kinds (joined o a b) ≡ answers t → ComputesItems op i j t
@@ -122,7 +141,7 @@ module _ (scope : Fields) (kinds : List Kind) where
   abbrev pub NumbersFold : Type 0
   NumbersFold =
       (o : WrittenOperator) (op : NumericOperator) (a b : Syntax) (i j : Item) (w : List ℕ)
-      (t : LogicalTree) → kinded_operator o ≡ computes op → Is a i → Is b j
+      (t : LogicalTree) → kinded_operator o ≡ Computes op → Is a i → Is b j
       → (is_kinded i || is_kinded j) ≡ true → folded op i j ≡ Some w
       → logical_of scope kinds (joined o a b) ≡ answers t → ended (fraction w) ≡ answers t
 
@@ -143,6 +162,22 @@ module _ (scope : Fields) (kinds : List Kind) where
       → logical_of scope kinds (between (record { negated = n; symmetric = true }) a low high)
       ≡ answers t
       → (u : Tree) × EitherBoundsItems i j k u × (negated_if n u ≡ answers t.tree)
+
+  -- the difference of two timestamps
+  abbrev pub TimestampsElapse : Type 0
+  TimestampsElapse =
+      (o : WrittenOperator) (a b : Syntax) (i j : Item) (t : Tree)
+      → kinded_operator o ≡ Computes Sub → Is a i → Is b j
+      → (is_kinded i || is_kinded j) ≡ true → (is_interval i || is_interval j) ≡ false
+      → Is (joined o a b) (interval (Elapsed t)) → ElapsesItem i j t
+
+  -- two intervals, or such differences, compare by their microseconds
+  abbrev pub IntervalsCompare : Type 0
+  IntervalsCompare =
+      (o : WrittenOperator) (op : CompareOperator) (a b : Syntax) (i j : Item) (t : LogicalTree)
+      → kinded_operator o ≡ Compares op → Is a i → Is b j
+      → (is_interval i || is_interval j) ≡ true
+      → logical_of scope kinds (joined o a b) ≡ answers t → ComparesSpans op i j t.tree
 
   abbrev pub IntervalsShift : Type 0
   IntervalsShift =
@@ -195,7 +230,8 @@ module _ (scope : Fields) (kinds : List Kind) where
       → IsEnded standard.Case js answers t
 
 -- each comparison, BETWEEN and operator of arithmetic between values of kinds in a text means what
--- its operands do, two literal numbers are one, an interval moves them, and each call of a function on them is that on what
+-- its operands do, two literal numbers are one, an interval moves them, intervals and differences of
+-- timestamps compare by their microseconds, and each call of a function on them is that on what
 -- stores them in one kind: IN, IS DISTINCT FROM, a function's name, and CASE
 pub record TextsMeanTheirRows (scope : Fields) (kinds : List Kind) : Type 0 where
   pub comparisons : ComparisonsCompare scope kinds
@@ -204,6 +240,8 @@ pub record TextsMeanTheirRows (scope : Fields) (kinds : List Kind) : Type 0 wher
   pub arithmetic : ArithmeticComputes scope kinds
   pub numbers : NumbersFold scope kinds
   pub shifts : IntervalsShift scope kinds
+  pub differences : TimestampsElapse scope kinds
+  pub intervals : IntervalsCompare scope kinds
   pub lists : ListsCall scope kinds
   pub distinctions : DistinctCalls scope kinds
   pub functions : NamesCall scope kinds

@@ -45,7 +45,11 @@ fn within(integer: i128, digits: DecimalDigits) -> Option<Exact>
 fn wider(left: DecimalDigits, right: DecimalDigits) -> DecimalDigits
     ensures { result ≡ specs.wider left right }
 {
-    if left.scale() <= right.scale() { right } else { left }
+    if left.scale() <= right.scale() {
+        right
+    } else {
+        left
+    }
 }
 
 /// Two integers with so many of their digits after the point.

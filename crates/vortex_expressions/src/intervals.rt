@@ -1,19 +1,22 @@
-//! Dates and timestamps that intervals move.
+//! Dates and timestamps that intervals move, and how long it is from one to another.
+ghost use Rattle.vortex_lowering.specs.Rows.{lowered};
 ghost use Rattle.vortex_expressions.specs.Months as calendar;
 ghost use Rattle.vortex_expressions.specs.Kinded as specs;
 ghost use Rattle.vortex_expressions.specs.Items.{item_in};
 ghost use Rattle.vortex_expressions.specs.Answering.{Gives};
 
-use crate::item::{Item, call_of, callable};
+use crate::item::{Item, Timespan, call_of, callable};
+use crate::kind_operators::{KindedOperator, compared, kinded_operator};
 use crate::kinded::value_item;
 use crate::refusal::{BindStop, Refusal};
 use std::alloc::Global;
-use vortex_columns::Scalar;
+use vortex_columns::{PType, Scalar};
 use vortex_functions::BoundExpression;
 use vortex_logical::kind::Kind;
 use vortex_logical::operand::Operand;
 use vortex_logical_calls as calls;
 use vortex_logical_calls::{Interval, Lowered};
+use vortex_operators::CompareOperator;
 use vortex_standard::Standard;
 use vortex_syntax::WrittenOperator as Written;
 use vortex_types::NumericOperator;
@@ -77,7 +80,53 @@ fn moved_item(
     }
 }
 
-/// An interval is added to a date or a timestamp, or taken from one.
+/// How long it is, in microseconds; an interval of months has none.
+fn span_operand(alloc: Global, item: Item) -> Result<Lowered<Standard>, BindStop>
+    ensures { Gives (λ x. lowered x.tree x.operand) result (specs.span_operand (item_in item)) }
+{
+    let operand = Operand::Whole(PType::I64);
+    match item {
+        Item::Interval(Timespan::Given(Interval::Micros(micros))) => {
+            let tree = BoundExpression::lit(alloc, Scalar::from(micros));
+            Ok(Lowered { tree, operand })
+        }
+        Item::Interval(Timespan::Elapsed(tree)) => Ok(Lowered { tree, operand }),
+        _ => Err(BindStop::Refused(Refusal::NotHeld)),
+    }
+}
+
+/// Which of two is longer.
+fn spans_compared(
+    alloc: Global,
+    operator: CompareOperator,
+    left: Item,
+    right: Item,
+) -> Result<Item, BindStop>
+    ensures { Gives item_in result
+        (specs.spans_compared operator (item_in left) (item_in right)) }
+{
+    let first = span_operand(alloc, left)?;
+    let second = span_operand(alloc, right)?;
+    compared(alloc, operator, first, second)
+}
+
+fn spans_joined(
+    alloc: Global,
+    operator: KindedOperator,
+    left: Item,
+    right: Item,
+) -> Result<Item, BindStop>
+    ensures { Gives item_in result
+        (specs.spans_joined operator (item_in left) (item_in right)) }
+{
+    match operator {
+        KindedOperator::Compares(operator) => spans_compared(alloc, operator, left, right),
+        _ => Err(BindStop::Refused(Refusal::NotHeld)),
+    }
+}
+
+/// An interval is added to a date or a timestamp, taken from one, or compared with how long it is
+/// from one timestamp to another.
 pub(crate) fn shifted_items(
     alloc: Global,
     written: Written,
@@ -88,13 +137,13 @@ pub(crate) fn shifted_items(
         (specs.shifted_items written (item_in left) (item_in right)) }
 {
     match (written, left, right) {
-        (Written::Add, Item::Kinded(kind, tree), Item::Interval(interval))
-        | (Written::Add, Item::Interval(interval), Item::Kinded(kind, tree)) => {
+        (Written::Add, Item::Kinded(kind, tree), Item::Interval(Timespan::Given(interval)))
+        | (Written::Add, Item::Interval(Timespan::Given(interval)), Item::Kinded(kind, tree)) => {
             moved_item(alloc, NumericOperator::Add, kind, tree, interval)
         }
-        (Written::Sub, Item::Kinded(kind, tree), Item::Interval(interval)) => {
+        (Written::Sub, Item::Kinded(kind, tree), Item::Interval(Timespan::Given(interval))) => {
             moved_item(alloc, NumericOperator::Sub, kind, tree, interval)
         }
-        _ => Err(BindStop::Refused(Refusal::NotHeld)),
+        (written, left, right) => spans_joined(alloc, kinded_operator(written), left, right),
     }
 }

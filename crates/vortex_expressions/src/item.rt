@@ -23,6 +23,27 @@ use vortex_logical::kind::Kind;
 use vortex_logical_calls::Interval;
 use vortex_standard::{Standard, Widen};
 
+/// How long.
+#[derive(Drop)]
+pub(crate) enum Timespan {
+    /// So many microseconds or months.
+    Given(Interval),
+    /// From one timestamp to another: the microseconds of a tree.
+    Elapsed(BoundExpression<Standard>),
+}
+
+impl Timespan {
+    /// A copy.
+    fn try_clone(&self, alloc: Global) -> VortexResult<Timespan>
+        ensures { AnswersUnlessMemory result (λ s. s ≡ self.now) }
+    {
+        match self {
+            Timespan::Given(interval) => Ok(Timespan::Given(*interval)),
+            Timespan::Elapsed(tree) => Ok(Timespan::Elapsed(tree.try_clone(alloc)?)),
+        }
+    }
+}
+
 /// What a part of an expression is.
 #[derive(Drop)]
 pub(crate) enum Item {
@@ -34,8 +55,8 @@ pub(crate) enum Item {
     Kinded(Kind, BoundExpression<Standard>),
     /// A number with a point or an exponent, where columns have kinds.
     Fraction(String),
-    /// So many microseconds or months.
-    Interval(Interval),
+    /// How long: a literal, or from one timestamp to another.
+    Interval(Timespan),
 }
 
 /// The literal of that type.
@@ -91,7 +112,7 @@ impl Item {
             Item::Fraction(number) => {
                 Ok(Item::Fraction(String::from_str(alloc, number.as_str())?))
             }
-            Item::Interval(interval) => Ok(Item::Interval(*interval)),
+            Item::Interval(timespan) => Ok(Item::Interval(timespan.try_clone(alloc)?)),
         }
     }
 

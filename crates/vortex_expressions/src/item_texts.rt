@@ -86,16 +86,11 @@ fn push_operand(out: &mut String, operand: &Operand) -> VortexResult<()> {
     Ok(())
 }
 
-/// Two operands that do not go together, and what to write.
+/// Two operands that do not go together.
 pub(crate) fn push_operands(out: &mut String, left: &Operand, right: &Operand) -> VortexResult<()> {
     push_operand(out, left)?;
     out.push_str(" next to ")?;
-    push_operand(out, right)?;
-    let timestamp = Operand::Of(Kind::Timestamp);
-    if *left == timestamp && *right == timestamp {
-        out.push_str("; epoch(a) - epoch(b) is their distance in seconds")?;
-    }
-    Ok(())
+    push_operand(out, right)
 }
 
 /// Whether a literal is a value of the kind; a date is its midnight where a timestamp is wanted.

@@ -1,19 +1,23 @@
 //! Calls of functions on values of kinds: of numbers, of dates and timestamps.
-ghost use Rattle.std.specs.Prelude.{◌≡◌, map};
+ghost use Rattle.std.specs.Prelude.{◌≡◌, map, Some};
+ghost use Rattle.vortex_logical.specs.declared.kind.Kind.TheVariants.{Decimal};
+ghost use Rattle.vortex_logical.specs.Digits.{digits_of};
 ghost use Rattle.vortex_expressions.specs.KindFunctions as specs;
 ghost use Rattle.vortex_expressions.specs.Items.{item_in};
 ghost use Rattle.vortex_expressions.specs.Answering.{Gives};
 
 use crate::intervals::months_function;
-use crate::item::{Item, call_of, callable};
+use crate::item::{Item, Timespan, call_of, callable, called};
 use crate::kind_words::{KindFunction, KindName, part_word, unit_word};
 use crate::literal::Literal;
 use crate::number_functions::{number_call, places_call};
 use crate::refusal::{BindStop, Refusal};
 use std::alloc::Global;
-use vortex_columns::{Arity, MismatchPlace, VortexError};
-use vortex_functions::BoundExpression;
+use vortex_columns::{Arity, MismatchPlace, Scalar, VortexError};
+use vortex_functions::{BoundExpression, ScalarFnRef};
+use vortex_logical::digits::DecimalDigits;
 use vortex_logical::kind::Kind;
+use vortex_operators::Operator;
 use vortex_standard::{
     DatePart, DateTrunc, FloatFunction, Part, Standard, TimestampPart, TimestampTrunc, Unit,
 };
@@ -82,6 +86,42 @@ fn unit_call(
     Ok(Item::Kinded(kind, tree))
 }
 
+/// Decimals with six digits after the point.
+fn seconds_kind() -> Option<Kind>
+    ensures { result ≡ Some (Decimal (digits_of 18 6)) }
+{
+    Some(Kind::Decimal(DecimalDigits::try_new(18, 6)?))
+}
+
+/// Microseconds as seconds.
+fn seconds_item(micros: BoundExpression<Standard>) -> Result<Item, BindStop>
+    ensures { Gives item_in result (specs.seconds_item micros) }
+{
+    match seconds_kind() {
+        Some(kind) => Ok(Item::Kinded(kind, micros)),
+        None => Err(BindStop::Missing),
+    }
+}
+
+/// The seconds from one timestamp to another, with six digits after the point, or the whole days.
+fn elapsed_part(
+    alloc: Global,
+    part: Part,
+    micros: BoundExpression<Standard>,
+) -> Result<Item, BindStop>
+    ensures { Gives item_in result (specs.elapsed_part part micros) }
+{
+    match part {
+        Part::Epoch => seconds_item(micros),
+        Part::Day => {
+            let day = BoundExpression::lit(alloc, Scalar::from(86_400_000_000i64));
+            let items = vec![in alloc; Item::Bound(micros), Item::Bound(day)]?;
+            Ok(Item::Bound(called(alloc, ScalarFnRef::Binary(Operator::Div), None, items)?))
+        }
+        _ => Err(BindStop::Refused(Refusal::NotHeld)),
+    }
+}
+
 /// The function on a value.
 fn of_value(alloc: Global, function: KindFunction, item: &Item) -> Result<Item, BindStop>
     ensures { Gives item_in result (specs.of_value function (item_in item.now)) }
@@ -93,6 +133,9 @@ fn of_value(alloc: Global, function: KindFunction, item: &Item) -> Result<Item, 
         }
         (KindFunction::ToUnit(unit), Item::Kinded(kind, tree)) => {
             unit_call(alloc, unit, *kind, tree.try_clone(alloc)?)
+        }
+        (KindFunction::OfPart(part), Item::Interval(Timespan::Elapsed(micros))) => {
+            elapsed_part(alloc, part, micros.try_clone(alloc)?)
         }
         (_, Item::Fraction(_)) => Err(BindStop::Refused(Refusal::OfKind(Kind::F64))),
         _ => Err(other_types()),

@@ -12,7 +12,7 @@ ghost use Rattle.vortex_expressions.specs.Answering.{Gives};
 
 use crate::calls::typed_item;
 use crate::casts::{cast_to, is_same_word, type_of_name};
-use crate::item::{Item, constant_at};
+use crate::item::{Item, Timespan, constant_at};
 use crate::kind_casts::cut_cast;
 use crate::kinded::{null_literal, text_literal, value_item};
 use crate::literal::Literal;
@@ -158,7 +158,7 @@ fn interval_item(literal: &Literal) -> Result<Item, BindStop>
         return Err(BindStop::Refused(Refusal::NotHeld));
     };
     match interval_of(text.as_bytes()) {
-        Some(interval) => Ok(Item::Interval(interval)),
+        Some(interval) => Ok(Item::Interval(Timespan::Given(interval))),
         None => Err(BindStop::Refused(Refusal::NotHeld)),
     }
 }

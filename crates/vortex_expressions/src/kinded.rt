@@ -1,6 +1,5 @@
 //! Calls on values of kinds: dates, timestamps, decimals and floats.
-ghost use Rattle.std.specs.Prelude.{◌≡◌, Some, option_map};
-ghost use Rattle.vortex_errors.specs.Answers.{AnswersUnlessMemory};
+ghost use Rattle.std.specs.Prelude.{◌≡◌, Some};
 ghost use Rattle.vortex_types.specs.TypeOf.{type_of};
 ghost use Rattle.vortex_lowering.specs.Rows.{lowered};
 ghost use Rattle.vortex_expressions.specs.Kinded as specs;
@@ -9,24 +8,19 @@ ghost use Rattle.vortex_expressions.specs.Literals as literals;
 ghost use Rattle.vortex_expressions.specs.Literals.{literal_in};
 ghost use Rattle.vortex_expressions.specs.Answering.{Gives};
 
-use crate::folding::folded;
-use crate::intervals::shifted_items;
 use crate::item::{Item, constant_at};
 use crate::literal::Literal;
-use crate::quotes::text_of;
 use crate::refusal::{BindStop, Refusal};
 use std::alloc::Global;
-use vortex_columns::{DType, MismatchPlace, Nullability, PType, VortexError, VortexResult};
+use vortex_columns::{DType, MismatchPlace, Nullability, PType, VortexError};
 use vortex_functions::BoundExpression;
 use vortex_logical::kind::Kind;
 use vortex_logical::operand::Operand;
 use vortex_logical_calls as calls;
 use vortex_logical_calls::{Lowered, kind_beside};
-use vortex_operators::{BetweenOptions, CompareOperator, StrictComparison};
+use vortex_operators::{BetweenOptions, StrictComparison};
 use vortex_sql_kind_texts::from_texts::overflows;
 use vortex_standard::Standard;
-use vortex_syntax::WrittenOperator as Written;
-use vortex_types::NumericOperator;
 
 /// A tree that is not of the type of its operand's values, which no column is, is E3.
 impl From<calls::Refusal> for BindStop {
@@ -52,7 +46,7 @@ pub(crate) fn is_kinded(item: &Item) -> bool
     !matches!(item, Item::Literal(_) | Item::Bound(_))
 }
 
-fn is_interval(item: &Item) -> bool
+pub(crate) fn is_interval(item: &Item) -> bool
     ensures { result ≡ specs.is_interval (item_in item.now) }
 {
     matches!(item, Item::Interval(_))
@@ -96,7 +90,7 @@ pub(crate) fn fraction_kind(has_fraction: bool, kind: Kind) -> Kind
 }
 
 /// The kind of a value, or else the other kind.
-fn kind_or(item: &Item, kind: Kind) -> Kind
+pub(crate) fn kind_or(item: &Item, kind: Kind) -> Kind
     ensures { result ≡ specs.kind_or (item_in item.now) kind }
 {
     match item {
@@ -239,125 +233,6 @@ pub(crate) fn value_item(value: Lowered<Standard>) -> Item
         Operand::Whole(_) => Item::Bound(tree),
         Operand::Of(kind) => Item::Kinded(kind, tree),
     }
-}
-
-fn compared(
-    alloc: Global,
-    operator: CompareOperator,
-    left: Lowered<Standard>,
-    right: Lowered<Standard>,
-) -> Result<Item, BindStop>
-    ensures { Gives item_in result (specs.compared_item operator
-        (lowered left.tree left.operand) (lowered right.tree right.operand)) }
-{
-    Ok(Item::Bound(calls::compare(alloc, operator, left, right)?))
-}
-
-fn computed(
-    alloc: Global,
-    operator: NumericOperator,
-    left: Lowered<Standard>,
-    right: Lowered<Standard>,
-) -> Result<Item, BindStop>
-    ensures { Gives item_in result (specs.computed_item operator
-        (lowered left.tree left.operand) (lowered right.tree right.operand)) }
-{
-    Ok(value_item(calls::compute(alloc, operator, left, right)?))
-}
-
-/// An operator on values of kinds.
-fn operated(
-    alloc: Global,
-    kind: Kind,
-    written: Written,
-    left: Lowered<Standard>,
-    right: Lowered<Standard>,
-) -> Result<Item, BindStop>
-    ensures { Gives item_in result (specs.operated kind (specs.kinded_operator written)
-        (lowered left.tree left.operand) (lowered right.tree right.operand)) }
-{
-    match written {
-        Written::Equal => compared(alloc, CompareOperator::Eq, left, right),
-        Written::NotEqual => compared(alloc, CompareOperator::NotEq, left, right),
-        Written::Less => compared(alloc, CompareOperator::Lt, left, right),
-        Written::LessOrEqual => compared(alloc, CompareOperator::Lte, left, right),
-        Written::Greater => compared(alloc, CompareOperator::Gt, left, right),
-        Written::GreaterOrEqual => compared(alloc, CompareOperator::Gte, left, right),
-        Written::Add => computed(alloc, NumericOperator::Add, left, right),
-        Written::Sub => computed(alloc, NumericOperator::Sub, left, right),
-        Written::Mul => computed(alloc, NumericOperator::Mul, left, right),
-        Written::Div => computed(alloc, NumericOperator::Div, left, right),
-        _ => Err(BindStop::Refused(Refusal::OfKind(kind))),
-    }
-}
-
-/// An operator on items next to a value of a kind.
-fn joined_beside(
-    alloc: Global,
-    kind: Kind,
-    written: Written,
-    left: Item,
-    right: Item,
-) -> Result<Item, BindStop>
-    ensures { Gives item_in result (specs.joined_beside kind (specs.kinded_operator written)
-        (item_in left) (item_in right)) }
-{
-    let first = item_operand(alloc, &kind, left)?;
-    let second = item_operand(alloc, &kind, right)?;
-    operated(alloc, kind, written, first, second)
-}
-
-/// The text of the result of two literal numbers. E9 where an allocation fails.
-fn folded_by(
-    alloc: Global,
-    written: Written,
-    left: &Item,
-    right: &Item,
-) -> VortexResult<Option<Vec<u8>>>
-    ensures { AnswersUnlessMemory result (λ o. option_map (λ w. w.items) o ≡ specs.folded_by
-        (specs.kinded_operator written) (item_in left.now) (item_in right.now)) }
-{
-    match written {
-        Written::Add => folded(alloc, NumericOperator::Add, left, right),
-        Written::Sub => folded(alloc, NumericOperator::Sub, left, right),
-        Written::Mul => folded(alloc, NumericOperator::Mul, left, right),
-        Written::Div => folded(alloc, NumericOperator::Div, left, right),
-        _ => Ok(None),
-    }
-}
-
-/// An operator next to a value of a kind; two literal numbers are one.
-fn values_joined(
-    alloc: Global,
-    written: Written,
-    left: Item,
-    right: Item,
-) -> Result<Item, BindStop>
-    ensures { Gives item_in result (specs.values_joined (specs.kinded_operator written)
-        (item_in left) (item_in right)) }
-{
-    if let Some(text) = folded_by(alloc, written, &left, &right)? {
-        return Ok(Item::Fraction(text_of(alloc, &text)?));
-    }
-    let other = kind_or(&right, Kind::Plain);
-    let kind = kind_or(&left, other);
-    joined_beside(alloc, kind, written, left, right)
-}
-
-/// An operator, one of whose operands has a kind or is an interval.
-pub(crate) fn kinded_joined(
-    alloc: Global,
-    written: Written,
-    left: Item,
-    right: Item,
-) -> Result<Item, BindStop>
-    ensures { Gives item_in result
-        (specs.kinded_joined written (item_in left) (item_in right)) }
-{
-    if is_interval(&left) || is_interval(&right) {
-        return shifted_items(alloc, written, left, right);
-    }
-    values_joined(alloc, written, left, right)
 }
 
 /// Both bounds are inclusive.

@@ -8,8 +8,8 @@ ghost use Rattle.vortex_logical.specs.declared.kind.Kind.{Kind};
 ghost use Rattle.vortex_expressions.specs.RowLaws.{TextsMeanTheirRows};
 
 use vortex_logical_calls::laws::{
-    bounds_go_by_order, comparisons_go_by_order, computations_are_exact, intervals_move,
-    kinds_meet, values_are_aligned,
+    bounds_go_by_order, comparisons_go_by_order, computations_are_exact, instants_elapse,
+    intervals_move, kinds_meet, values_are_aligned,
 };
 
 /// The text of a tree over the columns of a scope means that tree.
@@ -35,7 +35,8 @@ pub fn text_is_read_back()
 /// means in each row what its operands mean there: dates, timestamps, decimals and floats in their
 /// order, and exact sums, differences and products. Operands are as they become next to each other: a
 /// whole number next to a float is the nearest float. An interval moves a date or a timestamp by its
-/// days or its microseconds. A function that chooses among values or compares
+/// days or its microseconds, and the difference of two timestamps is that of their microseconds. Two
+/// literal numbers, one of them with a point, are one number. A function that chooses among values or compares
 /// them, as IN, CASE, `coalesce` and `greatest`, is called on integers, each of which stores in the
 /// kind in which the values meet what its value means; what is chosen has that kind.
 pub fn texts_mean_their_rows()
@@ -45,6 +46,7 @@ pub fn texts_mean_their_rows()
     bounds_go_by_order();
     computations_are_exact();
     intervals_move();
+    instants_elapse();
     values_are_aligned();
     kinds_meet();
 }

@@ -23,6 +23,7 @@ mod joining;
 mod kind_casts;
 mod kind_functions;
 pub mod kind_names;
+mod kind_operators;
 mod kind_steps;
 mod kind_words;
 mod kinded;

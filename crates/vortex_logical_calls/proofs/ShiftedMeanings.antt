@@ -1,4 +1,4 @@
--- Dates and timestamps that intervals move.
+-- Dates and timestamps that intervals move, and how long it is from one to another.
 use Rattle.std.proofs.Common.{◌≡◌, ◌∙◌, ℤ, Bool, true, false, cond, refl, ap, sym}
 use Rattle.std.specs.Prelude.{List, [], ◌∷◌, Option, Some, None, pos, int_rem, int_div, length}
 use Rattle.std.specs.Prelude.{if◌then◌else◌}
@@ -28,20 +28,25 @@ use Rattle.vortex_logical_calls.specs.Outcomes.{Outcome, made, refused, untyped,
 use Rattle.vortex_logical_calls.specs.Calls.{Tree, Lowered, meaning, typed, call_on}
 use Rattle.vortex_logical_calls.specs.Intervals.{moved, moved_by, shifted}
 use Rattle.vortex_logical_calls.specs.RowLaws.{as_whole, is_sum, ShiftedRows, IntervalsMove}
+use Rattle.vortex_logical_calls.specs.RowLaws.{InstantsElapse}
+use Rattle.vortex_logical_calls.specs.Conversions.{conversion_beside, converted}
 use Rattle.vortex_logical_calls.proofs.RowMeanings.{made_is, after_is, typed_made}
 
 -- the sum of an operand and a constant
 abbrev moved_tree : NumericOperator → Tree → ScalarView → Tree
 moved_tree o t s = operated (arithmetic_operator o) t (constant s)
 
-call_made : (o : NumericOperator) (t u : Tree) (s : ScalarView)
-    → call_on (ours (Binary (arithmetic_operator o))) (t ∷ constant s ∷ []) ≡ made u
-    → u ≡ moved_tree o t s
-call_made o t u s e =
+call_made : (o : NumericOperator) (t v u : Tree)
+    → call_on (ours (Binary (arithmetic_operator o))) (t ∷ v ∷ []) ≡ made u
+    → u ≡ operated (arithmetic_operator o) t v
+call_made o t v u e =
     by (fits (function_arity meaning (ours (Binary (arithmetic_operator o)))) 2) e
   where
-    by : (b : Bool) → cond b (typed (moved_tree o t s)) untyped ≡ made u → u ≡ moved_tree o t s
-    by true h = (typed_made (moved_tree o t s) u h).is
+    made_tree : Tree
+    made_tree = operated (arithmetic_operator o) t v
+
+    by : (b : Bool) → cond b (typed made_tree) untyped ≡ made u → u ≡ made_tree
+    by true h = (typed_made made_tree u h).is
     by false h = absurd cc
 
 -- what a moved operand is
@@ -57,7 +62,7 @@ moved_is o x w s e =
     let same = made_is (lowered one.a x.operand) w one.then in
     record {
       kind = ap (λ y. y.operand) (sym same);
-      tree = ap (λ y. y.tree) (sym same) ∙ call_made o x.tree one.a s one.first;
+      tree = ap (λ y. y.tree) (sym same) ∙ call_made o x.tree (constant s) one.a one.first;
     }
 
 same_wholes : (p : PType) → (if ptype_eq p p then Some (Whole p) else None) ≡ Some (Whole p)
@@ -118,3 +123,21 @@ shifts o x w z h e = by x.operand refl
     by (Of Timestamp) k = moved_rows o x w z z I64 h (ap (λ b. moved_by b z) k) e
     by (Of Date) k = days (int_eq (int_rem z (pos 86_400_000_000)) (pos 0)) refl k
     by a k = none a k refl
+
+-- how long it is from one to another
+pub elapses : InstantsElapse
+elapses x y t e =
+    let first = after_is (converted (conversion_beside x.operand y.operand) x) _ t e in
+    let second = after_is (converted (conversion_beside y.operand x.operand) y) _ t first.then in
+    let a = first.a in
+    let b = second.a in
+    record {
+      a = a;
+      b = b;
+      left = first.first;
+      right = second.first;
+      rows = λ h g. computes meaning numeric.Sub (as_whole I64 a.tree) (as_whole I64 b.tree)
+          (as_whole I64 t) (ptype_refl I64) (whole_result numeric.Sub I64 refl) h g
+          (call_made numeric.Sub a.tree b.tree t second.then
+          ∙ whole_tree numeric.Sub I64 a.tree b.tree refl);
+    }

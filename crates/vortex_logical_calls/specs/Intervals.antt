@@ -1,13 +1,14 @@
--- Intervals, of a fixed length as their microseconds, or of months, and the dates and timestamps that
--- the former move.
+-- Intervals, of a fixed length as their microseconds, or of months, the dates and timestamps that the
+-- former move, and how long it is from one to another.
 use Rattle.std.specs.Prelude.{ℕ, ◌+◌, ◌*◌, ◌/◌, ◌%◌, ◌==◌, ◌&&◌, nat_le, ℤ, pos, int_rem, int_div}
 use Rattle.std.specs.Prelude.{List, [], ◌∷◌, Option, Some, None, option_map, Result, Ok, Err}
-use Rattle.std.specs.Prelude.{if◌then◌else◌}
+use Rattle.std.specs.Prelude.{if◌then◌else◌, Bool, true, false}
 use Rattle.std.specs.Ordering.{int_eq}
 use Rattle.jiff_core.specs.Sign.{signed}
 use Rattle.jiff_core.specs.declared.error.Error.{Error}
 use Rattle.jiff_fmt.specs.Friendly.{parse_span}
 use Rattle.vortex_errors.specs.declared.error.NumericOperator.{NumericOperator}
+use Rattle.vortex_errors.specs.declared.error.NumericOperator.TheVariants as numeric
 use Rattle.vortex_types.specs.declared.dtype.PType.TheVariants.{I32, I64}
 use Rattle.vortex_types.specs.ScalarView.{ScalarView}
 use Rattle.vortex_columns.specs.ScalarOf.{int_scalar}
@@ -19,8 +20,9 @@ use Rattle.vortex_logical.specs.declared.operand.Operand.{Operand}
 use Rattle.vortex_logical.specs.declared.operand.Operand.TheVariants.{Whole, Of}
 use Rattle.vortex_lowering.specs.declared.refusal.Refusal.TheVariants.{NoCommonKind}
 use Rattle.vortex_lowering.specs.LoweredTrees.{arithmetic_operator}
-use Rattle.vortex_logical_calls.specs.Outcomes.{Outcome, refused}
-use Rattle.vortex_logical_calls.specs.Calls.{Lowered, call_on}
+use Rattle.vortex_logical_calls.specs.Outcomes.{Outcome, refused, and_then}
+use Rattle.vortex_logical_calls.specs.Calls.{Tree, Lowered, call_on}
+use Rattle.vortex_logical_calls.specs.Conversions.{conversion_beside, converted}
 use Rattle.vortex_logical_calls.specs.Computation.{of_operand}
 use Rattle.vortex_logical_calls.specs.declared.intervals.Interval.{Interval}
 use Rattle.vortex_logical_calls.specs.declared.intervals.Interval.TheVariants.{Micros, Months}
@@ -89,3 +91,22 @@ moved o x (Some s) =
 -- an operand moved by an interval
 abbrev pub shifted : NumericOperator → Lowered → ℤ → Outcome Lowered
 shifted o x z = moved o x (moved_by x.operand z)
+
+-- a timestamp next to another one, or next to a date
+abbrev pub are_instants : Operand → Operand → Bool
+are_instants (Of Timestamp) (Of Timestamp) = true
+are_instants (Of Timestamp) (Of Date) = true
+are_instants (Of Date) (Of Timestamp) = true
+are_instants a b = false
+
+-- the difference of two of them is how long it is from one to the other
+abbrev pub elapses : NumericOperator → Operand → Operand → Bool
+elapses numeric.Sub a b = are_instants a b
+elapses o a b = false
+
+-- the microseconds from the second to the first
+abbrev pub elapsed : Lowered → Lowered → Outcome Tree
+elapsed x y =
+    and_then (converted (conversion_beside x.operand y.operand) x) (λ a.
+    and_then (converted (conversion_beside y.operand x.operand) y) (λ b.
+    call_on (ours (Binary (arithmetic_operator numeric.Sub))) (a.tree ∷ b.tree ∷ [])))

@@ -4,6 +4,7 @@ use Rattle.std.specs.Prelude.{◌≡◌, ◌≤◌, ℤ, Some, Bool, true, false
 use Rattle.vortex_errors.specs.declared.error.NumericOperator.{NumericOperator}
 use Rattle.vortex_errors.specs.declared.error.NumericOperator.TheVariants.{Add, Sub}
 use Rattle.vortex_types.specs.declared.dtype.PType.{PType}
+use Rattle.vortex_types.specs.declared.dtype.PType.TheVariants.{I64}
 use Rattle.vortex_columns.specs.ScalarOf.{int_scalar}
 use Rattle.vortex_interface.specs.Trees.{constant}
 use Rattle.vortex_operators.specs.declared.between.BetweenOptions.{BetweenOptions}
@@ -27,7 +28,7 @@ use Rattle.vortex_logical_calls.specs.Alignment.{aligned}
 use Rattle.vortex_logical_calls.specs.Comparison.{compared}
 use Rattle.vortex_logical_calls.specs.Bounds.{between}
 use Rattle.vortex_logical_calls.specs.Computation.{computed}
-use Rattle.vortex_logical_calls.specs.Intervals.{moved_by, shifted}
+use Rattle.vortex_logical_calls.specs.Intervals.{moved_by, shifted, elapsed}
 
 -- a is what x becomes next to y
 abbrev pub IsBeside : Lowered → Lowered → Lowered → Type 0
@@ -129,3 +130,15 @@ abbrev pub IntervalsMove : Type 0
 IntervalsMove =
     (o : NumericOperator) (x w : Lowered) (z : ℤ) → is_sum o ≡ true → shifted o x z ≡ made w
     → ShiftedRows o x z w
+
+-- the microseconds from one instant to another: the difference of those since 1970
+pub record ElapsedRows (x y : Lowered) (t : Tree) : Type 0 where
+  pub a : Lowered
+  pub b : Lowered
+  pub left : IsBeside y x a
+  pub right : IsBeside x y b
+  pub rows : IsTyped meaning (as_whole I64 a.tree) → IsTyped meaning (as_whole I64 b.tree)
+      → Computes meaning Sub (as_whole I64 a.tree) (as_whole I64 b.tree) (as_whole I64 t)
+
+abbrev pub InstantsElapse : Type 0
+InstantsElapse = (x y : Lowered) (t : Tree) → elapsed x y ≡ made t → ElapsedRows x y t

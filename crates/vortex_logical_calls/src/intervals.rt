@@ -7,6 +7,7 @@ ghost use Rattle.vortex_logical_calls.specs.Outcomes.{Makes};
 ghost use Rattle.vortex_logical_calls.specs.Intervals as specs;
 
 use crate::call::call_on;
+use crate::conversions::{conversion_beside, converted};
 use jiff_core::Span;
 use jiff_fmt::friendly::parse_span;
 use std::alloc::Global;
@@ -163,4 +164,49 @@ pub fn shift(
         Err(_) => return Err(Refusal::Binding(VortexError::OutOfMemory)),
     };
     Ok(Lowered { tree, operand })
+}
+
+/// A timestamp next to another one, or next to a date.
+fn are_instants(left: &Operand, right: &Operand) -> bool
+    ensures { result ≡ specs.are_instants left.now right.now }
+{
+    matches!(
+        (left, right),
+        (
+            Operand::Of(Kind::Timestamp),
+            Operand::Of(Kind::Timestamp | Kind::Date)
+        ) | (Operand::Of(Kind::Date), Operand::Of(Kind::Timestamp))
+    )
+}
+
+/// Whether the operator on the operands says how long it is from one to the other: a timestamp is
+/// taken from another one or from a date, or a date from a timestamp.
+pub fn elapses(operator: NumericOperator, left: &Operand, right: &Operand) -> bool
+    ensures { result ≡ specs.elapses operator left.now right.now }
+{
+    match operator {
+        NumericOperator::Sub => are_instants(left, right),
+        _ => false,
+    }
+}
+
+/// The microseconds from one timestamp to a later one, below zero to an earlier one; a date is its
+/// midnight. E7 in rows where 64 bits do not hold them.
+pub fn elapsed(
+    alloc: Global,
+    later: Lowered<Standard>,
+    earlier: Lowered<Standard>,
+) -> Result<BoundExpression<Standard>, Refusal>
+    ensures { Makes (λ t. t) result (specs.elapsed (lowered later.tree later.operand)
+        (lowered earlier.tree earlier.operand)) }
+{
+    let of_later = conversion_beside(&later.operand, &earlier.operand);
+    let of_earlier = conversion_beside(&earlier.operand, &later.operand);
+    let later = converted(alloc, of_later, later)?;
+    let earlier = converted(alloc, of_earlier, earlier)?;
+    let function = ScalarFnRef::Binary(operator_of(NumericOperator::Sub));
+    match vec![in alloc; later.tree, earlier.tree] {
+        Ok(trees) => call_on(alloc, function, trees),
+        Err(_) => Err(Refusal::Binding(VortexError::OutOfMemory)),
+    }
 }

@@ -3,6 +3,7 @@
 //! call itself.
 ghost use Rattle.vortex_logical_calls.specs.RowLaws.{ComparisonsGoByOrder, BoundsGoByOrder};
 ghost use Rattle.vortex_logical_calls.specs.RowLaws.{ComputationsAreExact, IntervalsMove};
+ghost use Rattle.vortex_logical_calls.specs.RowLaws.{InstantsElapse};
 ghost use Rattle.vortex_logical_calls.specs.RowLaws.{ValuesAreAligned, KindsMeet};
 
 use vortex_logical::decimals::rescaling_orders;
@@ -47,4 +48,10 @@ pub fn kinds_meet()
 #[tactic(auto, using(crate::proofs::ShiftedMeanings::shifts))]
 pub fn intervals_move()
     ensures { IntervalsMove }
+{}
+
+/// The microseconds from one date or timestamp to another are the difference of those since 1970.
+#[tactic(auto, using(crate::proofs::ShiftedMeanings::elapses))]
+pub fn instants_elapse()
+    ensures { InstantsElapse }
 {}

@@ -15,6 +15,6 @@ pub use alignment::{align, meet_next};
 pub use bounds::between;
 pub use comparison::compare;
 pub use computation::compute;
-pub use intervals::{Interval, interval_of, shift};
+pub use intervals::{Interval, elapsed, elapses, interval_of, shift};
 pub use literals::{kind_beside, literal, number_kind};
 pub use vortex_lowering::{Lowered, Refusal};
