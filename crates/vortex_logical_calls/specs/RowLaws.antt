@@ -26,9 +26,6 @@ use Rattle.vortex_logical_calls.specs.Conversions.{conversion_beside, conversion
 use Rattle.vortex_logical_calls.specs.Alignment.{aligned}
 use Rattle.vortex_logical_calls.specs.Comparison.{compared}
 use Rattle.vortex_logical_calls.specs.Bounds.{between}
-use Rattle.vortex_logical_calls.specs.Alignment.{aligned}
-use Rattle.vortex_logical_calls.specs.Comparison.{compared}
-use Rattle.vortex_logical_calls.specs.Bounds.{between}
 use Rattle.vortex_logical_calls.specs.Computation.{computed, goes_by_floats}
 use Rattle.vortex_logical_calls.specs.Intervals.{moved_by, shifted, elapsed}
 
