@@ -18,7 +18,7 @@ use Rattle.vortex_interface.specs.Trees.{constant}
 use Rattle.vortex_syntax.specs.declared.step.WrittenOperator as syntax
 use Rattle.vortex_syntax.specs.declared.step.WrittenOperator.TheVariants as written
 use Rattle.vortex_logical.specs.declared.kind.Kind.{Kind}
-use Rattle.vortex_logical.specs.declared.kind.Kind.TheVariants.{Plain, Date, F64}
+use Rattle.vortex_logical.specs.declared.kind.Kind.TheVariants.{Plain, Date, Timestamp, F64}
 use Rattle.vortex_logical.specs.Kinds.{stored_ptype}
 use Rattle.vortex_logical.specs.declared.operand.Operand.{Operand}
 use Rattle.vortex_logical.specs.declared.operand.Operand.TheVariants.{Whole, Of}
@@ -93,10 +93,11 @@ abbrev pub fraction_kind : Bool → Kind → Kind
 fraction_kind true Plain = F64
 fraction_kind b k = k
 
--- the kind of a value, or else the other kind
+-- the kind of a value, or else the other kind; a difference is one of timestamps
 abbrev pub kind_or : Item → Kind → Kind
 kind_or (kinded k t) j = k
 kind_or (fraction w) j = fraction_kind true j
+kind_or (interval (Elapsed t)) j = Timestamp
 kind_or i j = j
 
 -- the kind of the first value with one, or that of a number with a fraction

@@ -8,7 +8,7 @@ ghost use Rattle.vortex_expressions.specs.Literals as literals;
 ghost use Rattle.vortex_expressions.specs.Literals.{literal_in};
 ghost use Rattle.vortex_expressions.specs.Answering.{Gives};
 
-use crate::item::{Item, constant_at};
+use crate::item::{Item, Timespan, constant_at};
 use crate::literal::Literal;
 use crate::refusal::{BindStop, Refusal};
 use std::alloc::Global;
@@ -89,13 +89,14 @@ pub(crate) fn fraction_kind(has_fraction: bool, kind: Kind) -> Kind
     }
 }
 
-/// The kind of a value, or else the other kind.
+/// The kind of a value, or else the other kind; a difference is one of timestamps.
 pub(crate) fn kind_or(item: &Item, kind: Kind) -> Kind
     ensures { result ≡ specs.kind_or (item_in item.now) kind }
 {
     match item {
         Item::Kinded(found, _) => *found,
         Item::Fraction(_) => fraction_kind(true, kind),
+        Item::Interval(Timespan::Elapsed(_)) => Kind::Timestamp,
         _ => kind,
     }
 }
