@@ -8,7 +8,7 @@ ghost use Rattle.vortex_expressions.specs.Items.{item_in};
 ghost use Rattle.vortex_expressions.specs.Answering.{Gives};
 
 use crate::applied::function_call;
-use crate::item::Item;
+use crate::item::{Item, Timespan};
 use crate::joining::{joined_texts, joins};
 use crate::kind_functions::{kind_call, single_call};
 use crate::kind_words::{KindFunction, KindName, is_word, kind_word};
@@ -54,6 +54,9 @@ fn first_kind(fraction_before: bool, items: &[Item]) -> Kind
     for item in items {
         match item {
             Item::Kinded(kind, _) => return fraction_kind(has_fraction, *kind),
+            Item::Interval(Timespan::Elapsed(_)) => {
+                return fraction_kind(has_fraction, Kind::Timestamp);
+            }
             Item::Fraction(_) => has_fraction = true,
             _ => {}
         }
@@ -72,6 +75,9 @@ fn first_case_kind(items: &[Item]) -> Kind
     while let [_condition, value, more @ ..] = rest {
         match value {
             Item::Kinded(kind, _) => return fraction_kind(has_fraction, *kind),
+            Item::Interval(Timespan::Elapsed(_)) => {
+                return fraction_kind(has_fraction, Kind::Timestamp);
+            }
             Item::Fraction(_) => has_fraction = true,
             _ => {}
         }
