@@ -14,7 +14,7 @@ use Rattle.vortex_syntax.specs.declared.token.Sign.TheVariants as sign
 use Rattle.vortex_syntax.specs.Tokens.{Token, name, nullable, function, quoted, number, text, sign}
 use Rattle.vortex_syntax.specs.Syntax as tree
 use Rattle.vortex_syntax.specs.Syntax.{Syntax, Tested, Arguments, Branches}
-use Rattle.vortex_syntax.specs.Levels.{Fits, AllFit, BranchesFit, is_operand}
+use Rattle.vortex_syntax.specs.Levels.{Fits, AllFit, BranchesFit, is_operand, is_count}
 use Rattle.vortex_syntax.specs.Spelling.{spelling, all_spelled, operator_sign, type_token, with_not}
 use Rattle.vortex_syntax.specs.Spelling.{is_tokens, test_token, test_tokens, null_test_sign}
 use Rattle.vortex_syntax.specs.Spelling.{distinct_tokens, function_tokens, between_tokens, cast_sign}
@@ -198,6 +198,12 @@ branch_stays d ts us p q =
 inner : (d : ℕ) → (suc d == 0) ≡ false
 inner d = grind (arith, nat_tests)
 
+count_stays : (t : Token) → is_count t ≡ true → (d : ℕ) (ts : List Token) → Passes d d ts
+    → Passes d d (t ∷ ts)
+count_stays (text bs) h d ts p = first d d (text bs) ts refl p
+count_stays (number ds) h d ts p = first d d (number ds) ts refl p
+count_stays t h d ts p = absurd cc
+
 mutual
   pub tree_stays : (t : Syntax) → Fits t → Stays (spelling t)
   tree_stays (tree.operand t) f d = operand_stays t f d
@@ -216,6 +222,9 @@ mutual
       (type_first d d w n [] (passes_none d)))
   tree_stays (tree.titled w bs) f d =
       first d d (name w) (text bs ∷ []) refl (first d d (text bs) [] refl (passes_none d))
+  tree_stays (tree.measured w t u) f d =
+      first d d (name w) (t ∷ name u ∷ []) refl
+      (count_stays t f.1 d (name u ∷ []) (first d d (name u) [] refl (passes_none d)))
   tree_stays (tree.grouped a) f d =
       first d d (sign sign.Open) (spelling a ++ (sign sign.Close ∷ [])) refl
       (last (suc d) (suc d) (spelling a) (sign sign.Close) (tree_stays a f (suc d)) refl)

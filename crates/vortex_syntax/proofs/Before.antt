@@ -15,6 +15,7 @@ use Rattle.vortex_syntax.specs.Tokens.{Token, name, sign}
 use Rattle.vortex_syntax.specs.Syntax.{Syntax, Arguments}
 use Rattle.vortex_syntax.specs.Levels.{level, Fits, distinct_level, is_level, predicate_level}
 use Rattle.vortex_syntax.specs.Levels.{concat_level, atom_level, typed_level, literal_level}
+use Rattle.vortex_syntax.specs.Levels.{is_interval, is_count}
 use Rattle.vortex_syntax.specs.Spelling.{cast_sign}
 use Rattle.vortex_syntax.specs.Spelling.{spelling, type_token, with_not, is_tokens, like_sign}
 use Rattle.vortex_syntax.specs.Postfix.{Step, operand, cast, argument_count, postfix, side_of}
@@ -294,6 +295,9 @@ Holds mode.Signed fs out before = Behind fs out before [] (sign sign.Minus ∷ [
 Holds (mode.Have l) fs out before = HasOperand l fs out before []
 Holds mode.Named fs out before =
     (w : List ℕ) × Behind fs out before (operand (name w) ∷ []) (name w ∷ [])
+Holds mode.Unit fs out before =
+    (w : List ℕ) × (t : Token) × (is_interval w ≡ true) × (is_count t ≡ true)
+    × Behind fs out before (operand t ∷ []) (name w ∷ t ∷ [])
 Holds mode.Typing fs out before = (l : ℕ) × HasOperand l fs out before (sign sign.Typed ∷ [])
     × (literal_level ≤ l)
 Holds (mode.Converting l) fs out before =

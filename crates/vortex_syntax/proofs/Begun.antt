@@ -1,6 +1,7 @@
 -- What was read before a token begins an expression.
 use Rattle.std.proofs.Common.{◌≡◌, ℕ, ◌≤◌, List, [], ◌∷◌, ◌++◌, false, true, Some, refl, ap, subst}
 use Rattle.std.proofs.Common.{◌∙◌, append_assoc, arith, lit<, lit≤}
+use Rattle.std.specs.Prelude.{codes}
 use Rattle.std.proofs.lemmas.List.{append-nil}
 use Rattle.vortex_syntax.specs.declared.token.Sign.TheVariants as sign
 use Rattle.vortex_syntax.specs.Frames.{Frame, hole, top_hole, ceiling, top_ceiling, whole}
@@ -305,6 +306,10 @@ holds_begins (mode.Have l) fs out before h =
 holds_begins mode.Named fs out before h =
     begun_by fs out before (step.operand (name h.0) ∷ []) (name h.0 ∷ []) h.1
     (tree.operand (name h.0)) [] refl (top_atom fs) (atom_ceiling fs) refl
+holds_begins mode.Unit fs out before h =
+    begun_by fs out before (step.operand h.1 ∷ []) (name h.0 ∷ h.1 ∷ []) h.4
+    (tree.measured h.0 h.1 (codes "day")) (name (codes "day") ∷ []) (h.2, h.3, refl) (top_atom fs)
+    (atom_ceiling fs) refl
 holds_begins mode.Typing fs out before h =
     let a = h.1 in
     operand_begun h.0 fs out before (sign sign.Typed ∷ []) a (tree.typed a.tree column false)

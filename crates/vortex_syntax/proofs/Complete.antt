@@ -1,6 +1,7 @@
 -- The spelling of a tree is read as its steps.
 use Rattle.std.proofs.Common.{◌≡◌, ℕ, ◌<◌, ◌≤◌, Bool, true, false, List, [], ◌∷◌, ◌++◌, Option}
 use Rattle.std.proofs.Common.{Some, None, refl, ap, sym, ◌∙◌, append_assoc, arith, lit<, lit≤}
+use Rattle.std.proofs.Common.{◌&&◌}
 use Rattle.std.proofs.lemmas.List.{append-nil}
 use Rattle.vortex_syntax.specs.declared.step.WrittenOperator.{WrittenOperator}
 use Rattle.vortex_syntax.specs.declared.step.WrittenOperator.TheVariants as operator
@@ -17,6 +18,7 @@ use Rattle.vortex_syntax.specs.Levels.{sign_level, typed_level, own, left, right
 use Rattle.vortex_syntax.specs.Levels.{AllFit, BranchesFit, is_operand, not_level, distinct_level}
 use Rattle.vortex_syntax.specs.Levels.{is_level, comparison_level, predicate_level, concat_level}
 use Rattle.vortex_syntax.specs.Levels.{bit_not_level, atom_level, literal_level, IsTested}
+use Rattle.vortex_syntax.specs.Levels.{is_interval, is_unit, is_count, are_digits}
 use Rattle.vortex_syntax.specs.Spelling.{spelling, operator_sign, type_token}
 use Rattle.vortex_syntax.specs.Spelling.{test_tokens, distinct_tokens, like_sign}
 use Rattle.vortex_syntax.specs.Spelling.{between_tokens, cast_sign}
@@ -38,7 +40,7 @@ use Rattle.vortex_syntax.proofs.StepsRead.{step_join, step_between, step_like, s
 use Rattle.vortex_syntax.proofs.StepsRead.{step_test, step_distinct, step_close, step_typed}
 use Rattle.vortex_syntax.proofs.StepsRead.{step_cast, step_escape, step_operand, step_negative}
 use Rattle.vortex_syntax.proofs.StepsRead.{step_not, step_open, step_cast_open}
-use Rattle.vortex_syntax.proofs.StepsRead.{step_plus, step_bit_not, step_titled}
+use Rattle.vortex_syntax.proofs.StepsRead.{step_plus, step_bit_not, step_titled, step_measured}
 use Rattle.vortex_syntax.proofs.StepsRead.{step_null_test}
 use Rattle.vortex_syntax.proofs.ArgumentsRead.{beneath, AreRead, read_no_arguments, read_argument}
 use Rattle.vortex_syntax.proofs.ArgumentsRead.{read_nullary, read_applied, read_extracted}
@@ -113,8 +115,13 @@ read_typed a w n h ia = λ fs out rest top under end.
     ∙ step_typed (level a) fs (out ++ postfix a) w n rest h
     ∙ ap (λ xs. have typed_level fs xs rest) (regrouped_2 out (postfix a) (typed w n))
 
-read_titled : (w bs : List ℕ) → IsRead (tree.titled w bs)
-read_titled w bs = λ fs out rest top under end. step_titled w bs fs out rest
+read_titled : (w bs : List ℕ) → (is_interval w && are_digits bs) ≡ false
+    → IsRead (tree.titled w bs)
+read_titled w bs h = λ fs out rest top under end. step_titled w bs h fs out rest
+
+read_measured : (w : List ℕ) (t : Token) (u : List ℕ) → is_interval w ≡ true → is_count t ≡ true
+    → is_unit u ≡ true → IsRead (tree.measured w t u)
+read_measured w t u h k j = λ fs out rest top under end. step_measured w t u h k j fs out rest
 
 read_converted : (a : Syntax) (w : List ℕ) (n : Bool) → atom_level ≤ level a
     → level a ≤ typed_level → IsRead a → IsRead (tree.converted a w n)
@@ -314,7 +321,8 @@ mutual
   is_read (tree.negative ds) h = read_negative ds
   is_read (tree.minus a) h = read_minus a h.0 h.1 (is_read a h.2)
   is_read (tree.typed a w n) h = read_typed a w n h.0 (is_read a h.1)
-  is_read (tree.titled w bs) h = read_titled w bs
+  is_read (tree.titled w bs) h = read_titled w bs h
+  is_read (tree.measured w t u) h = read_measured w t u h.0 h.1 h.2
   is_read (tree.grouped a) h = read_grouped a (is_read a h)
   is_read (tree.negated a) h = read_negated a h.0 (is_read a h.1)
   is_read (tree.joined o a b) h = read_joined o a b h.0 h.1 (is_read a h.2) (is_read b h.3)

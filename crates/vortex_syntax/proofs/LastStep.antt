@@ -10,7 +10,7 @@ use Rattle.vortex_syntax.specs.declared.frame.Mode.TheVariants as mode
 use Rattle.vortex_syntax.specs.Tokens.{name, text}
 use Rattle.vortex_syntax.specs.Postfix.{Step, step_in, operand, typed, name_back, last_name}
 use Rattle.vortex_syntax.specs.Levels.{atom_level}
-use Rattle.vortex_syntax.specs.Reading.{state, call_of, literal_of, word_of}
+use Rattle.vortex_syntax.specs.Reading.{state, call_of, titled, word_of}
 use Rattle.vortex_syntax.proofs.LastName.{name_last}
 
 no_front : (xs : List read.Step) → take (0 - 1) xs ≡ []
@@ -71,16 +71,19 @@ opened fs gs xs zs out w e k h =
     ∙ sym (ap (call_of fs) (ap last_name h ∙ name_last xs w))
 
 -- a literal of the type of that name
-pub named_literal : (fs gs : List Frame) (xs ys zs out : List Step) (w bs : List ℕ)
-    → gs ≡ fs → ys ≡ xs ++ (operand (text bs) ∷ []) → zs ≡ ys ++ (typed w false ∷ [])
-    → out ≡ xs ++ (operand (name w) ∷ [])
-    → Some (state (mode.Have atom_level) gs zs) ≡ literal_of fs bs (last_name out)
-named_literal fs gs xs ys zs out w bs e k j h =
+pub titled_is : (fs gs : List Frame) (xs ys zs : List Step) (w bs : List ℕ) → gs ≡ fs
+    → ys ≡ xs ++ (operand (text bs) ∷ []) → zs ≡ ys ++ (typed w false ∷ [])
+    → Some (state (mode.Have atom_level) gs zs) ≡ titled fs xs w bs
+titled_is fs gs xs ys zs w bs e k j =
     ap (λ hs. Some (state (mode.Have atom_level) hs zs)) e
     ∙ ap (λ us. Some (state (mode.Have atom_level) fs us))
     (j ∙ ap (λ us. us ++ (typed w false ∷ [])) k
     ∙ append_assoc xs (operand (text bs) ∷ []) (typed w false ∷ []))
-    ∙ sym (ap (literal_of fs bs) (ap last_name h ∙ name_last xs w))
+
+-- the name before a text or a number
+pub name_taken : (xs out : List Step) (w : List ℕ) → out ≡ xs ++ (operand (name w) ∷ [])
+    → Some (xs, w) ≡ last_name out
+name_taken xs out w h = sym (ap last_name h ∙ name_last xs w)
 
 -- a word before `from`
 pub word_taken : (f w : List ℕ) (fs gs hs : List Frame) (xs ys zs out : List Step) → gs ≡ fs

@@ -50,6 +50,7 @@ signed_read (tree.minus a) h k fs out ts = refl
 signed_read (tree.plus a) h k fs out ts = refl
 signed_read (tree.typed a w n) h k fs out ts = absurd (let j : ⊥ = omega (arith, k) in j)
 signed_read (tree.titled w bs) h k fs out ts = refl
+signed_read (tree.measured w t u) h k fs out ts = refl
 signed_read (tree.grouped a) h k fs out ts = refl
 signed_read (tree.negated a) h k fs out ts = refl
 signed_read (tree.joined o a b) h k fs out ts =

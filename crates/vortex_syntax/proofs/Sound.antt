@@ -16,7 +16,7 @@ use Rattle.vortex_syntax.specs.Reading.{steps_of}
 use Rattle.vortex_syntax.proofs.Held.{Held, frames_of, all_written, all_held}
 use Rattle.vortex_syntax.proofs.Before.{HasOperand, settled_operand, Holds, HoldsIn}
 use Rattle.vortex_syntax.proofs.ItemsSound.{in_follows}
-use Rattle.vortex_syntax.proofs.NameSound.{named_operand, named_sound}
+use Rattle.vortex_syntax.proofs.NameSound.{named_operand, named_sound, unit_sound}
 use Rattle.vortex_syntax.proofs.SignsSound.{behind_sound, negating_sound}
 use Rattle.vortex_syntax.proofs.OperandsSound.{wanted_sound, signed_sound, is_follows}
 use Rattle.vortex_syntax.proofs.OperandsSound.{distinct_follows}
@@ -33,6 +33,7 @@ step_sound mode.Want fs out t s before e h = wanted_sound fs out t s before (is_
 step_sound mode.Signed fs out t s before e h = signed_sound fs out t s before e h
 step_sound (mode.Have l) fs out t s before e h = behind_sound l fs out t s before e h
 step_sound mode.Named fs out t s before e h = named_sound fs out t s before e h
+step_sound mode.Unit fs out t s before e h = unit_sound fs out t s before e h
 step_sound mode.Typing fs out t s before e h = type_sound h.0 fs out t s before e h.1 h.2
 step_sound (mode.Converting l) fs out t s before e h =
     conversion_sound l fs out t s before e h.0 h.1 h.2

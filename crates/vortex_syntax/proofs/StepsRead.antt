@@ -1,6 +1,7 @@
 -- What each token of a tree's spelling leads to.
 use Rattle.std.proofs.Common.{◌≡◌, ℕ, suc, ◌≤◌, Bool, true, false, List, [], ◌∷◌, ◌++◌, Some, None, refl}
-use Rattle.std.proofs.Common.{ap, ◌∙◌, append_assoc, arith}
+use Rattle.std.proofs.Common.{ap, ◌∙◌, append_assoc, arith, ◌&&◌}
+use Rattle.std.proofs.lemmas.Bool.{and_from}
 use Rattle.vortex_syntax.specs.declared.step.WrittenOperator.{WrittenOperator}
 use Rattle.vortex_syntax.specs.declared.step.WrittenOperator.TheVariants as operator
 use Rattle.vortex_syntax.specs.declared.step.Test.TheVariants as test
@@ -16,7 +17,8 @@ use Rattle.vortex_syntax.specs.Syntax as tree
 use Rattle.vortex_syntax.specs.Syntax.{Tested}
 use Rattle.vortex_syntax.specs.Levels.{typed_level, own, left, is_operand, operand_level, and_level}
 use Rattle.vortex_syntax.specs.Levels.{bit_not_level, IsTested, takes_word, takes_from, takes_in}
-use Rattle.vortex_syntax.specs.Levels.{is_for, takes_side}
+use Rattle.vortex_syntax.specs.Levels.{is_for, takes_side, is_interval, is_unit, are_digits}
+use Rattle.vortex_syntax.specs.Levels.{is_count}
 use Rattle.vortex_syntax.specs.declared.token.TrimSide.{TrimSide}
 use Rattle.vortex_syntax.specs.declared.token.TrimSide.TheVariants as side
 use Rattle.vortex_syntax.specs.Levels.{not_level, distinct_level, is_level, predicate_level}
@@ -31,7 +33,7 @@ use Rattle.vortex_syntax.specs.Reading.{state, settled, shifted, joining, and_be
 use Rattle.std.proofs.Common.{cond}
 use Rattle.vortex_syntax.specs.Reading.{between_kind}
 use Rattle.vortex_syntax.specs.Reading.{word_after, next, finish, run, call_of, literal_of}
-use Rattle.vortex_syntax.specs.Reading.{mode_behind, word_of}
+use Rattle.vortex_syntax.specs.Reading.{mode_behind, word_of, counted, titled, number_of}
 use Rattle.vortex_syntax.proofs.Tables.{reach_at, at_most, over, atom_ceiling, no_word, not_placing}
 use Rattle.vortex_syntax.proofs.LastName.{name_last}
 use Rattle.vortex_syntax.proofs.Closes.{settled_none, shifts, ran, want, have}
@@ -255,8 +257,8 @@ pub step_escape : (k : LikeKind) (e : List ℕ) (l : ℕ) (fs : List Frame) (out
 unfolding run next word_after settled
 step_escape k e l fs out ts = refl
 
--- after a bare name all but a bracket, a text and, where a word may come, `from` does what it does
--- after another operand
+-- after a bare name all but a bracket, a text, a number and, where a word may come, `from` does
+-- what it does after another operand
 named_read : (fs : List Frame) (out : List Step) (ts : List Token) → reach_at fs ts ≤ atom_level
     → run (state mode.Named fs out) ts ≡ have atom_level fs out ts
 unfolding run next finish
@@ -266,6 +268,7 @@ named_read fs out (sign sign.From ∷ ts) h =
     ap (λ b. ran ts (cond b (specs.word_from fs out)
     (specs.behind atom_level fs out (sign sign.From)))) (no_word fs h)
 named_read fs out (text bs ∷ ts) h = absurd (let j : ⊥ = omega (arith, h) in j)
+named_read fs out (number ds ∷ ts) h = absurd (let j : ⊥ = omega (arith, h) in j)
 named_read fs out (t ∷ ts) h = refl
 
 step_name : (w : List ℕ) (fs : List Frame) (out : List Step) (ts : List Token)
@@ -295,17 +298,56 @@ apart_read : (w : List ℕ) (fs : List Frame) (out : List Step) (ts : List Token
 unfolding run next
 apart_read w fs out ts = ap (λ o. ran ts (call_of fs o)) (name_last out w)
 
-text_read : (w bs : List ℕ) (fs : List Frame) (out : List Step) (ts : List Token)
+text_read : (w bs : List ℕ) → (is_interval w && are_digits bs) ≡ false → (fs : List Frame)
+    (out : List Step) (ts : List Token)
     → run (state mode.Named fs (out ++ (operand (name w) ∷ []))) (text bs ∷ ts)
     ≡ have atom_level fs (out ++ (operand (text bs) ∷ typed w false ∷ [])) ts
 unfolding run next
-text_read w bs fs out ts = ap (λ o. ran ts (literal_of fs bs o)) (name_last out w)
+text_read w bs h fs out ts =
+    ap (λ o. ran ts (literal_of fs bs o)) (name_last out w)
+    ∙ ap (λ b. ran ts (cond b (counted fs out (text bs)) (titled fs out w bs))) h
 
-pub step_titled : (w bs : List ℕ) (fs : List Frame) (out : List Step) (ts : List Token)
+pub step_titled : (w bs : List ℕ) → (is_interval w && are_digits bs) ≡ false → (fs : List Frame)
+    (out : List Step) (ts : List Token)
     → want fs out (name w ∷ text bs ∷ ts)
     ≡ have atom_level fs (out ++ (operand (text bs) ∷ typed w false ∷ [])) ts
-step_titled w bs fs out ts =
-    step_name w fs out (text bs ∷ ts) (atom_ceiling fs) ∙ text_read w bs fs out ts
+step_titled w bs h fs out ts =
+    step_name w fs out (text bs ∷ ts) (atom_ceiling fs) ∙ text_read w bs h fs out ts
+
+-- digits after `interval`, and their unit
+count_read : (w : List ℕ) (t : Token) → is_interval w ≡ true → is_count t ≡ true
+    → (fs : List Frame) (out : List Step) (ts : List Token)
+    → run (state mode.Named fs (out ++ (operand (name w) ∷ []))) (t ∷ ts)
+    ≡ run (state mode.Unit fs (out ++ (operand t ∷ []))) ts
+unfolding run next
+count_read w (text bs) h k fs out ts =
+    ap (λ o. ran ts (literal_of fs bs o)) (name_last out w)
+    ∙ ap (λ b. ran ts (cond b (counted fs out (text bs)) (titled fs out w bs)))
+    (and_from (is_interval w) (are_digits bs) h k)
+count_read w (number ds) h k fs out ts =
+    ap (λ o. ran ts (number_of fs ds o)) (name_last out w)
+    ∙ ap (λ b. ran ts (cond b (counted fs out (number ds)) None))
+    (and_from (is_interval w) (are_digits ds) h k)
+count_read w t h k fs out ts = absurd cc
+
+unit_read : (u : List ℕ) → is_unit u ≡ true → (fs : List Frame) (out : List Step)
+    (ts : List Token)
+    → run (state mode.Unit fs out) (name u ∷ ts)
+    ≡ have atom_level fs (out ++ (typed u false ∷ [])) ts
+unfolding run next
+unit_read u h fs out ts =
+    let after = state (mode.Have atom_level) fs (out ++ (typed u false ∷ [])) in
+    ap (λ b. ran ts (cond b (Some after) None)) h
+
+pub step_measured : (w : List ℕ) (t : Token) (u : List ℕ) → is_interval w ≡ true
+    → is_count t ≡ true → is_unit u ≡ true → (fs : List Frame) (out : List Step) (ts : List Token)
+    → want fs out (name w ∷ t ∷ name u ∷ ts)
+    ≡ have atom_level fs (out ++ (operand t ∷ typed u false ∷ [])) ts
+step_measured w t u h k j fs out ts =
+    step_name w fs out (t ∷ name u ∷ ts) (atom_ceiling fs)
+    ∙ count_read w t h k fs out (name u ∷ ts)
+    ∙ unit_read u j fs (out ++ (operand t ∷ [])) ts
+    ∙ ap (λ xs. have atom_level fs xs ts) (append_assoc out (operand t ∷ []) (typed u false ∷ []))
 
 pub step_negative : (ds : List ℕ) (fs : List Frame) (out : List Step) (ts : List Token)
     → literal_level ≤ top_ceiling fs

@@ -9,7 +9,7 @@ use Rattle.vortex_syntax.specs.declared.token.Sign.{Sign}
 use Rattle.vortex_syntax.specs.declared.token.Sign.TheVariants as sign
 use Rattle.vortex_syntax.specs.Frames.{Frame, hole, top_hole, ceiling, top_ceiling, guard, whole}
 use Rattle.vortex_syntax.specs.Frames as frame
-use Rattle.vortex_syntax.specs.Tokens.{Token, name, text, sign}
+use Rattle.vortex_syntax.specs.Tokens.{Token, name, number, text, sign}
 use Rattle.vortex_syntax.specs.Syntax as tree
 use Rattle.vortex_syntax.specs.Syntax.{Syntax}
 use Rattle.vortex_syntax.specs.Reading.{waits_word, waits_in}
@@ -120,8 +120,8 @@ level_literal (tree.joined o a b) = omega (arith, own_product o)
 level_literal (tree.converted a w n) = level_literal a
 level_literal t = lit≤ tt
 
--- the level of the sign that comes after an operand: only frames above it are closed. A bracket or a
--- text comes after none but a bare name, which is no operand then
+-- the level of the sign that comes after an operand: only frames above it are closed. A bracket, a
+-- text or a number comes after none but a bare name, which is no operand then
 abbrev pub reach_of : Sign → ℕ
 reach_of sign.And = and_level
 reach_of sign.Is = is_level
@@ -161,6 +161,7 @@ reach_of _ = or_level
 abbrev pub token_reach : Token → ℕ
 token_reach (sign s) = reach_of s
 token_reach (text bs) = 15
+token_reach (number ds) = 15
 token_reach t = 0
 
 abbrev pub reach : List Token → ℕ

@@ -29,6 +29,7 @@ words expected.OperatorOrAnd = codes "an operator that binds tighter, or the and
 words expected.Brackets = codes "brackets round the comparison, is, between, in or like before it"
 words expected.BracketsBeforeType = codes "brackets round what is before ::"
 words expected.TypeName = codes "the name of a type"
+words expected.IntervalUnit = codes "a unit: year, month, week, day, hour, minute or second"
 words expected.TestOrNot = codes "null, true, false, unknown, distinct from or not"
 words expected.Test = codes "null, true, false, unknown or distinct from"
 words expected.From = codes "from"

@@ -1,17 +1,21 @@
 -- The precedence levels of SQL, as in PostgreSQL: what binds tighter has a higher level.
-use Rattle.std.specs.Prelude.{◌≡◌, ℕ, ◌≤◌, Bool, true, false, ◌||◌, List, codes, if◌then◌else◌}
+use Rattle.std.specs.Prelude.{◌≡◌, ℕ, ◌≤◌, Bool, true, false, ◌&&◌, ◌||◌, List, codes}
+use Rattle.std.specs.Prelude.{if◌then◌else◌}
+use Rattle.std.specs.Char.{is_ascii_digit}
+use Rattle.std.specs.List.{list_all}
 use Rattle.vortex_syntax.specs.declared.step.WrittenOperator.{WrittenOperator}
 use Rattle.vortex_syntax.specs.declared.step.WrittenOperator.TheVariants as operator
 use Rattle.vortex_syntax.specs.declared.token.Sign.{Sign}
 use Rattle.vortex_syntax.specs.declared.token.Sign.TheVariants as sign
 use Rattle.vortex_syntax.specs.Tokens.{Token, name, nullable, function, quoted, number, text, sign}
 use Rattle.vortex_syntax.specs.Keywords.{same_word}
+use Rattle.vortex_syntax.specs.Pieces.{begins_digits}
 use Rattle.vortex_syntax.specs.Syntax.{Syntax, operand, negative, minus, typed, grouped, negated}
 use Rattle.vortex_syntax.specs.Syntax.{joined, tested, distinct, between, matched, listed, cast}
 use Rattle.vortex_syntax.specs.Syntax.{plus, bit_not, null_tested, Tested, Null, True, False}
 use Rattle.vortex_syntax.specs.Syntax.{Unknown, converted, titled, extracted, parted, parted_for}
 use Rattle.vortex_syntax.specs.Syntax.{placed, nullary, chosen, chosen_else, applied, Arguments}
-use Rattle.vortex_syntax.specs.Syntax.{trimmed, trimmed_by}
+use Rattle.vortex_syntax.specs.Syntax.{measured, trimmed, trimmed_by}
 use Rattle.vortex_syntax.specs.Syntax.{no_arguments, argument, Branches, without_operand}
 use Rattle.vortex_syntax.specs.Syntax.{of_operand, branch}
 
@@ -160,6 +164,7 @@ level (plus a) = sign_level
 level (bit_not a) = bit_not_level
 level (typed a w n) = typed_level
 level (titled w bs) = atom_level
+level (measured w t u) = atom_level
 level (grouped a) = atom_level
 level (negated a) = not_level
 level (joined o a b) = own o
@@ -188,6 +193,31 @@ IsTested Null = Unit {0}
 IsTested True = Unit {0}
 IsTested False = Unit {0}
 IsTested (Unknown w) = same_word w (codes "unknown") ≡ true
+
+-- the name of the type of intervals, and the words for their units, of which digits count how many
+abbrev pub is_interval : List ℕ → Bool
+is_interval w = same_word w (codes "interval")
+
+abbrev pub is_either : List ℕ → List ℕ → List ℕ → Bool
+is_either u one more = same_word u one || same_word u more
+
+abbrev pub is_unit : List ℕ → Bool
+is_unit u =
+    is_either u (codes "year") (codes "years")
+    || (is_either u (codes "month") (codes "months")
+    || (is_either u (codes "week") (codes "weeks")
+    || (is_either u (codes "day") (codes "days")
+    || (is_either u (codes "hour") (codes "hours")
+    || (is_either u (codes "minute") (codes "minutes")
+    || is_either u (codes "second") (codes "seconds"))))))
+
+abbrev pub are_digits : List ℕ → Bool
+are_digits bs = begins_digits bs && list_all is_ascii_digit bs
+
+abbrev pub is_count : Token → Bool
+is_count (text bs) = are_digits bs
+is_count (number ds) = are_digits ds
+is_count t = false
 
 -- the one function that takes a word before `from`
 abbrev pub takes_word : List ℕ → Bool
@@ -225,7 +255,8 @@ abbrev mutual
   Fits (plus a) = (sign_level ≤ level a) × Fits a
   Fits (bit_not a) = (bit_not_level ≤ level a) × Fits a
   Fits (typed a w n) = (literal_level ≤ level a) × Fits a
-  Fits (titled w bs) = Unit {0}
+  Fits (titled w bs) = (is_interval w && are_digits bs) ≡ false
+  Fits (measured w t u) = (is_interval w ≡ true) × (is_count t ≡ true) × (is_unit u ≡ true)
   Fits (grouped a) = Fits a
   Fits (negated a) = (not_level ≤ level a) × Fits a
   Fits (joined o a b) = (left o ≤ level a) × (right o ≤ level b) × Fits a × Fits b

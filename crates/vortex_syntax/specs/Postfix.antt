@@ -76,6 +76,7 @@ abbrev mutual
   postfix (tree.bit_not a) = postfix a ++ (called call.BitNot ∷ [])
   postfix (tree.typed a w n) = postfix a ++ (typed w n ∷ [])
   postfix (tree.titled w bs) = operand (text bs) ∷ typed w false ∷ []
+  postfix (tree.measured w t u) = operand t ∷ typed u false ∷ []
   postfix (tree.grouped a) = postfix a
   postfix (tree.negated a) = postfix a ++ (called call.Not ∷ [])
   postfix (tree.joined o a b) = postfix a ++ (postfix b ++ (called (call.Join o) ∷ []))

@@ -24,6 +24,7 @@ use Rattle.vortex_syntax.specs.Levels.{typed_level, distinct_level, is_level}
 use Rattle.vortex_syntax.specs.Levels.{predicate_level, concat_level, atom_level, literal_level}
 use Rattle.vortex_syntax.specs.Levels.{bit_not_level, is_operand, operand_level, takes_word}
 use Rattle.vortex_syntax.specs.Levels.{takes_from, takes_in, takes_side, is_for}
+use Rattle.vortex_syntax.specs.Levels.{is_interval, is_unit, are_digits}
 use Rattle.vortex_syntax.specs.Spelling.{operator_of}
 use Rattle.vortex_syntax.specs.declared.reading.Reading.{Reading}
 use Rattle.vortex_syntax.specs.Frames as frame
@@ -299,14 +300,35 @@ call_of fs (Some x) = Some (state mode.Want (frame.Arguments x.1 0 ∷ fs) x.0)
 abbrev pub open_call : List Frame → List Step → Option State
 open_call fs out = call_of fs (last_name out)
 
--- a text after a bare name is a literal of the type of that name
+-- digits after `interval`, before their unit
+abbrev pub counted : List Frame → List Step → Token → Option State
+counted fs out t = Some (state mode.Unit fs (out ++ (operand t ∷ [])))
+
+-- another text after a bare name is a literal of the type of that name
+abbrev pub titled : List Frame → List Step → List ℕ → List ℕ → Option State
+titled fs out w bs =
+    Some (state (mode.Have atom_level) fs (out ++ (operand (text bs) ∷ typed w false ∷ [])))
+
 abbrev pub literal_of : List Frame → List ℕ → Option (List Step × List ℕ) → Option State
 literal_of fs bs None = None
 literal_of fs bs (Some x) =
-    Some (state (mode.Have atom_level) fs (x.0 ++ (operand (text bs) ∷ typed x.1 false ∷ [])))
+    if is_interval x.1 && are_digits bs then counted fs x.0 (text bs) else titled fs x.0 x.1 bs
 
 abbrev pub text_named : List Frame → List Step → List ℕ → Option State
 text_named fs out bs = literal_of fs bs (last_name out)
+
+abbrev pub number_of : List Frame → List ℕ → Option (List Step × List ℕ) → Option State
+number_of fs ds None = None
+number_of fs ds (Some x) =
+    if is_interval x.1 && are_digits ds then counted fs x.0 (number ds) else None
+
+abbrev pub number_named : List Frame → List Step → List ℕ → Option State
+number_named fs out ds = number_of fs ds (last_name out)
+
+abbrev pub unit_expected : List Frame → List Step → Token → Option State
+unit_expected fs out (name u) =
+    if is_unit u then Some (state (mode.Have atom_level) fs (out ++ (typed u false ∷ []))) else None
+unit_expected fs out t = None
 
 -- a bare name before `from` is a text, the first argument of a call of `extract`
 abbrev pub word_of : List ℕ → List Frame → Option (List Step × List ℕ) → Option State
@@ -332,6 +354,7 @@ abbrev pub after_name : List Frame → List Step → Token → Option State
 after_name fs out (sign sign.Open) = open_call fs out
 after_name fs out (sign sign.From) = from_named fs out
 after_name fs out (text bs) = text_named fs out bs
+after_name fs out (number ds) = number_named fs out ds
 after_name fs out t = behind atom_level fs out t
 
 abbrev pub negating : ℕ → List Frame → List Step → Token → Option State
@@ -488,6 +511,7 @@ next mode.Want fs out t = before_operand fs out t
 next mode.Signed fs out t = signed fs out t
 next (mode.Have level) fs out t = behind level fs out t
 next mode.Named fs out t = after_name fs out t
+next mode.Unit fs out t = unit_expected fs out t
 next mode.Typing fs out t = type_expected fs out t
 next (mode.Is n) fs out t = after_is n fs out t
 next (mode.Distinct n) fs out t = after_distinct n fs out t

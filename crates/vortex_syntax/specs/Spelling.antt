@@ -14,7 +14,7 @@ use Rattle.vortex_syntax.specs.Syntax.{joined, tested, distinct, between, matche
 use Rattle.vortex_syntax.specs.Syntax.{plus, bit_not, null_tested, Tested, Null, True, False}
 use Rattle.vortex_syntax.specs.Syntax.{Unknown, converted, titled, extracted, parted, parted_for}
 use Rattle.vortex_syntax.specs.Syntax.{placed, nullary, chosen, chosen_else, applied, Arguments}
-use Rattle.vortex_syntax.specs.Syntax.{trimmed, trimmed_by}
+use Rattle.vortex_syntax.specs.Syntax.{measured, trimmed, trimmed_by}
 use Rattle.vortex_syntax.specs.Syntax.{no_arguments, argument, Branches, without_operand}
 use Rattle.vortex_syntax.specs.Syntax.{of_operand, branch}
 
@@ -134,6 +134,7 @@ abbrev mutual
   spelling (bit_not a) = sign sign.BitNot ∷ spelling a
   spelling (typed a w n) = spelling a ++ (sign sign.Typed ∷ type_token w n ∷ [])
   spelling (titled w bs) = name w ∷ text bs ∷ []
+  spelling (measured w t u) = name w ∷ t ∷ name u ∷ []
   spelling (grouped a) = sign sign.Open ∷ (spelling a ++ (sign sign.Close ∷ []))
   spelling (negated a) = sign sign.Not ∷ spelling a
   spelling (joined o a b) = spelling a ++ (sign (operator_sign o) ∷ spelling b)

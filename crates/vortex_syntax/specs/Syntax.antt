@@ -20,6 +20,7 @@ pub data Tested : Type 0 where
 -- bit_not: a tree with a tilde before it
 -- typed: a literal of the type of that name, nullable if the flag is true
 -- titled: a literal of the type of that name, which comes before its text
+-- measured: an interval of so many of a unit: `interval`, digits as a text or a number, the unit
 -- grouped: a tree in brackets
 -- tested: IS NOT with that test, or IS where the flag is false
 -- null_tested: NOTNULL, or ISNULL where the flag is false
@@ -54,6 +55,7 @@ mutual
     bit_not : Syntax → Syntax
     typed : Syntax → List ℕ → Bool → Syntax
     titled : List ℕ → List ℕ → Syntax
+    measured : List ℕ → Token → List ℕ → Syntax
     grouped : Syntax → Syntax
     negated : Syntax → Syntax
     joined : WrittenOperator → Syntax → Syntax → Syntax

@@ -1,12 +1,12 @@
 //! What a token after a bare name does to what is read.
-ghost use Rattle.std.specs.Prelude.{◌≡◌};
+ghost use Rattle.std.specs.Prelude.{◌≡◌, Some};
 ghost use Rattle.vortex_syntax.specs.Tokens.{token_in};
 ghost use Rattle.vortex_syntax.specs.Postfix.{last_name};
 ghost use Rattle.vortex_syntax.specs.Reading as specs;
 ghost use Rattle.vortex_syntax.specs.Reading.{frames_in, steps_in, Gives};
 
 use crate::frame::{Frame, Mode};
-use crate::levels::{ATOM, takes_word};
+use crate::levels::{ATOM, are_digits, is_interval, is_unit, takes_word};
 use crate::reading::Reading;
 use crate::step::Step;
 use crate::token::{Sign, Token};
@@ -28,18 +28,92 @@ impl<'a> Reading<'a> {
         }
     }
 
+    /// Digits after `interval`.
+    fn counted(&mut self, token: Token<'a>) -> Result<Option<Mode>, AllocError>
+        ensures { Gives result self.new
+            (specs.counted (frames_in self.old) (steps_in self.old) (token_in token.entry)) }
+    {
+        self.emit(Step::Operand(token))?;
+        Ok(Some(Mode::Unit))
+    }
+
+    /// A text after the name of its type, at that byte.
+    fn titled(
+        &mut self,
+        name: &'a [u8],
+        place: usize,
+        text: &'a [u8],
+    ) -> Result<Option<Mode>, AllocError>
+        ensures { Gives result self.new
+            (specs.titled (frames_in self.old) (steps_in self.old) name.now text.now) }
+    {
+        self.emit(Step::Operand(Token::Text(text)))?;
+        self.emit_at(Step::Typed(name, false), place)?;
+        Ok(Some(Mode::Have(ATOM)))
+    }
+
+    /// A text after that name, at that byte.
+    fn literal_of(
+        &mut self,
+        name: &'a [u8],
+        place: usize,
+        text: &'a [u8],
+    ) -> Result<Option<Mode>, AllocError>
+        ensures { Gives result self.new
+            (specs.literal_of (frames_in self.old) text.now (Some (steps_in self.old, name.now))) }
+    {
+        if is_interval(name) && are_digits(text) {
+            self.counted(Token::Text(text))
+        } else {
+            self.titled(name, place, text)
+        }
+    }
+
     /// A text after a bare name, which is the name of its type.
     fn text_named(&mut self, text: &'a [u8]) -> Result<Option<Mode>, AllocError>
         ensures { Gives result self.new
             (specs.text_named (frames_in self.old) (steps_in self.old) text.now) }
     {
         match self.tree.pop_name() {
-            Some((name, place)) => {
-                self.emit(Step::Operand(Token::Text(text)))?;
-                self.emit_at(Step::Typed(name, false), place)?;
+            Some((name, place)) => self.literal_of(name, place, text),
+            None => Ok(None),
+        }
+    }
+
+    /// A number after that name.
+    fn number_of(&mut self, name: &[u8], digits: &'a [u8]) -> Result<Option<Mode>, AllocError>
+        ensures { Gives result self.new
+            (specs.number_of (frames_in self.old) digits.now (Some (steps_in self.old, name.now))) }
+    {
+        if is_interval(name) && are_digits(digits) {
+            self.counted(Token::Number(digits))
+        } else {
+            Ok(None)
+        }
+    }
+
+    /// A number after a bare name.
+    fn number_named(&mut self, digits: &'a [u8]) -> Result<Option<Mode>, AllocError>
+        ensures { Gives result self.new
+            (specs.number_named (frames_in self.old) (steps_in self.old) digits.now) }
+    {
+        match self.tree.pop_name() {
+            Some((name, _)) => self.number_of(name, digits),
+            None => Ok(None),
+        }
+    }
+
+    /// The unit of an interval.
+    pub fn unit_expected(&mut self, token: Token<'a>) -> Result<Option<Mode>, AllocError>
+        ensures { Gives result self.new
+            (specs.unit_expected (frames_in self.old) (steps_in self.old) (token_in token.entry)) }
+    {
+        match token {
+            Token::Name(unit) if is_unit(unit) => {
+                self.emit(Step::Typed(unit, false))?;
                 Ok(Some(Mode::Have(ATOM)))
             }
-            None => Ok(None),
+            _ => Ok(None),
         }
     }
 
@@ -103,6 +177,7 @@ impl<'a> Reading<'a> {
             Token::Sign(Sign::Open) => self.open_call(),
             Token::Sign(Sign::From) => self.from_named(),
             Token::Text(text) => self.text_named(text),
+            Token::Number(digits) => self.number_named(digits),
             _ => self.behind(ATOM, token),
         }
     }

@@ -58,6 +58,8 @@ pub enum Expected {
     BracketsBeforeType,
     /// After two colons, and after the `as` of `cast`.
     TypeName,
+    /// After digits behind `interval`.
+    IntervalUnit,
     /// After `is`.
     TestOrNot,
     /// After `is not`.
@@ -110,6 +112,7 @@ impl Expected {
                 "brackets round the comparison, is, between, in or like before it",
             Expected::BracketsBeforeType => "brackets round what is before ::",
             Expected::TypeName => "the name of a type",
+            Expected::IntervalUnit => "a unit: year, month, week, day, hour, minute or second",
             Expected::TestOrNot => "null, true, false, unknown, distinct from or not",
             Expected::Test => "null, true, false, unknown or distinct from",
             Expected::From => "from",

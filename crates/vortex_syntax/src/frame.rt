@@ -77,8 +77,10 @@ pub enum Mode {
     /// What follows an operand of that level.
     Have(u8),
     /// What follows a bare name: a bracket makes a call of it, a text is a literal of that type,
-    /// and `from` makes a text of it, the first argument of a call.
+    /// digits are an interval's, and `from` makes a text of it, the first argument of a call.
     Named,
+    /// The unit after digits behind `interval`.
+    Unit,
     /// The type after two colons that follow a literal without a type.
     Typing,
     /// The type after two colons that follow another operand of that level, which cast it.

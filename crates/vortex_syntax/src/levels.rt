@@ -1,9 +1,11 @@
 //! The levels of operators and of operands.
 ghost use Rattle.std.specs.Prelude.{◌≡◌};
+ghost use Rattle.std.specs.Char.{is_ascii_digit};
+ghost use Rattle.std.specs.List.{list_all};
 ghost use Rattle.vortex_syntax.specs.Tokens.{token_in};
 ghost use Rattle.vortex_syntax.specs.Levels as levels;
 
-use crate::pieces::is_same_word;
+use crate::pieces::{begins_digits, is_same_word};
 use crate::step::WrittenOperator;
 use crate::token::{Sign, Token};
 
@@ -126,6 +128,46 @@ pub fn operand_level(token: Token<'_>) -> u8
         Token::Name(_) | Token::Quoted(_) => ATOM,
         _ => LITERAL,
     }
+}
+
+/// Whether it is the name of the type of intervals.
+pub(crate) fn is_interval(word: &[u8]) -> bool
+    ensures { result ≡ levels.is_interval word.now }
+{
+    is_same_word(word, b"interval")
+}
+
+fn is_either(word: &[u8], one: &[u8], more: &[u8]) -> bool
+    ensures { result ≡ levels.is_either word.now one.now more.now }
+{
+    is_same_word(word, one) || is_same_word(word, more)
+}
+
+/// Whether it is a word for a unit of intervals, in either case: `year`, `month`, `week`, `day`,
+/// `hour`, `minute` or `second`, or the same with `s`.
+pub fn is_unit(word: &[u8]) -> bool
+    ensures { result ≡ levels.is_unit word.now }
+{
+    is_either(word, b"year", b"years")
+        || is_either(word, b"month", b"months")
+        || is_either(word, b"week", b"weeks")
+        || is_either(word, b"day", b"days")
+        || is_either(word, b"hour", b"hours")
+        || is_either(word, b"minute", b"minutes")
+        || is_either(word, b"second", b"seconds")
+}
+
+fn has_only_digits(text: &[u8]) -> bool
+    ensures { result ≡ list_all is_ascii_digit text.now }
+{
+    text.iter().all(|byte| byte.is_ascii_digit())
+}
+
+/// Whether it is digits alone, at least one.
+pub(crate) fn are_digits(text: &[u8]) -> bool
+    ensures { result ≡ levels.are_digits text.now }
+{
+    begins_digits(text) && has_only_digits(text)
 }
 
 /// The one function that takes a word before `from`.

@@ -21,6 +21,7 @@ mod places;
 mod reader;
 mod reading;
 mod refusing;
+mod signs;
 mod sizes;
 mod step;
 pub mod syntax;

@@ -48,6 +48,7 @@ impl<'a> Reading<'a> {
             Mode::Signed => self.signed(token, place),
             Mode::Have(level) => self.behind(level, token),
             Mode::Named => self.after_name(token),
+            Mode::Unit => self.unit_expected(token),
             Mode::Typing => self.type_expected(token),
             Mode::Is(negated) => self.after_is(negated, token),
             Mode::Distinct(negated) => self.after_distinct(negated, token),

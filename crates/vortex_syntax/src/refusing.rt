@@ -115,6 +115,7 @@ impl<'a> Reading<'a> {
             }
             (Mode::Have(_) | Mode::Named, _) => self.expected_after(whole),
             (Mode::Typing | Mode::Converting(_) | Mode::CastType(_), _) => Expected::TypeName,
+            (Mode::Unit, _) => Expected::IntervalUnit,
             (Mode::Is(false), _) => Expected::TestOrNot,
             (Mode::Is(true), _) => Expected::Test,
             (Mode::Distinct(_), _) => Expected::From,

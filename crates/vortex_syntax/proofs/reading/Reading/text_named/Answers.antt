@@ -1,8 +1,13 @@
-use Rattle.std.proofs.Common.{◌∙◌}
-use Rattle.vortex_syntax.proofs.LastStep.{named_literal}
+use Rattle.std.proofs.Common.{ℕ, List, Option, subst}
+use Rattle.vortex_syntax.specs.Postfix.{Step}
+use Rattle.vortex_syntax.specs.Reading as specs
+use Rattle.vortex_syntax.specs.Reading.{frames_in, Gives}
+use Rattle.vortex_syntax.proofs.LastStep.{name_taken}
 use Rattle.vortex_syntax.proofs.reading.Reading.text_named.Goals as goal
 
-pub returns-in_ok-emit_at-in-Some : goal.returns-in_ok-emit_at-in-Some
-returns-in_ok-emit_at-in-Some c =
-    named_literal _ _ _ _ _ _ _ _ (c.emit_at.ensures.frames ∙ c.emit.ensures.frames)
-    c.in_ok-emit-in-Some.ensures.steps c.in_ok-emit_at-in-Some.ensures.steps c.in-Some.ensures
+pub returns-in-Some : goal.returns-in-Some
+returns-in-Some c =
+    subst (λ (o : Option (List Step × List ℕ)).
+    Gives c.literal_of.result c.literal_of.new.self
+    (specs.literal_of (frames_in c.args.self.now) c.args.text.now o))
+    (name_taken _ _ _ c.in-Some.ensures) c.literal_of.ensures
