@@ -27,7 +27,7 @@ use Rattle.vortex_lowering.specs.LoweredTrees.{arithmetic_operator}
 use Rattle.vortex_standard.specs.declared.standard.Standard.{Standard}
 use Rattle.vortex_logical_calls.specs.Outcomes as calls
 use Rattle.vortex_logical_calls.specs.Calls.{Lowered, typed, call_on, call_two}
-use Rattle.vortex_logical_calls.specs.Conversions.{conversion_beside, conversion_by_two, converted, as_float, meet_in_float}
+use Rattle.vortex_logical_calls.specs.Conversions.{conversion_beside, conversion_by_two, converted, as_float}
 use Rattle.vortex_logical_calls.specs.Conversions.{after, float_function}
 use Rattle.vortex_logical_calls.specs.Calls.{call_one}
 use Rattle.vortex_logical_calls.specs.Literals.{constant_of, number_of_text}
@@ -39,7 +39,7 @@ use Rattle.vortex_logical_calls.specs.declared.intervals.Interval.TheVariants.{M
 use Rattle.vortex_logical_calls.specs.Comparison.{if_met, compared}
 use Rattle.vortex_logical_calls.specs.Bounds as bounds
 use Rattle.vortex_logical_calls.specs.Computation.{of_operand, of_result}
-use Rattle.vortex_logical_calls.specs.Computation.{float_operator}
+use Rattle.vortex_logical_calls.specs.Computation.{float_operator, goes_by_floats}
 use Rattle.vortex_logical.specs.declared.kind.Kind.TheVariants.{Date, Timestamp, Decimal, F64}
 use Rattle.vortex_logical.specs.declared.kind.Kind.TheVariants.{F32}
 use Rattle.vortex_standard.specs.declared.standard.Standard.TheVariants as standard
@@ -167,7 +167,7 @@ result_made b x y (Some a) o h = if_chosen IsValue b _ _ (operand_made a o h) tt
 
 computed_made : (o : NumericOperator) (x y : Lowered) → IfMade IsValue (computed o x y)
 computed_made o x y =
-    if_chosen IsValue (meet_in_float x.operand y.operand) _ _
+    if_chosen IsValue (goes_by_floats o x.operand y.operand) _ _
     (if_then IsValue (as_float x) _
     (λ a. if_then IsValue (as_float y) _
     (λ b. operand_made (Of F64) (call_two (standard.FloatOperator (float_operator o)) a.tree b.tree)

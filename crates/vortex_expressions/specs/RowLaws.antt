@@ -19,7 +19,7 @@ use Rattle.vortex_logical.specs.declared.operand.Operand.TheVariants.{Of}
 use Rattle.vortex_lowering.specs.Rows.{lowered}
 use Rattle.vortex_logical_calls.specs.declared.intervals.Interval.TheVariants.{Micros}
 use Rattle.vortex_logical_calls.specs.Calls.{Lowered}
-use Rattle.vortex_logical_calls.specs.Conversions.{meet_in_float}
+use Rattle.vortex_logical_calls.specs.Computation.{goes_by_floats}
 use Rattle.vortex_logical_calls.specs.RowLaws.{ComparedRows, BoundedRows, ComputedRows}
 use Rattle.vortex_logical_calls.specs.RowLaws.{ShiftedRows}
 use Rattle.vortex_standard.specs.declared.standard.Standard.{Standard}
@@ -43,7 +43,7 @@ pub record ComparesItems (op : CompareOperator) (i j : Item) (t : Tree) : Type 0
   pub right : IsNext (first_kind (i ∷ j ∷ [])) j y
   pub rows : ComparedRows op x y t
 
--- arithmetic, the same; next to a float it is that of floats
+-- arithmetic, the same, where it does not go by floats
 pub record ComputesItems (o : NumericOperator) (i j : Item) (t : LogicalTree) : Type 0 where
   pub x : Lowered
   pub y : Lowered
@@ -51,7 +51,7 @@ pub record ComputesItems (o : NumericOperator) (i j : Item) (t : LogicalTree) : 
   pub left : IsNext (first_kind (i ∷ j ∷ [])) i x
   pub right : IsNext (first_kind (i ∷ j ∷ [])) j y
   pub value : ended (value_item z.operand z.tree) ≡ answers t
-  pub rows : meet_in_float x.operand y.operand ≡ false → ComputedRows o x y z
+  pub rows : goes_by_floats o x.operand y.operand ≡ false → ComputedRows o x y z
 
 -- BETWEEN, the same
 pub record BoundsItems (i low high : Item) (t : Tree) : Type 0 where

@@ -18,7 +18,6 @@ use Rattle.vortex_lowering.proofs.RowResults.{computes}
 use Rattle.vortex_logical_calls.specs.Outcomes.{Outcome, made, refused, untyped, and_then}
 use Rattle.vortex_logical_calls.specs.Calls.{Tree, Lowered, meaning, typed}
 use Rattle.vortex_logical_calls.specs.Conversions.{conversion_beside, conversion_by_two, converted}
-use Rattle.vortex_logical_calls.specs.Conversions.{meet_in_float}
 use Rattle.vortex_logical_calls.specs.Comparison.{if_met}
 use Rattle.vortex_logical_calls.specs.Computation.{of_operand, of_result, compute_met, compute_floats}
 use Rattle.vortex_logical_calls.specs.Computation.{compute_exact}

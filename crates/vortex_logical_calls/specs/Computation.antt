@@ -1,10 +1,10 @@
 -- Sums, differences, products and quotients of operands.
-use Rattle.std.specs.Prelude.{Option, Some, None, Bool, if◌then◌else◌}
+use Rattle.std.specs.Prelude.{◌&&◌, ◌||◌, Option, Some, None, Bool, true, false, if◌then◌else◌}
 use Rattle.vortex_errors.specs.declared.error.NumericOperator.{NumericOperator}
 use Rattle.vortex_errors.specs.declared.error.NumericOperator.TheVariants as numeric
-use Rattle.vortex_logical.specs.declared.kind.Kind.TheVariants.{F64}
+use Rattle.vortex_logical.specs.declared.kind.Kind.TheVariants.{Decimal, F64}
 use Rattle.vortex_logical.specs.declared.operand.Operand.{Operand}
-use Rattle.vortex_logical.specs.declared.operand.Operand.TheVariants.{Of}
+use Rattle.vortex_logical.specs.declared.operand.Operand.TheVariants.{Whole, Of}
 use Rattle.vortex_sql_floats.specs.declared.floats.FloatOperator.{FloatOperator}
 use Rattle.vortex_sql_floats.specs.declared.floats.FloatOperator.TheVariants as float
 use Rattle.vortex_standard.specs.declared.standard.Standard.TheVariants as standard
@@ -47,6 +47,25 @@ compute_exact o x y =
     and_then (converted (conversion_beside x.operand y.operand) x) (λ a.
     and_then (converted (conversion_beside y.operand x.operand) y) (λ b. compute_met o a b))
 
+abbrev pub is_decimal : Operand → Bool
+is_decimal (Of (Decimal d)) = true
+is_decimal a = false
+
+-- a decimal or a whole number
+abbrev pub is_exact : Operand → Bool
+is_exact (Whole p) = true
+is_exact a = is_decimal a
+
+-- a quotient of a decimal and a decimal or a whole number
+abbrev pub is_decimal_quotient : NumericOperator → Operand → Operand → Bool
+is_decimal_quotient numeric.Div a b =
+    (is_decimal a || is_decimal b) && (is_exact a && is_exact b)
+is_decimal_quotient o a b = false
+
+-- both become floats: next to a float, and in a quotient with a decimal
+abbrev pub goes_by_floats : NumericOperator → Operand → Operand → Bool
+goes_by_floats o a b = meet_in_float a b || is_decimal_quotient o a b
+
 abbrev pub computed : NumericOperator → Lowered → Lowered → Outcome Lowered
 computed o x y =
-    if meet_in_float x.operand y.operand then compute_floats o x y else compute_exact o x y
+    if goes_by_floats o x.operand y.operand then compute_floats o x y else compute_exact o x y

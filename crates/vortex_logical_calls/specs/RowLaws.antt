@@ -22,11 +22,10 @@ use Rattle.vortex_lowering.specs.Computing.{Computes}
 use Rattle.vortex_logical_calls.specs.Outcomes.{made}
 use Rattle.vortex_logical_calls.specs.Calls.{Tree, Lowered, meaning}
 use Rattle.vortex_logical_calls.specs.Conversions.{conversion_beside, conversion_by_two, converted}
-use Rattle.vortex_logical_calls.specs.Conversions.{meet_in_float}
 use Rattle.vortex_logical_calls.specs.Alignment.{aligned}
 use Rattle.vortex_logical_calls.specs.Comparison.{compared}
 use Rattle.vortex_logical_calls.specs.Bounds.{between}
-use Rattle.vortex_logical_calls.specs.Computation.{computed}
+use Rattle.vortex_logical_calls.specs.Computation.{computed, goes_by_floats}
 use Rattle.vortex_logical_calls.specs.Intervals.{moved_by, shifted}
 
 -- a is what x becomes next to y
@@ -65,7 +64,7 @@ BoundsGoByOrder =
     (o : BetweenOptions) (x low high : Lowered) (t : Tree) → between o x low high ≡ made t
     → BoundedRows o x low high t
 
--- a sum, a difference and a product without a float mean those of what the operands mean
+-- what does not go by floats means the sum, the difference or the product of what the operands mean
 pub record ComputedRows (o : NumericOperator) (x y z : Lowered) : Type 0 where
   pub a : Lowered
   pub b : Lowered
@@ -75,7 +74,7 @@ pub record ComputedRows (o : NumericOperator) (x y z : Lowered) : Type 0 where
 
 abbrev pub ComputationsAreExact : Type 0
 ComputationsAreExact =
-    (o : NumericOperator) (x y z : Lowered) → meet_in_float x.operand y.operand ≡ false
+    (o : NumericOperator) (x y z : Lowered) → goes_by_floats o x.operand y.operand ≡ false
     → computed o x y ≡ made z → ComputedRows o x y z
 
 -- the operand meets the common kind in that kind

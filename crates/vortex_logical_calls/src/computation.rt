@@ -115,12 +115,44 @@ fn compute_exact(
     compute_met(alloc, operator, left, right)
 }
 
+fn is_decimal(operand: &Operand) -> bool
+    ensures { result ≡ specs.is_decimal operand.now }
+{
+    matches!(operand, Operand::Of(Kind::Decimal(_)))
+}
+
+/// Whether it is a decimal or a whole number.
+fn is_exact(operand: &Operand) -> bool
+    ensures { result ≡ specs.is_exact operand.now }
+{
+    matches!(operand, Operand::Whole(_) | Operand::Of(Kind::Decimal(_)))
+}
+
+/// Whether it is a quotient of a decimal and a decimal or a whole number.
+fn is_decimal_quotient(operator: NumericOperator, left: &Operand, right: &Operand) -> bool
+    ensures { result ≡ specs.is_decimal_quotient operator left.now right.now }
+{
+    match operator {
+        NumericOperator::Div => {
+            (is_decimal(left) || is_decimal(right)) && (is_exact(left) && is_exact(right))
+        }
+        _ => false,
+    }
+}
+
+/// Whether both become floats.
+fn goes_by_floats(operator: NumericOperator, left: &Operand, right: &Operand) -> bool
+    ensures { result ≡ specs.goes_by_floats operator left.now right.now }
+{
+    meet_in_float(left, right) || is_decimal_quotient(operator, left, right)
+}
+
 /// The sum, the difference, the product or the quotient of two operands. A number next to a float is
-/// computed as a float, the nearest one; a zero divisor, an overflow and an underflow are faults. Of
-/// decimals and whole numbers, the sum and the difference have the larger scale, and the scales of a
-/// product add; E7 in rows where 64 bits do not hold it. Days are added to a date or taken from it,
-/// and the difference of two dates is their days. Fails with `NoCommonKind` exactly if the kinds do
-/// not meet: of quotients, only floats do.
+/// computed as a float, the nearest one, and so is the quotient of a decimal and a decimal or a whole
+/// number; a zero divisor, an overflow and an underflow are faults. Of decimals and whole numbers,
+/// the sum and the difference have the larger scale, and the scales of a product add; E7 in rows
+/// where 64 bits do not hold it. Days are added to a date or taken from it, and the difference of two
+/// dates is their days. Fails with `NoCommonKind` exactly if the kinds do not meet.
 pub fn compute(
     alloc: Global,
     operator: NumericOperator,
@@ -130,7 +162,7 @@ pub fn compute(
     ensures { Makes (λ x. lowered x.tree x.operand) result (specs.computed operator
         (lowered left.tree left.operand) (lowered right.tree right.operand)) }
 {
-    if meet_in_float(&left.operand, &right.operand) {
+    if goes_by_floats(operator, &left.operand, &right.operand) {
         compute_floats(alloc, operator, left, right)
     } else {
         compute_exact(alloc, operator, left, right)
