@@ -25,7 +25,7 @@ pub fn bounds_go_by_order()
     rescaling_orders();
 }
 
-/// Sums, differences and products without a float mean those of what the operands mean.
+/// Sums, differences and products that do not go by floats mean those of what the operands mean.
 #[tactic(auto, using(crate::proofs::RowMeanings::computations))]
 pub fn computations_are_exact()
     ensures { ComputationsAreExact }
