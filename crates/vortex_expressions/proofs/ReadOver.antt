@@ -34,6 +34,7 @@ use Rattle.vortex_syntax.specs.Syntax.{Syntax, operand, negative, typed, grouped
 use Rattle.vortex_syntax.specs.Syntax.{minus, tested, distinct, between, matched, listed, cast}
 use Rattle.vortex_syntax.specs.Syntax.{chosen, chosen_else, nullary, applied, Arguments}
 use Rattle.vortex_syntax.specs.Syntax.{plus, bit_not, null_tested, converted, titled, extracted}
+use Rattle.vortex_syntax.specs.Syntax.{measured}
 use Rattle.vortex_syntax.specs.Syntax.{parted, parted_for, placed, trimmed, trimmed_by}
 use Rattle.vortex_syntax.specs.Postfix.{side_of}
 use Rattle.vortex_syntax.specs.Syntax.{no_arguments, argument, Branches, without_operand}
@@ -672,6 +673,9 @@ module _ (scope : Fields) where
     item_over (titled w bs) i e =
         let m = then_is (operand_item scope (token.text bs)) (typed_item w false) i e in
         typed_over w false m.a i (operand_over (token.text bs) m.a m.first) m.second
+    item_over (measured w t u) i e =
+        let m = then_is (operand_item scope t) (typed_item u false) i e in
+        typed_over u false m.a i (operand_over t m.a m.first) m.second
     item_over (grouped a) i e = item_over a i e
     item_over (negated a) i e = let m = then_is (item_of scope a) not_item i e in
         not_over m.a i (item_over a m.a m.first) m.second

@@ -95,7 +95,8 @@ use Rattle.vortex_expressions.proofs.SureKinds.{sure_kind_item, sure_cast_to_kin
 use Rattle.vortex_expressions.proofs.SureKinds.{sure_stored_cast, sure_fraction_cast}
 use Rattle.vortex_expressions.proofs.SureKinds.{sure_text_literal}
 use Rattle.vortex_expressions.specs.KindCasts.{is_interval_name}
-use Rattle.vortex_expressions.specs.KindCasts.{interval_told, interval_item}
+use Rattle.vortex_expressions.specs.KindCasts.{interval_told, interval_item, is_unit_name}
+use Rattle.vortex_expressions.specs.KindCasts.{unit_text, unit_item}
 use Rattle.vortex_expressions.specs.Kinded.{text_literal}
 use Rattle.vortex_expressions.specs.Literals.{has_fraction}
 use Rattle.vortex_logical_calls.specs.Intervals.{interval_of}
@@ -174,6 +175,7 @@ module _ (columns : Names) (sure_columns : (w : List ℕ) → Sure IsItem (colum
       (λ v k. number_literal columns.has_kinds v)
   sure_literal (tree.typed a w n) f le = absurd (let k : ⊥ = omega (arith, le) in k)
   sure_literal (tree.titled w bs) f le = absurd (let k : ⊥ = omega (arith, le) in k)
+  sure_literal (tree.measured w t u) f le = absurd (let k : ⊥ = omega (arith, le) in k)
   sure_literal (tree.grouped a) f le = absurd (let k : ⊥ = omega (arith, le) in k)
   sure_literal (tree.negated a) f le = absurd (let k : ⊥ = omega (arith, le) in k)
   sure_literal (tree.joined o a b) f le =
@@ -225,6 +227,12 @@ module _ (columns : Names) (sure_columns : (w : List ℕ) → Sure IsItem (colum
   sure_interval_item (literals.text bs) = sure_interval (interval_of bs)
   sure_interval_item (literals.truth b) = tt
   sure_interval_item literals.null = tt
+
+  sure_unit_item : (u : List ℕ) (l : literals.Literal) → Sure IsItem (unit_item u l)
+  sure_unit_item u (literals.number w) = sure_interval (interval_of (unit_text w u))
+  sure_unit_item u (literals.text bs) = sure_interval (interval_of (unit_text bs u))
+  sure_unit_item u (literals.truth b) = tt
+  sure_unit_item u literals.null = tt
 
   -- calls of SQL's functions
   sure_function : (f : Standard) (o : Option LogicalType) (is : List Item) → AllItems is
@@ -322,8 +330,9 @@ module _ (columns : Names) (sure_columns : (w : List ℕ) → Sure IsItem (colum
       → Sure IsItem (calls.typed_plain w n i)
   sure_typed_plain w n (literal l) h =
       sure_if IsItem (is_interval_name w n) _ _ (sure_interval_item l)
+      (sure_if IsItem (is_unit_name w n) _ _ (sure_unit_item w l)
       (sure_item _ (sure_then _ IsTyped (calls.type_of_name w n) _ (sure_named w n)
-      (λ t k. sure_typed_or_cast l t)))
+      (λ t k. sure_typed_or_cast l t))))
   sure_typed_plain w n (fraction v) h = sure_typed w n (fraction v) h
   sure_typed_plain w n (interval z) h = absurd h
   sure_typed_plain w n (bound t) h = absurd h
@@ -678,6 +687,15 @@ module _ (columns : Names) (sure_columns : (w : List ℕ) → Sure IsItem (colum
         sure_then IsLiteral IsItem (calls.operand_by columns (text bs)) _
         (literal_token (text bs) refl (omega arith))
         (λ i h. sure_typed_by columns.has_kinds w false i h)
+    sure (tree.measured w (text bs) u) f =
+        sure_then IsLiteral IsItem (calls.operand_by columns (text bs)) _
+        (literal_token (text bs) refl (omega arith))
+        (λ i h. sure_typed_by columns.has_kinds u false i h)
+    sure (tree.measured w (number ds) u) f =
+        sure_then IsLiteral IsItem (calls.operand_by columns (number ds)) _
+        (literal_token (number ds) refl (omega arith))
+        (λ i h. sure_typed_by columns.has_kinds u false i h)
+    sure (tree.measured w t u) f = absurd (let k = f.1 in cc)
     sure (tree.grouped a) f = sure a f
     sure (tree.negated a) f =
         sure_then IsItem IsItem (item_by columns a) _ (sure a f.1)

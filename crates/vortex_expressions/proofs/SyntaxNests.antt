@@ -14,7 +14,7 @@ use Rattle.vortex_syntax.specs.Syntax.{minus, tested, distinct, between, matched
 use Rattle.vortex_syntax.specs.Syntax.{chosen, chosen_else, nullary, applied, Arguments}
 use Rattle.vortex_syntax.specs.Syntax.{no_arguments, argument, Branches, without_operand}
 use Rattle.vortex_syntax.specs.Syntax.{of_operand, branch, plus, bit_not, null_tested, converted, Tested}
-use Rattle.vortex_syntax.specs.Syntax.{titled, extracted, Null, True, False, Unknown}
+use Rattle.vortex_syntax.specs.Syntax.{titled, measured, extracted, Null, True, False, Unknown}
 use Rattle.vortex_syntax.specs.Syntax.{parted, parted_for, placed, trimmed, trimmed_by}
 use Rattle.vortex_syntax.specs.declared.token.TrimSide.{TrimSide}
 use Rattle.vortex_syntax.specs.Levels.{is_operand, Fits, AllFit, BranchesFit}
@@ -378,6 +378,9 @@ mutual
       ∙ nests_spelled a f.1 d (sign sign.Typed ∷ type_token w n ∷ us)
       ∙ ap (λ b. nests_behind d a && b) (type_nests w n d us)
   nests_spelled (titled w bs) f d us = refl
+  nests_spelled (measured w (token.text bs) u) f d us = refl
+  nests_spelled (measured w (token.number ds) u) f d us = refl
+  nests_spelled (measured w t u) f d us = absurd (let k = f.1 in cc)
   nests_spelled (grouped a) f d us =
       ap (λ ts. nat_lt d nesting_limit && nests_from (suc d) ts)
       (append_assoc (spelling a) (sign sign.Close ∷ []) us)

@@ -9,7 +9,7 @@ use Rattle.vortex_syntax.specs.Syntax.{minus, tested, distinct, between, matched
 use Rattle.vortex_syntax.specs.Syntax.{chosen, chosen_else, nullary, applied, Arguments}
 use Rattle.vortex_syntax.specs.Syntax.{no_arguments, argument, Branches, without_operand}
 use Rattle.vortex_syntax.specs.Syntax.{of_operand, branch, plus, bit_not, null_tested, converted}
-use Rattle.vortex_syntax.specs.Syntax.{titled, extracted, parted, parted_for, placed}
+use Rattle.vortex_syntax.specs.Syntax.{titled, measured, extracted, parted, parted_for, placed}
 use Rattle.vortex_syntax.specs.Syntax.{trimmed, trimmed_by}
 use Rattle.vortex_syntax.specs.Tokens.{text}
 use Rattle.vortex_syntax.specs.declared.step.Test.TheVariants as test
@@ -163,6 +163,10 @@ module _ (columns : Names) where
         next [] (step.operand (text bs) ∷ []) (step.typed w false ∷ []) _
         (typed_by columns.has_kinds w false) (last [] _ _ (λ st. refl))
         (λ i. last (i ∷ []) (step.typed w false) _ (λ st. refl))
+    leaves (measured w t u) =
+        next [] (step.operand t ∷ []) (step.typed u false ∷ []) _
+        (typed_by columns.has_kinds u false) (last [] _ _ (λ st. refl))
+        (λ i. last (i ∷ []) (step.typed u false) _ (λ st. refl))
     leaves (grouped a) = leaves a
     leaves (negated a) =
         next [] (postfix a) _ _ not_item (leaves a) (λ i. last (i ∷ []) _ _ (λ st. refl))

@@ -6,7 +6,7 @@ use Rattle.vortex_syntax.specs.Syntax.{minus, tested, distinct, between, matched
 use Rattle.vortex_syntax.specs.Syntax.{chosen, chosen_else, nullary, applied, Arguments}
 use Rattle.vortex_syntax.specs.Syntax.{no_arguments, argument, Branches, without_operand}
 use Rattle.vortex_syntax.specs.Syntax.{of_operand, branch, plus, bit_not, null_tested, converted}
-use Rattle.vortex_syntax.specs.Syntax.{titled, extracted, parted, parted_for, placed}
+use Rattle.vortex_syntax.specs.Syntax.{titled, measured, extracted, parted, parted_for, placed}
 use Rattle.vortex_syntax.specs.Syntax.{trimmed, trimmed_by}
 use Rattle.vortex_syntax.specs.Tokens.{text}
 use Rattle.vortex_syntax.specs.declared.step.Test.TheVariants as test
@@ -47,6 +47,8 @@ module _ (columns : Names) where
     item_by (typed a w n) = and_then (item_by a) (typed_by columns.has_kinds w n)
     item_by (titled w bs) =
         and_then (operand_by columns (text bs)) (typed_by columns.has_kinds w false)
+    item_by (measured w t u) =
+        and_then (operand_by columns t) (typed_by columns.has_kinds u false)
     item_by (grouped a) = item_by a
     item_by (negated a) = and_then (item_by a) not_item
     item_by (joined o a b) = and_then (item_by a) (λ x. and_then (item_by b) (joined_item o x))

@@ -55,6 +55,7 @@ pub use Rattle.vortex_expressions.specs.Kinded.{is_kinded, kinded_joined, kinded
 pub use Rattle.vortex_expressions.specs.Kinded.{stored_item, is_plain, stores}
 use Rattle.vortex_expressions.specs.KindCasts.{word_kind, kind_item, cast_to_kind, stored_cast}
 use Rattle.vortex_expressions.specs.KindCasts.{fraction_cast, is_interval_name, interval_item}
+use Rattle.vortex_expressions.specs.KindCasts.{is_unit_name, unit_item}
 
 -- In quotes each quote is doubled, and the second of two is skipped: the mark is true after the
 -- first.
@@ -169,9 +170,11 @@ typed_or_cast l u =
 abbrev pub typed_literal : List ℕ → Bool → literal.Literal → Outcome Item
 typed_literal w n l = as_item (and_then (type_of_name w n) (typed_or_cast l))
 
--- an interval, or a literal of the type of that name
+-- an interval, so many of a unit, or a literal of the type of that name
 abbrev pub interval_or_typed : List ℕ → Bool → literal.Literal → Outcome Item
-interval_or_typed w n l = if is_interval_name w n then interval_item l else typed_literal w n l
+interval_or_typed w n l =
+    if is_interval_name w n then interval_item l
+    else (if is_unit_name w n then unit_item w l else typed_literal w n l)
 
 abbrev pub typed_plain : List ℕ → Bool → Item → Outcome Item
 typed_plain w n (literal l) = interval_or_typed w n l

@@ -2,12 +2,14 @@
 use Rattle.std.specs.Prelude.{ℕ, ℤ, List, [], ◌∷◌, Bool, true, false, ◌||◌, Option, Some, None}
 use Rattle.std.specs.Prelude.{codes, pos, ◌++◌, if◌then◌else◌}
 use Rattle.std.specs.Fmt.{decimal}
+use Rattle.std.specs.Str.{str_to_ascii_lowercase}
 use Rattle.vortex_types.specs.declared.dtype.PType.TheVariants.{I64}
 use Rattle.vortex_types.specs.LogicalTypes.{LogicalType, integer_type, text_type}
 use Rattle.vortex_columns.specs.ScalarOf.{int_scalar}
 use Rattle.vortex_interface.specs.Trees.{constant}
 use Rattle.vortex_interface.specs.Eval.{tree_type}
 use Rattle.vortex_syntax.specs.Keywords.{same_word}
+use Rattle.vortex_syntax.specs.Levels.{is_unit}
 use Rattle.vortex_logical.specs.declared.kind.Kind.{Kind}
 use Rattle.vortex_logical.specs.declared.kind.Kind.TheVariants.{Date, Timestamp, Decimal}
 use Rattle.vortex_logical.specs.declared.kind.Kind.TheVariants.{F64, F32}
@@ -221,3 +223,15 @@ interval_told (Some z) = answers (interval (Given z))
 abbrev pub interval_item : Literal → Outcome Item
 interval_item (text bs) = interval_told (interval_of bs)
 interval_item l = refuses NotHeld
+
+-- the name of a unit is a type of intervals, too: `'3'::month` is the interval `3 month`
+abbrev pub is_unit_name : List ℕ → Bool → Bool
+is_unit_name w n = if n then false else is_unit w
+
+abbrev pub unit_text : List ℕ → List ℕ → List ℕ
+unit_text ds u = (ds ++ codes " ") ++ str_to_ascii_lowercase u
+
+abbrev pub unit_item : List ℕ → Literal → Outcome Item
+unit_item u (text bs) = interval_told (interval_of (unit_text bs u))
+unit_item u (number ds) = interval_told (interval_of (unit_text ds u))
+unit_item u l = refuses NotHeld

@@ -24,7 +24,7 @@ use Rattle.vortex_syntax.specs.Syntax.{minus, tested, distinct, between, matched
 use Rattle.vortex_syntax.specs.Syntax.{chosen, chosen_else, nullary, applied, Arguments}
 use Rattle.vortex_syntax.specs.Syntax.{no_arguments, argument, Branches, without_operand}
 use Rattle.vortex_syntax.specs.Syntax.{of_operand, branch, plus, bit_not, null_tested, converted}
-use Rattle.vortex_syntax.specs.Syntax.{titled, extracted, parted, parted_for, placed}
+use Rattle.vortex_syntax.specs.Syntax.{titled, measured, extracted, parted, parted_for, placed}
 use Rattle.vortex_syntax.specs.Syntax.{trimmed, trimmed_by}
 use Rattle.vortex_syntax.specs.Levels.{own, left, right, not_level, is_level, predicate_level}
 use Rattle.vortex_syntax.specs.Levels.{concat_level, atom_level, typed_level, literal_level}
@@ -72,6 +72,7 @@ abbrev mutual
   nests_behind d (bit_not a) = nests_behind d a
   nests_behind d (typed a w n) = nests_behind d a
   nests_behind d (titled w bs) = true
+  nests_behind d (measured w t u) = true
   nests_behind d (grouped a) = nat_lt d nesting_limit && nests_behind (suc d) a
   nests_behind d (negated a) = nests_behind d a
   nests_behind d (joined o a b) = nests_behind d a && nests_behind d b

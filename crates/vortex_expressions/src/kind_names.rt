@@ -1,5 +1,6 @@
 //! Kinds by name, and literals of them.
-ghost use Rattle.std.specs.Prelude.{◌≡◌};
+ghost use Rattle.std.specs.Prelude.{◌≡◌, IfOk};
+ghost use Rattle.vortex_logical_calls.specs.Intervals.{interval_of};
 ghost use Rattle.vortex_syntax.specs.SizeDigits.{sizes_of};
 ghost use Rattle.vortex_logical.specs.Kinds.{digit_of, teen_of};
 ghost use Rattle.vortex_types.specs.TypeOf.{type_of};
@@ -18,13 +19,14 @@ use crate::kinded::{null_literal, text_literal, value_item};
 use crate::literal::Literal;
 use crate::quotes::text_of;
 use crate::refusal::{BindStop, Refusal};
-use std::alloc::Global;
+use std::alloc::{AllocError, Global};
 use vortex_columns::DType;
 use vortex_functions::BoundExpression;
 use vortex_logical::digits::DecimalDigits;
 use vortex_logical::kind::Kind;
-use vortex_logical_calls::{Lowered, interval_of};
+use vortex_logical_calls::{Interval, Lowered, interval_of};
 use vortex_standard::Standard;
+use vortex_syntax::levels::is_unit;
 use vortex_syntax::{sizes_of, text_size_of};
 
 /// Whether a list of kinds is given.
@@ -150,6 +152,16 @@ pub(crate) fn kind_item(alloc: Global, kind: Kind, literal: &Literal) -> Result<
     Ok(value_item(kind_literal(alloc, kind, literal)?))
 }
 
+/// An interval, if there is one.
+fn interval_told(interval: Option<Interval>) -> Result<Item, BindStop>
+    ensures { Gives item_in result (specs.interval_told interval) }
+{
+    match interval {
+        Some(interval) => Ok(Item::Interval(Timespan::Given(interval))),
+        None => Err(BindStop::Refused(Refusal::NotHeld)),
+    }
+}
+
 /// The interval of a text.
 fn interval_item(literal: &Literal) -> Result<Item, BindStop>
     ensures { Gives item_in result (specs.interval_item (literal_in literal.now)) }
@@ -157,10 +169,46 @@ fn interval_item(literal: &Literal) -> Result<Item, BindStop>
     let Literal::Text(text) = literal else {
         return Err(BindStop::Refused(Refusal::NotHeld));
     };
-    match interval_of(text.as_bytes()) {
-        Some(interval) => Ok(Item::Interval(Timespan::Given(interval))),
-        None => Err(BindStop::Refused(Refusal::NotHeld)),
+    interval_told(interval_of(text.as_bytes()))
+}
+
+/// So many of a unit, in lower case.
+fn unit_text(alloc: Global, number: &[u8], unit: &[u8]) -> Result<Vec<u8>, AllocError>
+    ensures { IfOk result (λ text. text.items ≡ specs.unit_text number.now unit.now) }
+{
+    let unit = unit.to_ascii_lowercase(alloc)?;
+    let mut text = Vec::new(alloc);
+    text.extend_from_slice(number)?;
+    text.extend_from_slice(b" ")?;
+    text.extend_from_slice(&unit)?;
+    Ok(text)
+}
+
+/// The interval of so many of a unit.
+fn unit_interval(alloc: Global, number: &[u8], unit: &[u8]) -> Result<Item, BindStop>
+    ensures { Gives item_in result
+        (specs.interval_told (interval_of (specs.unit_text number.now unit.now))) }
+{
+    let text = unit_text(alloc, number, unit)?;
+    interval_told(interval_of(&text))
+}
+
+/// The interval of a number, or of a text, and a unit.
+fn unit_item(alloc: Global, unit: &[u8], literal: &Literal) -> Result<Item, BindStop>
+    ensures { Gives item_in result (specs.unit_item unit.now (literal_in literal.now)) }
+{
+    match literal {
+        Literal::Number(number) => unit_interval(alloc, number.as_bytes(), unit),
+        Literal::Text(text) => unit_interval(alloc, text.as_bytes(), unit),
+        _ => Err(BindStop::Refused(Refusal::NotHeld)),
     }
+}
+
+/// Whether a unit has that name.
+fn is_unit_name(name: &[u8], is_nullable: bool) -> bool
+    ensures { result ≡ specs.is_unit_name name.now is_nullable }
+{
+    !is_nullable && is_unit(name)
 }
 
 /// Whether intervals have that name.
@@ -209,6 +257,8 @@ fn interval_or_typed(
 {
     if is_interval_name(name, is_nullable) {
         interval_item(&literal)
+    } else if is_unit_name(name, is_nullable) {
+        unit_item(alloc, name, &literal)
     } else {
         typed_literal(alloc, name, is_nullable, literal)
     }
