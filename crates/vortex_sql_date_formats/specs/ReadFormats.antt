@@ -1,7 +1,7 @@
 -- Texts as their formats read them.
 use Rattle.std.specs.Prelude.{ℕ, [], ◌∷◌, ◌==◌, Bool, true, false, List, Option, Some, None}
 use Rattle.std.specs.Prelude.{codes, if◌then◌else◌, nat_eq, option_and_then}
-use Rattle.std.specs.Char.{to_ascii_lowercase}
+use Rattle.std.specs.Char.{is_ascii_digit, to_ascii_lowercase}
 use Rattle.std.specs.List.{starts_with}
 use Rattle.std.specs.Option.{option_map, option_or}
 use Rattle.vortex_sql_date_formats.specs.declared.fields.Fields.{Fields}
@@ -10,11 +10,12 @@ use Rattle.vortex_sql_date_formats.specs.declared.formats.FormatItem.TheVariants
 use Rattle.vortex_sql_date_formats.specs.Fields.{filled}
 use Rattle.vortex_sql_date_formats.specs.ReadDigits.{fraction_of, number_of}
 
+-- a digit in double quotes counts as one
 abbrev pub is_number : FormatItem → Bool
 is_number item.MonthName = false
 is_number item.UpperMonthName = false
 is_number item.LowerMonthName = false
-is_number (item.Literal b) = false
+is_number (item.Literal b) = is_ascii_digit b
 is_number item.Unknown = false
 is_number i = true
 

@@ -72,9 +72,11 @@ fn planned(format: &[u8]) -> Option<Fields>
     ensures { result ≡ specs.planned (items_of format.now) specs.no_fields }
 {
     let mut fields = no_fields();
+    let mut is_quoted = false;
     let mut rest = format;
-    while let Some((item, after)) = next_item(rest) {
+    while let Some((item, quoted, after)) = next_item(is_quoted, rest) {
         fields = filled(fields, item, 0)?;
+        is_quoted = quoted;
         rest = after;
     }
     Some(fields)

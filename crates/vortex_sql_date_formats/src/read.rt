@@ -2,32 +2,35 @@
 ghost use Rattle.std.specs.Prelude.{◌≡◌};
 ghost use Rattle.std.specs.Option.{option_map};
 ghost use Rattle.vortex_sql_date_formats.specs.Fields.{no_fields};
-ghost use Rattle.vortex_sql_date_formats.specs.Formats.{items_of};
+ghost use Rattle.vortex_sql_date_formats.specs.Formats.{items_from, items_of};
 ghost use Rattle.vortex_sql_date_formats.specs.ReadFormats as specs;
 
 use crate::digits::{fraction_of, number_of};
 use crate::fields::{Fields, filled, no_fields};
 use crate::formats::{FormatItem, next_item};
 
+/// Whether an item is a number, or a digit that stands for itself.
 fn is_number(item: FormatItem) -> bool
     ensures { result ≡ specs.is_number item }
 {
-    !matches!(
-        item,
-        FormatItem::MonthName
-            | FormatItem::UpperMonthName
-            | FormatItem::LowerMonthName
-            | FormatItem::Literal(_)
-            | FormatItem::Unknown
-    )
+    match item {
+        FormatItem::Literal(byte) => byte.is_ascii_digit(),
+        _ => !matches!(
+            item,
+            FormatItem::MonthName
+                | FormatItem::UpperMonthName
+                | FormatItem::LowerMonthName
+                | FormatItem::Unknown
+        ),
+    }
 }
 
 /// Whether the first item of a format is a number.
-fn begins_number(format: &[u8]) -> bool
-    ensures { result ≡ specs.begins_number (items_of format.now) }
+fn begins_number(is_quoted: bool, format: &[u8]) -> bool
+    ensures { result ≡ specs.begins_number (items_from is_quoted format.now) }
 {
-    match next_item(format) {
-        Some((item, _)) => is_number(item),
+    match next_item(is_quoted, format) {
+        Some((item, _, _)) => is_number(item),
         None => false,
     }
 }
@@ -143,11 +146,13 @@ pub(crate) fn read_fields(format: &[u8], text: &[u8]) -> Option<Fields>
     ensures { result ≡ specs.read_items (items_of format.now) text.now no_fields }
 {
     let mut fields = no_fields();
+    let mut is_quoted = false;
     let mut items = format;
     let mut rest = text;
-    while let Some((item, after)) = next_item(items) {
-        let (number, unread) = item_number(item, begins_number(after), rest)?;
+    while let Some((item, quoted, after)) = next_item(is_quoted, items) {
+        let (number, unread) = item_number(item, begins_number(quoted, after), rest)?;
         fields = filled(fields, item, number)?;
+        is_quoted = quoted;
         items = after;
         rest = unread;
     }
