@@ -18,10 +18,13 @@ is_literal b = not (is_ascii_alphanumeric b || (b == 34) || (b == 92))
 abbrev pub literal : ℕ → FormatItem
 literal b = if is_literal b then item.Literal b else item.Unknown
 
--- the item whose word a format begins with, and how many bytes that has
+-- the item whose word a format begins with, and how many bytes that has; three Y that are not four
+-- are a word of PostgreSQL that is not taken
 abbrev pub date_word : List ℕ → Option (FormatItem × ℕ)
 date_word bs =
     if begins bs (codes "YYYY") (codes "yyyy") then Some (item.Year, 4)
+    else if begins bs (codes "YYY") (codes "yyy") then Some (item.Unknown, 3)
+    else if begins bs (codes "YY") (codes "yy") then Some (item.ShortYear, 2)
     else if begins bs (codes "MM") (codes "mm") then Some (item.Month, 2)
     else if begins bs (codes "DDD") (codes "ddd") then Some (item.DayOfYear, 3)
     else if begins bs (codes "DD") (codes "dd") then Some (item.Day, 2)

@@ -50,6 +50,7 @@ pub(crate) fn filled(old: Fields, item: FormatItem, number: u32) -> Option<Field
     let new = Some(number);
     match item {
         FormatItem::Year => unless_filled(old.year, Fields { year: new, ..old }),
+        FormatItem::ShortYear => unless_filled(old.year, Fields { year: new, ..old }),
         FormatItem::Month => unless_filled(old.month, Fields { month: new, ..old }),
         FormatItem::MonthName => unless_filled(old.month, Fields { month: new, ..old }),
         FormatItem::UpperMonthName => unless_filled(old.month, Fields { month: new, ..old }),

@@ -8,6 +8,8 @@ ghost use Rattle.vortex_sql_date_formats.specs.Formats as specs;
 pub enum FormatItem {
     /// `YYYY`: the year, four digits.
     Year,
+    /// `YY`: the last two digits of the year.
+    ShortYear,
     /// `MM`: the month, two digits.
     Month,
     /// `Mon`: the first three letters of the month's English name, as `Feb`.
@@ -72,6 +74,10 @@ fn date_word(format: &[u8]) -> Option<(FormatItem, usize)>
 {
     if begins(format, b"YYYY", b"yyyy") {
         Some((FormatItem::Year, 4))
+    } else if begins(format, b"YYY", b"yyy") {
+        Some((FormatItem::Unknown, 3))
+    } else if begins(format, b"YY", b"yy") {
+        Some((FormatItem::ShortYear, 2))
     } else if begins(format, b"MM", b"mm") {
         Some((FormatItem::Month, 2))
     } else if begins(format, b"DDD", b"ddd") {

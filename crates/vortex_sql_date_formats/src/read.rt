@@ -1,5 +1,5 @@
 //! Texts as their formats read them.
-ghost use Rattle.std.specs.Prelude.{◌≡◌};
+ghost use Rattle.std.specs.Prelude.{◌≡◌, ◌≤◌};
 ghost use Rattle.std.specs.Option.{option_map};
 ghost use Rattle.vortex_sql_date_formats.specs.Fields.{no_fields};
 ghost use Rattle.vortex_sql_date_formats.specs.Formats.{items_from, items_of};
@@ -117,6 +117,26 @@ fn named_month(text: &[u8]) -> Option<(u32, &[u8])>
     }
 }
 
+/// The year nearest to 2020 with these last two digits, the earlier one of two.
+fn near_year(digits: u32) -> u32
+    requires { digits ≤ 1000000 }
+    ensures { result ≡ specs.near_year digits }
+{
+    if digits <= 69 {
+        2000 + digits
+    } else {
+        1900 + digits
+    }
+}
+
+/// The year of the two digits that a text begins with, and the text after them.
+fn short_year(text: &[u8]) -> Option<(u32, &[u8])>
+    ensures { option_map (λ p. (p.0, p.1.now)) result ≡ specs.short_year text.now }
+{
+    let (digits, rest) = number_of(2, 2, text)?;
+    Some((near_year(digits), rest))
+}
+
 /// The number that a text has for an item, and the text after it.
 fn item_number(item: FormatItem, is_full: bool, text: &[u8]) -> Option<(u32, &[u8])>
     ensures { option_map (λ p. (p.0, p.1.now)) result
@@ -124,6 +144,7 @@ fn item_number(item: FormatItem, is_full: bool, text: &[u8]) -> Option<(u32, &[u
 {
     match item {
         FormatItem::Year => number_of(4, 4, text),
+        FormatItem::ShortYear => short_year(text),
         FormatItem::Month => number_of(least(is_full, 2), 2, text),
         FormatItem::Day => number_of(least(is_full, 2), 2, text),
         FormatItem::Hour => number_of(least(is_full, 2), 2, text),

@@ -29,7 +29,10 @@ fn is_fault(answer: VortexResult<Cell<'_>>, expected: u64) -> bool {
 
 #[test]
 fn dates_have_these_texts(rt: HostRuntime) {
-    let rows: [(i128, &str, &str); 16] = [
+    let rows: [(i128, &str, &str); 19] = [
+        (19782, "DD-Mon-YY", "29-Feb-24"),
+        (-719162, "YY yy YYYYYY", "01 01 000101"),
+        (-25508, "YYMMDD", "000301"),
         (19782, "YYYY \"Q\"Q", "2024 Q1"),
         (19782, "\"at\" HH24", "at 00"),
         (19782, "\"YYYY\"YYYY\"\"MM\"年, T\"", "YYYY202402年, T"),
@@ -94,7 +97,8 @@ fn formats_that_are_not_taken_are_faults(rt: HostRuntime) {
         let cells = [Cell::Int(0), Cell::Text(format)];
         assert!(rt; DateToChar.make(rt.alloc(), PType::I32, &cells).is_err());
     }
-    let readings: [&str; 7] = [
+    let readings: [&str; 8] = [
+        "YYYY YY",
         "DD/MM",
         "YYYY DDD",
         "YYYY Q",
@@ -112,7 +116,12 @@ fn formats_that_are_not_taken_are_faults(rt: HostRuntime) {
 
 #[test]
 fn texts_are_dates(rt: HostRuntime) {
-    let rows: [(&str, &str, i128); 11] = [
+    let rows: [(&str, &str, i128); 16] = [
+        ("19-Sep-03", "DD-Mon-YY", 12314),
+        ("690101", "YYMMDD", 36160),
+        ("12/31/70", "MM/DD/YY", 364),
+        ("00", "YY", 10957),
+        ("99-1", "yy-mm", 10592),
         ("day 5 of 2024", "\"day \"DD\" of \"YYYY", 19727),
         ("15022024", "DD\"02\"YYYY", 19737),
         ("2024年3月", "YYYY\"年\"MM\"月\"", 19783),
@@ -166,7 +175,9 @@ fn texts_are_timestamps(rt: HostRuntime) {
 
 #[test]
 fn other_texts_are_faults(rt: HostRuntime) {
-    let rows: [(&str, &str); 14] = [
+    let rows: [(&str, &str); 16] = [
+        ("3-01-01", "YY-MM-DD"),
+        ("2003-01-01", "YY-MM-DD"),
         ("2024 R1", "YYYY \"Q1\""),
         ("5022024", "DD\"02\"YYYY"),
         ("2023-02-29", "YYYY-MM-DD"),

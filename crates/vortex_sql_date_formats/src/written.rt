@@ -81,6 +81,7 @@ fn push_item(item: FormatItem, at: CivilTime, out: &mut Vec<u8>) -> Result<(), A
 {
     match item {
         FormatItem::Year => push_digits(u64::from(at.year), 4, out),
+        FormatItem::ShortYear => push_digits(u64::from(at.year), 2, out),
         FormatItem::Month => push_digits(u64::from(at.month), 2, out),
         FormatItem::MonthName => {
             out.extend_from_slice(month_name(at.month).as_bytes())?;
