@@ -189,7 +189,7 @@ fn after_quotes(is_quoted: bool, format: &[u8]) -> (bool, &[u8])
 pub(crate) fn next_item(is_quoted: bool, format: &[u8]) -> Option<(FormatItem, bool, &[u8])>
     ensures items { MatchOption result (specs.items_from is_quoted format.now ≡ [])
         (λ p. specs.items_from is_quoted format.now
-            ≡ p.0 ∷ specs.items_from p.1 p.2.now) }
+        ≡ p.0 ∷ specs.items_from p.1 p.2.now) }
     ensures fewer { IfSome result (λ p. specs.items_bound p.1 p.2.now
         < specs.items_bound is_quoted format.now) }
 {

@@ -1,4 +1,4 @@
-use Rattle.std.proofs.Common.{◌≡◌, ◌∙◌, ◌≤◌, get_or, arith, rules, sym}
+use Rattle.std.proofs.Common.{◌≡◌, ◌∙◌, get_or, arith, rules, sym}
 use Rattle.std.specs.Prelude.{not}
 use Rattle.vortex_sql_date_formats.proofs.ItemLemmas.{fewer_passed, quote_passed}
 use Rattle.vortex_sql_date_formats.proofs.formats.after_quotes.Goals as goal
