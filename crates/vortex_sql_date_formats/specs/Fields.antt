@@ -25,6 +25,7 @@ unless_filled (Some n) f = None
 -- the fields with the number of an item; some items are only written
 abbrev pub filled : FormatItem → ℕ → Fields → Option Fields
 filled item.Year n f = unless_filled f.year (record f { year = Some n })
+filled item.ShortYear n f = unless_filled f.year (record f { year = Some n })
 filled item.Month n f = unless_filled f.month (record f { month = Some n })
 filled item.MonthName n f = unless_filled f.month (record f { month = Some n })
 filled item.UpperMonthName n f = unless_filled f.month (record f { month = Some n })

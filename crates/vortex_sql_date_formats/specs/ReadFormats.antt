@@ -1,7 +1,7 @@
 -- Texts as their formats read them.
-use Rattle.std.specs.Prelude.{ℕ, [], ◌∷◌, ◌==◌, Bool, true, false, List, Option, Some, None}
-use Rattle.std.specs.Prelude.{codes, if◌then◌else◌, nat_eq, option_and_then}
-use Rattle.std.specs.Char.{to_ascii_lowercase}
+use Rattle.std.specs.Prelude.{◌+◌, ◌∷◌, ◌==◌, ℕ, [], Bool, true, false, List, Option, Some, None}
+use Rattle.std.specs.Prelude.{codes, if◌then◌else◌, nat_eq, nat_le, option_and_then}
+use Rattle.std.specs.Char.{is_ascii_digit, to_ascii_lowercase}
 use Rattle.std.specs.List.{starts_with}
 use Rattle.std.specs.Option.{option_map, option_or}
 use Rattle.vortex_sql_date_formats.specs.declared.fields.Fields.{Fields}
@@ -10,11 +10,12 @@ use Rattle.vortex_sql_date_formats.specs.declared.formats.FormatItem.TheVariants
 use Rattle.vortex_sql_date_formats.specs.Fields.{filled}
 use Rattle.vortex_sql_date_formats.specs.ReadDigits.{fraction_of, number_of}
 
+-- a digit in double quotes counts as one
 abbrev pub is_number : FormatItem → Bool
 is_number item.MonthName = false
 is_number item.UpperMonthName = false
 is_number item.LowerMonthName = false
-is_number (item.Literal b) = false
+is_number (item.Literal b) = is_ascii_digit b
 is_number item.Unknown = false
 is_number i = true
 
@@ -61,9 +62,17 @@ abbrev pub named_month : List ℕ → Option (ℕ × List ℕ)
 named_month (a ∷ b ∷ c ∷ bs) = option_map (λ m. (m, bs)) (month_of a b c)
 named_month bs = None
 
+-- the year nearest to 2020 with these last two digits, the earlier one of two
+abbrev pub near_year : ℕ → ℕ
+near_year n = if nat_le n 69 then 2000 + n else 1900 + n
+
+abbrev pub short_year : List ℕ → Option (ℕ × List ℕ)
+short_year bs = option_map (λ p. (near_year p.0, p.1)) (number_of 2 2 bs)
+
 -- the number that a text has for an item, and the text after it
 abbrev pub item_number : FormatItem → Bool → List ℕ → Option (ℕ × List ℕ)
 item_number item.Year full bs = number_of 4 4 bs
+item_number item.ShortYear full bs = short_year bs
 item_number item.Month full bs = number_of (least full 2) 2 bs
 item_number item.MonthName full bs = named_month bs
 item_number item.UpperMonthName full bs = named_month bs

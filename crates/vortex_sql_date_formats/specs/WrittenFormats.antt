@@ -28,6 +28,7 @@ month_name m =
 -- what an item writes: so many digits of a number, or letters
 abbrev pub item_text : CivilTime → FormatItem → List ℕ
 item_text c item.Year = last_digits 4 c.year
+item_text c item.ShortYear = last_digits 2 c.year
 item_text c item.Month = last_digits 2 c.month
 item_text c item.MonthName = month_name c.month
 item_text c item.UpperMonthName = map to_ascii_uppercase (month_name c.month)

@@ -29,7 +29,9 @@ fn digits_from(width: u8, text: &[u8]) -> (u32, u8, &[u8])
 /// after them.
 pub(crate) fn number_of(least: u8, width: u8, text: &[u8]) -> Option<(u32, &[u8])>
     requires { (least ≤ 6) × (width ≤ 6) }
-    ensures { option_map (λ p. (p.0, p.1.now)) result ≡ specs.number_of least width text.now }
+    ensures value { option_map (λ p. (p.0, p.1.now)) result
+        ≡ specs.number_of least width text.now }
+    ensures few { IfSome result (λ p. p.0 ≤ 1000000) }
 {
     let (number, left, rest) = digits_from(width, text);
     if least + left <= width {

@@ -50,6 +50,7 @@ pub(crate) fn filled(old: Fields, item: FormatItem, number: u32) -> Option<Field
     let new = Some(number);
     match item {
         FormatItem::Year => unless_filled(old.year, Fields { year: new, ..old }),
+        FormatItem::ShortYear => unless_filled(old.year, Fields { year: new, ..old }),
         FormatItem::Month => unless_filled(old.month, Fields { month: new, ..old }),
         FormatItem::MonthName => unless_filled(old.month, Fields { month: new, ..old }),
         FormatItem::UpperMonthName => unless_filled(old.month, Fields { month: new, ..old }),
@@ -72,9 +73,11 @@ fn planned(format: &[u8]) -> Option<Fields>
     ensures { result ≡ specs.planned (items_of format.now) specs.no_fields }
 {
     let mut fields = no_fields();
+    let mut is_quoted = false;
     let mut rest = format;
-    while let Some((item, after)) = next_item(rest) {
+    while let Some((item, quoted, after)) = next_item(is_quoted, rest) {
         fields = filled(fields, item, 0)?;
+        is_quoted = quoted;
         rest = after;
     }
     Some(fields)

@@ -1,5 +1,6 @@
 //! Formats of dates and timestamps: the items that they are made of.
-ghost use Rattle.std.specs.Prelude.{◌≡◌, ◌∷◌, ◌<◌, ◌≤◌, ◌⊎◌, [], IfSome, IsTrue, MatchOption, length};
+ghost use Rattle.std.specs.Prelude.{◌≡◌, ◌∷◌, ◌<◌, ◌≤◌, ◌⊎◌, [], false, IfSome, IsTrue, MatchOption};
+ghost use Rattle.std.specs.Prelude.{length};
 ghost use Rattle.vortex_sql_date_formats.specs.Formats as specs;
 
 /// An item of a format.
@@ -7,6 +8,8 @@ ghost use Rattle.vortex_sql_date_formats.specs.Formats as specs;
 pub enum FormatItem {
     /// `YYYY`: the year, four digits.
     Year,
+    /// `YY`: the last two digits of the year.
+    ShortYear,
     /// `MM`: the month, two digits.
     Month,
     /// `Mon`: the first three letters of the month's English name, as `Feb`.
@@ -31,7 +34,7 @@ pub enum FormatItem {
     Millisecond,
     /// `US`: the millionths of the second, six digits.
     Microsecond,
-    /// A byte that stands for itself.
+    /// A byte that stands for itself, in double quotes or not.
     Literal(u8),
     /// What is no item that is known.
     Unknown,
@@ -71,6 +74,10 @@ fn date_word(format: &[u8]) -> Option<(FormatItem, usize)>
 {
     if begins(format, b"YYYY", b"yyyy") {
         Some((FormatItem::Year, 4))
+    } else if begins(format, b"YYY", b"yyy") {
+        Some((FormatItem::Unknown, 3))
+    } else if begins(format, b"YY", b"yy") {
+        Some((FormatItem::ShortYear, 2))
     } else if begins(format, b"MM", b"mm") {
         Some((FormatItem::Month, 2))
     } else if begins(format, b"DDD", b"ddd") {
@@ -117,8 +124,6 @@ fn time_word(format: &[u8]) -> Option<(FormatItem, usize)>
         Some((FormatItem::Millisecond, 2))
     } else if begins(format, b"US", b"us") {
         Some((FormatItem::Microsecond, 2))
-    } else if format.starts_with(b"\"T\"") {
-        Some((FormatItem::Literal(b'T'), 3))
     } else {
         None
     }
@@ -134,10 +139,12 @@ fn word(format: &[u8]) -> Option<(FormatItem, usize)>
         .or(time_word(format))
 }
 
-/// The first item of a format and the format after it; none at its end.
-pub(crate) fn next_item(format: &[u8]) -> Option<(FormatItem, &[u8])>
-    ensures items { MatchOption result (specs.items_of format.now ≡ [])
-        (λ p. specs.items_of format.now ≡ p.0 ∷ specs.items_of p.1.now) }
+/// The first item of a format that begins with no double quote, outside of them, and the format
+/// after it.
+fn plain_item(format: &[u8]) -> Option<(FormatItem, &[u8])>
+    requires { specs.begins_quote format.now ≡ false }
+    ensures items { MatchOption result (specs.items_from false format.now ≡ [])
+        (λ p. specs.items_from false format.now ≡ p.0 ∷ specs.items_from false p.1.now) }
     ensures shorter { IfSome result (λ p. length p.1.now < length format.now) }
 {
     match word(format) {
@@ -146,5 +153,53 @@ pub(crate) fn next_item(format: &[u8]) -> Option<(FormatItem, &[u8])>
             [byte, rest @ ..] => Some((literal(*byte), rest)),
             [] => None,
         },
+    }
+}
+
+/// The item of a byte in double quotes: itself, but no backslash.
+fn quoted(byte: u8) -> FormatItem
+    ensures { result ≡ specs.quoted byte }
+{
+    if byte == b'\\' {
+        FormatItem::Unknown
+    } else {
+        FormatItem::Literal(byte)
+    }
+}
+
+/// The format after the double quotes that it begins with, and whether it goes on within such.
+fn after_quotes(is_quoted: bool, format: &[u8]) -> (bool, &[u8])
+    ensures items { specs.items_from result.0 result.1.now
+        ≡ specs.items_from is_quoted format.now }
+    ensures no_more { specs.begins_quote result.1.now ≡ false }
+    ensures bound { specs.items_bound result.0 result.1.now
+        ≤ specs.items_bound is_quoted format.now }
+{
+    let mut within = is_quoted;
+    let mut rest = format;
+    while let [b'"', after @ ..] = rest {
+        within = !within;
+        rest = after;
+    }
+    (within, rest)
+}
+
+/// The first item of a format, whether the format after it begins within double quotes, and that
+/// format; none at its end. Double quotes without an end are an item that is not known.
+pub(crate) fn next_item(is_quoted: bool, format: &[u8]) -> Option<(FormatItem, bool, &[u8])>
+    ensures items { MatchOption result (specs.items_from is_quoted format.now ≡ [])
+        (λ p. specs.items_from is_quoted format.now
+        ≡ p.0 ∷ specs.items_from p.1 p.2.now) }
+    ensures fewer { IfSome result (λ p. specs.items_bound p.1 p.2.now
+        < specs.items_bound is_quoted format.now) }
+{
+    let (within, rest) = after_quotes(is_quoted, format);
+    if !within {
+        let (item, after) = plain_item(rest)?;
+        return Some((item, false, after));
+    }
+    match rest {
+        [byte, after @ ..] => Some((quoted(*byte), true, after)),
+        [] => Some((FormatItem::Unknown, false, rest)),
     }
 }

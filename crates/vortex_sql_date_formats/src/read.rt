@@ -1,33 +1,36 @@
 //! Texts as their formats read them.
-ghost use Rattle.std.specs.Prelude.{◌≡◌};
+ghost use Rattle.std.specs.Prelude.{◌≡◌, ◌≤◌};
 ghost use Rattle.std.specs.Option.{option_map};
 ghost use Rattle.vortex_sql_date_formats.specs.Fields.{no_fields};
-ghost use Rattle.vortex_sql_date_formats.specs.Formats.{items_of};
+ghost use Rattle.vortex_sql_date_formats.specs.Formats.{items_from, items_of};
 ghost use Rattle.vortex_sql_date_formats.specs.ReadFormats as specs;
 
 use crate::digits::{fraction_of, number_of};
 use crate::fields::{Fields, filled, no_fields};
 use crate::formats::{FormatItem, next_item};
 
+/// Whether an item is a number, or a digit that stands for itself.
 fn is_number(item: FormatItem) -> bool
     ensures { result ≡ specs.is_number item }
 {
-    !matches!(
-        item,
-        FormatItem::MonthName
-            | FormatItem::UpperMonthName
-            | FormatItem::LowerMonthName
-            | FormatItem::Literal(_)
-            | FormatItem::Unknown
-    )
+    match item {
+        FormatItem::Literal(byte) => byte.is_ascii_digit(),
+        _ => !matches!(
+            item,
+            FormatItem::MonthName
+                | FormatItem::UpperMonthName
+                | FormatItem::LowerMonthName
+                | FormatItem::Unknown
+        ),
+    }
 }
 
 /// Whether the first item of a format is a number.
-fn begins_number(format: &[u8]) -> bool
-    ensures { result ≡ specs.begins_number (items_of format.now) }
+fn begins_number(is_quoted: bool, format: &[u8]) -> bool
+    ensures { result ≡ specs.begins_number (items_from is_quoted format.now) }
 {
-    match next_item(format) {
-        Some((item, _)) => is_number(item),
+    match next_item(is_quoted, format) {
+        Some((item, _, _)) => is_number(item),
         None => false,
     }
 }
@@ -114,6 +117,26 @@ fn named_month(text: &[u8]) -> Option<(u32, &[u8])>
     }
 }
 
+/// The year nearest to 2020 with these last two digits, the earlier one of two.
+fn near_year(digits: u32) -> u32
+    requires { digits ≤ 1000000 }
+    ensures { result ≡ specs.near_year digits }
+{
+    if digits <= 69 {
+        2000 + digits
+    } else {
+        1900 + digits
+    }
+}
+
+/// The year of the two digits that a text begins with, and the text after them.
+fn short_year(text: &[u8]) -> Option<(u32, &[u8])>
+    ensures { option_map (λ p. (p.0, p.1.now)) result ≡ specs.short_year text.now }
+{
+    let (digits, rest) = number_of(2, 2, text)?;
+    Some((near_year(digits), rest))
+}
+
 /// The number that a text has for an item, and the text after it.
 fn item_number(item: FormatItem, is_full: bool, text: &[u8]) -> Option<(u32, &[u8])>
     ensures { option_map (λ p. (p.0, p.1.now)) result
@@ -121,6 +144,7 @@ fn item_number(item: FormatItem, is_full: bool, text: &[u8]) -> Option<(u32, &[u
 {
     match item {
         FormatItem::Year => number_of(4, 4, text),
+        FormatItem::ShortYear => short_year(text),
         FormatItem::Month => number_of(least(is_full, 2), 2, text),
         FormatItem::Day => number_of(least(is_full, 2), 2, text),
         FormatItem::Hour => number_of(least(is_full, 2), 2, text),
@@ -143,11 +167,13 @@ pub(crate) fn read_fields(format: &[u8], text: &[u8]) -> Option<Fields>
     ensures { result ≡ specs.read_items (items_of format.now) text.now no_fields }
 {
     let mut fields = no_fields();
+    let mut is_quoted = false;
     let mut items = format;
     let mut rest = text;
-    while let Some((item, after)) = next_item(items) {
-        let (number, unread) = item_number(item, begins_number(after), rest)?;
+    while let Some((item, quoted, after)) = next_item(is_quoted, items) {
+        let (number, unread) = item_number(item, begins_number(quoted, after), rest)?;
         fields = filled(fields, item, number)?;
+        is_quoted = quoted;
         items = after;
         rest = unread;
     }

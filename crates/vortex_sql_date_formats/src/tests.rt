@@ -1,4 +1,4 @@
-//! Rows beside what PostgreSQL 15 returned for them on 30 November 2026.
+//! Rows beside what PostgreSQL 15 returned for them on 30 November and 1 December 2026.
 
 use crate::faults::{OTHER_FORMAT, UNKNOWN_FORMAT};
 use crate::from_texts::{TextToDateBy, TextToTimestampBy};
@@ -29,7 +29,14 @@ fn is_fault(answer: VortexResult<Cell<'_>>, expected: u64) -> bool {
 
 #[test]
 fn dates_have_these_texts(rt: HostRuntime) {
-    let rows: [(i128, &str, &str); 12] = [
+    let rows: [(i128, &str, &str); 19] = [
+        (19782, "DD-Mon-YY", "29-Feb-24"),
+        (-719162, "YY yy YYYYYY", "01 01 000101"),
+        (-25508, "YYMMDD", "000301"),
+        (19782, "YYYY \"Q\"Q", "2024 Q1"),
+        (19782, "\"at\" HH24", "at 00"),
+        (19782, "\"YYYY\"YYYY\"\"MM\"年, T\"", "YYYY202402年, T"),
+        (19782, "\"\"", ""),
         (19782, "YYYY-MM-DD", "2024-02-29"),
         (-719162, "YYYY-MM-DD", "0001-01-01"),
         (2932896, "YYYY-MM-DD", "9999-12-31"),
@@ -73,7 +80,7 @@ fn timestamps_have_these_texts(rt: HostRuntime) {
 
 #[test]
 fn formats_that_are_not_taken_are_faults(rt: HostRuntime) {
-    let formats: [&str; 9] = [
+    let formats: [&str; 11] = [
         "",
         "YYY",
         "Yyyy",
@@ -81,14 +88,17 @@ fn formats_that_are_not_taken_are_faults(rt: HostRuntime) {
         "Month",
         "FMDD",
         "DDth",
-        "\"at\" HH24",
+        "YYYY \"at",
+        "YYYY \"",
+        "YYYY \"a\\b\"",
         "\\\"T\"",
     ];
     for format in formats {
         let cells = [Cell::Int(0), Cell::Text(format)];
         assert!(rt; DateToChar.make(rt.alloc(), PType::I32, &cells).is_err());
     }
-    let readings: [&str; 7] = [
+    let readings: [&str; 8] = [
+        "YYYY YY",
         "DD/MM",
         "YYYY DDD",
         "YYYY Q",
@@ -106,7 +116,15 @@ fn formats_that_are_not_taken_are_faults(rt: HostRuntime) {
 
 #[test]
 fn texts_are_dates(rt: HostRuntime) {
-    let rows: [(&str, &str, i128); 8] = [
+    let rows: [(&str, &str, i128); 16] = [
+        ("19-Sep-03", "DD-Mon-YY", 12314),
+        ("690101", "YYMMDD", 36160),
+        ("12/31/70", "MM/DD/YY", 364),
+        ("00", "YY", 10957),
+        ("99-1", "yy-mm", 10592),
+        ("day 5 of 2024", "\"day \"DD\" of \"YYYY", 19727),
+        ("15022024", "DD\"02\"YYYY", 19737),
+        ("2024年3月", "YYYY\"年\"MM\"月\"", 19783),
         ("31/12/2024", "DD/MM/YYYY", 20088),
         ("1/2/2024", "DD/MM/YYYY", 19754),
         ("20240229", "YYYYMMDD", 19782),
@@ -124,7 +142,12 @@ fn texts_are_dates(rt: HostRuntime) {
 
 #[test]
 fn texts_are_timestamps(rt: HostRuntime) {
-    let rows: [(&str, &str, i128); 5] = [
+    let rows: [(&str, &str, i128); 6] = [
+        (
+            "2024-02-29T12:34:56Z",
+            "YYYY-MM-DD\"T\"HH24:MI:SS\"Z\"",
+            1709210096000000,
+        ),
         (
             "2024-02-29T12:34:56.5",
             "YYYY-MM-DD\"T\"HH24:MI:SS.MS",
@@ -152,7 +175,11 @@ fn texts_are_timestamps(rt: HostRuntime) {
 
 #[test]
 fn other_texts_are_faults(rt: HostRuntime) {
-    let rows: [(&str, &str); 12] = [
+    let rows: [(&str, &str); 16] = [
+        ("3-01-01", "YY-MM-DD"),
+        ("2003-01-01", "YY-MM-DD"),
+        ("2024 R1", "YYYY \"Q1\""),
+        ("5022024", "DD\"02\"YYYY"),
         ("2023-02-29", "YYYY-MM-DD"),
         ("2024-13-01", "YYYY-MM-DD"),
         ("2024-00-05", "YYYY-MM-DD"),

@@ -81,6 +81,7 @@ fn push_item(item: FormatItem, at: CivilTime, out: &mut Vec<u8>) -> Result<(), A
 {
     match item {
         FormatItem::Year => push_digits(u64::from(at.year), 4, out),
+        FormatItem::ShortYear => push_digits(u64::from(at.year), 2, out),
         FormatItem::Month => push_digits(u64::from(at.month), 2, out),
         FormatItem::MonthName => {
             out.extend_from_slice(month_name(at.month).as_bytes())?;
@@ -109,9 +110,11 @@ pub(crate) fn push_format(format: &[u8], at: CivilTime, out: &mut Vec<u8>) -> Re
     ensures { IfOk result
         (λ _. out.new.items ≡ out.old.items ++ specs.format_text at (items_of format.now)) }
 {
+    let mut is_quoted = false;
     let mut rest = format;
-    while let Some((item, after)) = next_item(rest) {
+    while let Some((item, quoted, after)) = next_item(is_quoted, rest) {
         push_item(item, at, out)?;
+        is_quoted = quoted;
         rest = after;
     }
     Ok(())
@@ -126,11 +129,13 @@ fn is_known(item: FormatItem) -> bool
 fn all_known(format: &[u8]) -> bool
     ensures { result ≡ list_all specs.is_known (items_of format.now) }
 {
+    let mut is_quoted = false;
     let mut rest = format;
-    while let Some((item, after)) = next_item(rest) {
+    while let Some((item, quoted, after)) = next_item(is_quoted, rest) {
         if !is_known(item) {
             return false;
         }
+        is_quoted = quoted;
         rest = after;
     }
     true
