@@ -4,6 +4,7 @@
 mod command;
 mod failure;
 mod indexing;
+mod first_row;
 mod planned;
 mod planning;
 mod progress;
