@@ -294,10 +294,15 @@ fn write_input<W: fmt::Write>(f: &mut fmt::Formatter<W>, error: &StreamError) ->
             f.write_str("header: ")?;
             error.write_reason(f)
         }
-        StreamError::Width { row, .. } => {
+        StreamError::Width { row, wanted, found } => {
             write!(f, "row {row}: ")?;
             error.write_reason(f)?;
-            f.write_str("; see --ragged and --errors")
+            f.write_str(if *found < *wanted {
+                "; --ragged fit reads missing fields as null"
+            } else {
+                "; --ragged fit takes further fields that are empty"
+            })?;
+            f.write_str(", --errors skip leaves such rows out")
         }
         error => {
             let row = error.row().unwrap_or(0);

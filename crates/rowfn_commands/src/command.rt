@@ -1,6 +1,7 @@
 //! A command line, from its words to its status.
 
 use crate::failure::ProgramError;
+use crate::first_row::first_error;
 use crate::indexing::write_index;
 use crate::planning::{index_error, plan_of};
 use crate::queries::{is_like_path, query_of};
@@ -103,7 +104,10 @@ fn perform_on<Fs: Files + AllocGlobal, R: Read + Drop>(
     reader: R,
 ) -> Result<(), ProgramError> {
     let mut reader = Again::new(files.alloc(), reader);
-    let query = query_of(files, options, &mut reader)?;
+    let query = match query_of(files, options, &mut reader) {
+        Ok(query) => query,
+        Err(error) => return Err(first_error(files.alloc(), options, &mut reader, error)),
+    };
     if options.action == Action::Explain {
         return Ok(print_query(console, &query)?);
     }

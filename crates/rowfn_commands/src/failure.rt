@@ -20,6 +20,8 @@ pub enum ProgramError {
     Stream(StreamError),
     /// The rows end at a field that is none of its column's type, which the first rows gave it.
     Inferred(StreamError),
+    /// A call faults in a row, of an expression that chooses among parts.
+    Chosen(StreamError),
     /// The file of that name, of the rows or of the expression, cannot be read.
     Input(String, io::Error),
     /// The file of the expression is not UTF-8.
@@ -81,7 +83,9 @@ impl ProgramError {
             ProgramError::Query(error)
             | ProgramError::QueryOfFile(error, _)
             | ProgramError::QueryOfNoFile(error, _) => error.status(),
-            ProgramError::Stream(error) | ProgramError::Inferred(error) => error.status(),
+            ProgramError::Stream(error)
+            | ProgramError::Inferred(error)
+            | ProgramError::Chosen(error) => error.status(),
             ProgramError::Input(_, _)
             | ProgramError::NoRefusals(_)
             | ProgramError::Reporting(_, _) => 3,
@@ -128,6 +132,9 @@ impl fmt::Display for ProgramError {
                 write!(f, "{error}; there is no file {name}")
             }
             ProgramError::Stream(error) => write!(f, "{error}"),
+            ProgramError::Chosen(error) => {
+                write!(f, "{error}; all parts of CASE are computed")
+            }
             ProgramError::Inferred(error) if is_no_utf8(error) => write!(f, "{error}"),
             ProgramError::Inferred(error) => {
                 write!(

@@ -1,5 +1,6 @@
 //! The stream that options ask for, over any reader, with what it says of rows and how it ends.
 
+use crate::choices::is_fault_of_choices;
 use crate::failure::ProgramError;
 use crate::planned::{Plan, run_plan};
 use crate::progress::{PRINTED_BYTES, Progress};
@@ -215,6 +216,9 @@ fn ended<E: Write + Drop>(
     match passed {
         Ok(summary) => Ok(summary),
         Err(error) if refusals.has_failed() => Err(unreported(console, options, error)),
+        Err(error) if is_fault_of_choices(console.alloc(), query, &error) => {
+            Err(ProgramError::Chosen(error))
+        }
         Err(error) => Err(advised(&query.inferred, error)),
     }
 }

@@ -3,6 +3,7 @@ ghost use Rattle.std.specs.Prelude.{IfOk, IfSome, All};
 ghost use Rattle.rowfn_options.specs.Fields.{MayPart, MayComment, MayBeNull, AreBytes, AreFields};
 
 use crate::bytes::{Bytes, is_bare, read_comment, read_delimiter};
+use crate::file_names::usual_delimiter;
 use crate::words::{is_second, refusal};
 use clap::error::ErrorKind;
 use clap::{ArgMatches, Command, Error};
@@ -31,11 +32,14 @@ pub(crate) struct Shapes {
     pub(crate) any_truths: bool,
 }
 
-/// The byte between two fields of the input.
+/// The byte between two fields of the input: that which is usual in its file where none is given.
 fn delimiter_option(matches: &ArgMatches<'_>, command: &mut Command<'_>) -> Result<u8, Error>
     ensures { IfOk result MayPart }
 {
-    match read_delimiter(matches.get_str("delimiter").unwrap_or(",")) {
+    let Some(word) = matches.get_str("delimiter") else {
+        return Ok(usual_delimiter(matches));
+    };
+    match read_delimiter(word) {
         Some(delimiter) => Ok(delimiter),
         None => {
             let message = "--delimiter: expected one byte of ASCII, no quote and no end of a line";

@@ -4,6 +4,7 @@
 mod bytes;
 mod command;
 mod fields;
+mod file_names;
 mod indexes;
 mod language;
 pub mod options;

@@ -6,6 +6,7 @@ ghost use Rattle.rowfn_options.specs.Statuses.{status_of};
 
 use crate::command::command;
 use crate::fields::{Fields, fields_option};
+use crate::file_names::is_bare_word;
 use crate::indexes::{Indexes, indexes_option};
 use crate::words::{is_second, refusal};
 use clap::error::ErrorKind;
@@ -111,15 +112,12 @@ fn source_option<'a>(matches: &ArgMatches<'a>) -> Source<'a> {
 }
 
 /// How names of files of rows end.
-const ENDINGS: [&str; 4] = [".csv", ".tsv", ".txt", ".gz"];
+const ENDINGS: [&str; 5] = [".csv", ".tsv", ".tab", ".txt", ".gz"];
 
 /// Whether a text is no expression, but the name of a file of rows.
 fn is_file_name(text: &str) -> bool {
-    let text = text.as_bytes();
-    let is_word = text
-        .iter()
-        .all(|byte| !matches!(*byte, b' ' | b'\'' | b'"'));
-    is_word && ENDINGS.iter().any(|end| text.ends_with(end.as_bytes()))
+    let ends = |end: &&str| text.as_bytes().ends_with(end.as_bytes());
+    is_bare_word(text) && ENDINGS.iter().any(ends)
 }
 
 /// Fails where the name of a file stands where the expression does; a condition needs none.

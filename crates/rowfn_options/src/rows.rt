@@ -229,8 +229,8 @@ pub(crate) const FIELDS: [Row; 9] = [
         long: Some("delimiter"),
         short: Some('d'),
         value: "BYTE",
-        default: Some(","),
-        help: "The byte between two fields; \\t is a tab",
+        help: "The byte between two fields, \\t for a tab; without it a tab in files that end in .tsv \
+               or .tab, else a comma",
         ..TEXT
     },
     Row {

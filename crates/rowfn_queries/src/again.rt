@@ -1,5 +1,6 @@
 //! A reader whose first bytes are read twice.
-ghost use Rattle.std.specs.Prelude.{◌≡◌, ◌≤◌, [], length, take, drop, true, false, None};
+ghost use Rattle.std.specs.Prelude.{◌≡◌, ◌↔◌, ◌<◌, ◌≤◌, [], IsTrue, length, take, drop};
+ghost use Rattle.std.specs.Prelude.{true, false, None};
 ghost use Rattle.std.specs.Io.{ReadsAtMost};
 
 use std::alloc::Global;
@@ -43,6 +44,13 @@ impl<R> Again<R> {
     {
         self.keeps = false;
         self.failed = failed;
+    }
+
+    /// Whether bytes are kept: some were read, and not all of them given once more.
+    pub fn has_kept(&self) -> bool
+        ensures { IsTrue result ↔ 0 < length self.now.kept.items }
+    {
+        !self.kept.is_empty()
     }
 }
 

@@ -51,6 +51,8 @@ pub struct TextField {
     pub text: String,
     /// Whether it is a text for null, which is none in its quotes.
     pub is_quoted_null: bool,
+    /// Whether null is the empty field alone, as it is where no text for it is given.
+    pub is_usual_null: bool,
 }
 
 /// A column that is text by its first rows, and may not be meant to be.
@@ -77,6 +79,7 @@ impl TextField {
             row: self.row,
             text: String::from_str(alloc, self.text.as_str())?,
             is_quoted_null: self.is_quoted_null,
+            is_usual_null: self.is_usual_null,
         })
     }
 }
@@ -120,10 +123,15 @@ impl TextField {
             return write!(f, "the quoted {text:?} (--null-quoted, or ");
         }
         write!(f, "{text:?} (")?;
-        if is_null_text(text) || !has_digit(text) && !text.is_empty() {
-            write!(f, "--null {text:?}, or ")?;
+        if !is_null_text(text) && has_digit(text) {
+            return Ok(());
         }
-        Ok(())
+        f.write_str(if self.is_usual_null {
+            "--null \"\" "
+        } else {
+            "one more "
+        })?;
+        write!(f, "--null {text:?}, or ")
     }
 
     /// Writes how the column of that name is read otherwise.
@@ -311,6 +319,7 @@ fn mixed_column(
             row: numbers.get(found.row).copied().unwrap_or(0),
             text: String::from_str(alloc, text)?,
             is_quoted_null: format.is_null_text(found.text),
+            is_usual_null: format.null.is_empty() && format.more_nulls.is_empty(),
         }),
         is_meant: found.is_mostly || is_null_text(text),
     }))

@@ -4,9 +4,10 @@ use crate::binder::operands;
 use crate::calls::joined_item;
 use crate::casts::type_of_name;
 use crate::forms::{
-    function_in, function_text, push_accepted, push_unnamed, takes_only_texts, takes_texts,
+    arguments_hint, function_in, function_text, push_accepted, push_unnamed, takes_only_texts,
     text_hint,
 };
+use crate::hints::missing_type;
 use crate::item::{Item, common_type};
 use crate::item_texts::{is_no_text, push_operands, push_types, push_unread};
 use crate::meeting::met_next;
@@ -211,9 +212,7 @@ impl<'a> TextFailure<'a> {
         push_accepted(&mut out, self.failing_step(), items.len())?;
         out.push_str(", not ")?;
         self.push_given(&mut out, &items, are_cases)?;
-        if takes_texts(self.failing_step()) {
-            out.push_str("; n::text is n as a text")?;
-        }
+        out.push_str(arguments_hint(self.failing_step(), &items))?;
         Ok(out)
     }
 
@@ -266,6 +265,10 @@ impl<'a> TextFailure<'a> {
     /// That no type has that name.
     fn type_text(&self) -> VortexResult<String> {
         let found = found_at(self.text, self.byte);
+        let missing = missing_type(self.text, self.byte);
+        if !missing.is_empty() && !self.kinds.is_empty() {
+            return Ok(format!(in self.alloc; "no type {found}; {missing}")?);
+        }
         let mut out = format!(in self.alloc;
             "no type {found}; types are {TYPES}, with ? where they have null"
         )?;

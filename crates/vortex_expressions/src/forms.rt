@@ -1,9 +1,9 @@
 //! Functions that there are not, and how what they mean is written.
 use crate::casts::type_of_name;
 use crate::functions::trim_word;
-use crate::hints::missing_function;
+use crate::hints::{meant_by_texts, missing_function};
 use crate::item::Item;
-use crate::item_texts::push_literal;
+use crate::item_texts::{is_no_text, push_literal};
 use crate::kind_words::{KindFunction, KindName, kind_word};
 use crate::located::meant_function;
 use crate::words::LIKENED;
@@ -213,8 +213,18 @@ pub(crate) fn function_in(step: Option<&Step<'_>>) -> Option<Standard> {
     }
 }
 
+/// How what is meant is written, where a function does not take these arguments.
+pub(crate) fn arguments_hint(step: Option<&Step<'_>>, items: &[Item]) -> &'static str {
+    let meant = meant_by_texts(called_name(step), !items.iter().any(is_no_text));
+    if meant.is_empty() && takes_texts(step) {
+        "; n::text is n as a text"
+    } else {
+        meant
+    }
+}
+
 /// Whether the step calls a function whose first argument is a text.
-pub(crate) fn takes_texts(step: Option<&Step<'_>>) -> bool {
+fn takes_texts(step: Option<&Step<'_>>) -> bool {
     match function_in(step) {
         Some(function) => matches!(
             function.takes(),

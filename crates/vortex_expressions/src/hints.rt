@@ -19,6 +19,13 @@ const ARRAYS: &str = "no arrays: a in (1, 2) compares with a list of values";
 
 const POWERS: &str = "no powers: write a * a";
 
+const DISTANCES: &str =
+    "write a - b for the days between dates, epoch(a) - epoch(b) for the seconds between timestamps";
+
+const FORMATTED: &str = "write s || t, with lpad(n::text, 3, '0') for a width";
+
+const SAFE: &str = "write try_cast(a as int)";
+
 const LOGARITHMS: &str = "no logarithms, exponentials or angles";
 
 /// Words that other languages have behind an operand.
@@ -57,7 +64,7 @@ const BEFORE: [(&str, &[u8], &str); 7] = [
 ];
 
 /// Functions that other languages have.
-const FUNCTIONS: [(&str, &str); 62] = [
+const FUNCTIONS: [(&str, &str); 72] = [
     ("sum", AGGREGATES),
     ("count", AGGREGATES),
     ("avg", AGGREGATES),
@@ -96,8 +103,18 @@ const FUNCTIONS: [(&str, &str); 62] = [
     ("str_to_date", "write to_date(s, 'DD/MM/YYYY')"),
     ("strptime", "write to_date(s, 'DD/MM/YYYY')"),
     ("to_number", "write s::f64, or s::decimal(12,2)"),
-    ("datediff", "write a - b"),
-    ("date_diff", "write a - b"),
+    ("datediff", DISTANCES),
+    ("date_diff", DISTANCES),
+    ("timestampdiff", DISTANCES),
+    ("monthname", "write to_char(d, 'Mon')"),
+    (
+        "dayname",
+        "write case dow(d) when 0 then 'Sunday' when 1 then 'Monday' .. end",
+    ),
+    (
+        "make_timestamp",
+        "write to_timestamp(s, 'YYYY-MM-DD HH24:MI:SS')",
+    ),
     ("age", "write a - b"),
     ("date_add", "write d + 3, or add_months(d, 3)"),
     ("date_sub", "write d - 3, or add_months(d, -3)"),
@@ -107,6 +124,12 @@ const FUNCTIONS: [(&str, &str); 62] = [
         "write date_trunc('month', add_months(d, 1)) - 1",
     ),
     ("regexp_matches", "write regexp_like(s, 'a+')"),
+    ("regexp_match", "write regexp_substr(s, 'a+')"),
+    ("regexp_extract", "write regexp_substr(s, 'a+')"),
+    ("safe_cast", SAFE),
+    ("format", FORMATTED),
+    ("printf", FORMATTED),
+    ("sprintf", FORMATTED),
     ("len", "write length(s)"),
     ("charindex", "write strpos(s, t)"),
     ("contains", "write strpos(s, t) > 0"),
@@ -186,6 +209,17 @@ fn told_behind_not(before: &[u8], behind: &[u8]) -> &'static str {
     }
 }
 
+/// What `as` means elsewhere, at the start of a text, behind one that calls `safe_cast`.
+fn told_in_cast(before: &[u8], behind: &[u8]) -> &'static str {
+    let mut words = before.split(|byte| !is_word_byte(*byte));
+    let is_cast = words.any(|word| word.eq_ignore_ascii_case(b"safe_cast"));
+    if is_cast && word_at(behind).eq_ignore_ascii_case(b"as") {
+        SAFE
+    } else {
+        ""
+    }
+}
+
 /// What the signs at the end of the first text and at the start of the second mean elsewhere.
 fn told_of_signs(before: &[u8], behind: &[u8]) -> &'static str {
     match (before, behind) {
@@ -218,7 +252,37 @@ pub(crate) fn hint_at(text: &str, byte: usize) -> &'static str {
     if !refused.is_empty() {
         return refused;
     }
+    let cast = told_in_cast(before, behind);
+    if !cast.is_empty() {
+        return cast;
+    }
     told_before(last_word(before), behind)
+}
+
+/// Types that other languages have, or that lack their digits.
+const TYPES: [(&str, &str); 5] = [
+    ("string", "write text"),
+    ("datetime", "write timestamp"),
+    ("numeric", "it needs its digits, 18 at most, as numeric(12,2)"),
+    ("decimal", "it needs its digits, 18 at most, as decimal(12,2)"),
+    ("number", "write f64, or numeric(12,2)"),
+];
+
+/// What is missing in the type that the word at that byte of a text names; empty if it is not known.
+pub(crate) fn missing_type(text: &str, byte: usize) -> &'static str {
+    let (_, behind) = text.as_bytes().split_at(byte.min(text.len()));
+    told_of(&TYPES, word_at(behind))
+}
+
+/// What is meant where a function has other arguments than it takes: by `substring` the part that a
+/// pattern matches; empty if it is not known.
+pub(crate) fn meant_by_texts(name: &[u8], are_texts: bool) -> &'static str {
+    let is_part = name.eq_ignore_ascii_case(b"substring") || name.eq_ignore_ascii_case(b"substr");
+    if is_part && are_texts {
+        "; regexp_substr(s, 'a+') is the part of s that matches"
+    } else {
+        ""
+    }
 }
 
 /// What is missing where a function of that name is called; empty if it is not known.

@@ -24,17 +24,17 @@ fn push_columns(out: &mut String, scope: &StructFields) -> VortexResult<()> {
     Ok(())
 }
 
-/// What separates the names of several columns in one name.
-const SEPARATORS: [&str; 3] = [";", "\t", "|"];
+/// What separates the names of several columns in one name, and as what it is typed.
+const SEPARATORS: [(&str, &str); 3] = [(";", ";"), ("\t", "\\t"), ("|", "|")];
 
 /// That the only column is probably several, whose delimiter is another.
 fn push_delimiter(out: &mut String, scope: &StructFields) -> VortexResult<()> {
     if scope.len() != 1 {
         return Ok(());
     }
-    for separator in SEPARATORS {
+    for (separator, typed) in SEPARATORS {
         if scope.name(0).contains(separator) {
-            write!(out, ", one column: is the delimiter {separator:?}?")?;
+            write!(out, ", one column: is --delimiter '{typed}' meant?")?;
             return Ok(());
         }
     }
