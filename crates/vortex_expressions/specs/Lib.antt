@@ -14,6 +14,7 @@ pub mod KindCasts
 pub mod Joining
 pub mod KindWords
 pub mod KindFunctions
+pub mod Folding
 pub mod Functions
 pub mod Calls
 pub mod Binding
