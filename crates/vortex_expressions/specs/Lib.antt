@@ -4,6 +4,7 @@ pub mod Answering
 pub mod Meeting
 pub mod Months
 pub mod Items
+pub mod Folding
 pub mod Truths
 pub mod Arguments
 pub mod Applied
@@ -14,7 +15,6 @@ pub mod KindCasts
 pub mod Joining
 pub mod KindWords
 pub mod KindFunctions
-pub mod Folding
 pub mod Functions
 pub mod Calls
 pub mod Binding
