@@ -132,9 +132,7 @@ impl fmt::Display for ProgramError {
                 write!(f, "{error}; there is no file {name}")
             }
             ProgramError::Stream(error) => write!(f, "{error}"),
-            ProgramError::Chosen(error) => {
-                write!(f, "{error}; all parts of CASE are computed")
-            }
+            ProgramError::Chosen(error) => { write!(f, "{error}; all parts of CASE are computed") }
             ProgramError::Inferred(error) if is_no_utf8(error) => write!(f, "{error}"),
             ProgramError::Inferred(error) => {
                 write!(

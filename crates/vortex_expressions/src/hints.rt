@@ -263,8 +263,14 @@ pub(crate) fn hint_at(text: &str, byte: usize) -> &'static str {
 const TYPES: [(&str, &str); 5] = [
     ("string", "write text"),
     ("datetime", "write timestamp"),
-    ("numeric", "it needs its digits, 18 at most, as numeric(12,2)"),
-    ("decimal", "it needs its digits, 18 at most, as decimal(12,2)"),
+    (
+        "numeric",
+        "it needs its digits, 18 at most, as numeric(12,2)",
+    ),
+    (
+        "decimal",
+        "it needs its digits, 18 at most, as decimal(12,2)",
+    ),
     ("number", "write f64, or numeric(12,2)"),
 ];
 
