@@ -56,6 +56,7 @@ use Rattle.vortex_expressions.specs.Items.{meaning, constant_at, call_of, callab
 use Rattle.vortex_expressions.specs.Kinded.{told, stored_item, first_kind, whole_ptype}
 use Rattle.vortex_expressions.specs.Kinded.{whole_literal, text_literal, number_literal, null_of}
 use Rattle.vortex_expressions.specs.Kinded.{literal_operand, item_operand, value_item}
+use Rattle.vortex_expressions.specs.declared.item.Timespan.{Timespan}
 use Rattle.vortex_expressions.specs.declared.item.Timespan.TheVariants.{Given, Elapsed}
 use Rattle.vortex_expressions.specs.declared.kind_operators.KindedOperator.{KindedOperator}
 use Rattle.vortex_expressions.specs.declared.kind_operators.KindedOperator.TheVariants.{Compares}
@@ -63,7 +64,7 @@ use Rattle.vortex_expressions.specs.declared.kind_operators.KindedOperator.TheVa
 use Rattle.vortex_expressions.specs.declared.kind_operators.KindedOperator.TheVariants.{Neither}
 use Rattle.vortex_expressions.specs.Kinded.{operated, span_operand, spans_joined}
 use Rattle.vortex_expressions.specs.Kinded.{kinded_operator, kinded_joined, kinded_between}
-use Rattle.vortex_expressions.specs.Kinded.{within_bounds, is_interval, shifted_item, shifted_items}
+use Rattle.vortex_expressions.specs.Kinded.{within_bounds, is_interval, shifted_item, moved_by_span, moved_items}
 use Rattle.vortex_expressions.specs.Kinded.{joined_beside, moved_item, folded_by, folded_or_joined}
 use Rattle.vortex_expressions.specs.Months.{months_function, months_moved}
 use Rattle.vortex_expressions.specs.KindCasts.{kind_literal, kind_item, becomes_float, float_item}
@@ -286,18 +287,24 @@ sure_span (interval (Given (Micros z))) = tt
 sure_span (interval (Elapsed t)) = tt
 sure_span i = tt
 
+sure_moved_by : (o : NumericOperator) (k : Kind) (t : Tree) (s : Timespan)
+    → Sure IsItem (moved_by_span o k t s)
+sure_moved_by o k t (Given z) = sure_moved o k t z
+sure_moved_by o k t (Elapsed u) = tt
+
+sure_moved_items : (o : NumericOperator) (a b : Item) → Sure IsItem (moved_items o a b)
+sure_moved_items numeric.Add (kinded k t) (interval s) = sure_moved_by numeric.Add k t s
+sure_moved_items numeric.Add (interval s) (kinded k t) = sure_moved_by numeric.Add k t s
+sure_moved_items numeric.Sub (kinded k t) (interval s) = sure_moved_by numeric.Sub k t s
+sure_moved_items o a b = tt
+
 sure_spans : (o : KindedOperator) (a b : Item) → Sure IsItem (spans_joined o a b)
 sure_spans (Compares op) a b =
     sure_then Any IsItem (span_operand a) _ (sure_span a)
     (λ x h. sure_then Any IsItem (span_operand b) _ (sure_span b)
     (λ y j. sure_operated Plain (Compares op) x y))
-sure_spans o a b = tt
-
-sure_shifted_items : (o : written.WrittenOperator) (a b : Item) → Sure IsItem (shifted_items o a b)
-sure_shifted_items signs.Add (kinded k t) (interval (Given z)) = sure_moved numeric.Add k t z
-sure_shifted_items signs.Add (interval (Given z)) (kinded k t) = sure_moved numeric.Add k t z
-sure_shifted_items signs.Sub (kinded k t) (interval (Given z)) = sure_moved numeric.Sub k t z
-sure_shifted_items o a b = sure_spans (kinded_operator o) a b
+sure_spans (Computes o) a b = sure_moved_items o a b
+sure_spans Neither a b = tt
 
 sure_beside : (k : Kind) (o : KindedOperator) (a b : Item) → Sure IsItem (joined_beside k o a b)
 sure_beside k o a b =
@@ -313,7 +320,7 @@ sure_folded None o a b = sure_beside (first_kind (a ∷ b ∷ [])) o a b
 pub sure_kinded_joined : (o : written.WrittenOperator) (a b : Item)
     → Sure IsItem (kinded_joined o a b)
 sure_kinded_joined o a b =
-    sure_if IsItem (is_interval a || is_interval b) _ _ (sure_shifted_items o a b)
+    sure_if IsItem (is_interval a || is_interval b) _ _ (sure_spans (kinded_operator o) a b)
     (sure_folded (folded_by (kinded_operator o) a b) (kinded_operator o) a b)
 
 pub sure_kinded_between : (a b c : Item) → Sure IsTyped (kinded_between a b c)

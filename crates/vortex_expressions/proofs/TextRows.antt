@@ -39,7 +39,7 @@ use Rattle.vortex_expressions.specs.declared.kind_operators.KindedOperator.{Kind
 use Rattle.vortex_expressions.specs.declared.kind_operators.KindedOperator.TheVariants.{Compares}
 use Rattle.vortex_expressions.specs.declared.kind_operators.KindedOperator.TheVariants.{Computes}
 use Rattle.vortex_expressions.specs.Kinded.{value_item, kinded_operator, operated, joined_beside}
-use Rattle.vortex_expressions.specs.Kinded.{shifted_items, span_operand, spans_compared}
+use Rattle.vortex_expressions.specs.Kinded.{span_operand, spans_compared}
 use Rattle.vortex_expressions.specs.Kinded.{spans_joined, computed_item}
 use Rattle.vortex_expressions.specs.Kinded.{values_joined, folded_or_joined, fraction_of}
 use Rattle.vortex_expressions.specs.Folding.{folded, digits_of_item}
@@ -67,13 +67,6 @@ use Rattle.vortex_expressions.specs.RowLaws.{ListsCall, DistinctCalls, NamesCall
 use Rattle.vortex_expressions.specs.RowLaws.{ElseCasesCall, TextsMeanTheirRows}
 use Rattle.vortex_expressions.proofs.LiteralsOver.{Then, then_is, answers_is, text_read}
 use Rattle.vortex_expressions.proofs.FunctionRows.{made_told, IsTold, item_told, functions}
-
--- intervals compare
-spans_of : (o : WrittenOperator) (op : CompareOperator) (i j : Item) → kinded_operator o ≡ Compares op
-    → shifted_items o i j ≡ spans_joined (kinded_operator o) i j
-spans_of written.Add op i j e = absurd cc
-spans_of written.Sub op i j e = absurd cc
-spans_of o op i j e = refl
 
 -- behind the parts of a text
 parts_are : {A : Type 0} (o p : Outcome Item) (f : Item → Item → Outcome A) (i j : Item) (a : A)
@@ -110,7 +103,8 @@ values_of : (o : WrittenOperator) (q : KindedOperator) (i j r : Item) → kinded
     → values_joined q i j ≡ answers r
 values_of o q i j r c h e =
     ap (λ p. values_joined p i j) (sym c)
-    ∙ ap (λ b. cond b (shifted_items o i j) (values_joined (kinded_operator o) i j)) (sym h) ∙ e
+    ∙ ap (λ b. cond b (spans_joined (kinded_operator o) i j)
+    (values_joined (kinded_operator o) i j)) (sym h) ∙ e
 
 beside_of : (op : NumericOperator) (i j r : Item) → folded op i j ≡ None
     → values_joined (Computes op) i j ≡ answers r
@@ -121,8 +115,9 @@ spans_made : (o : WrittenOperator) (op : CompareOperator) (i j r : Item)
     → kinded_operator o ≡ Compares op → (is_interval i || is_interval j) ≡ true
     → kinded_joined o i j ≡ answers r → spans_compared op i j ≡ answers r
 spans_made o op i j r c h e =
-    ap (λ p. spans_joined p i j) (sym c) ∙ sym (spans_of o op i j c)
-    ∙ ap (λ b. cond b (shifted_items o i j) (values_joined (kinded_operator o) i j)) (sym h) ∙ e
+    ap (λ p. spans_joined p i j) (sym c)
+    ∙ ap (λ b. cond b (spans_joined (kinded_operator o) i j)
+    (values_joined (kinded_operator o) i j)) (sym h) ∙ e
 
 -- an interval is a value next to another
 interval_kinded : (i j : Item) → (is_interval i || is_interval j) ≡ true

@@ -40,6 +40,7 @@ use Rattle.vortex_expressions.specs.declared.refusal.Refusal.TheVariants.{NotHel
 use Rattle.vortex_expressions.specs.declared.refusal.Refusal.TheVariants.{OfKind, Kinds, Binding}
 use Rattle.vortex_expressions.specs.declared.refusal.BindStop.{BindStop}
 use Rattle.vortex_expressions.specs.declared.refusal.BindStop.TheVariants.{Refused}
+use Rattle.vortex_expressions.specs.declared.item.Timespan.{Timespan}
 use Rattle.vortex_expressions.specs.declared.item.Timespan.TheVariants.{Given, Elapsed}
 use Rattle.vortex_expressions.specs.declared.kind_operators.KindedOperator.{KindedOperator}
 use Rattle.vortex_expressions.specs.declared.kind_operators.KindedOperator.TheVariants.{Compares}
@@ -210,16 +211,23 @@ abbrev pub spans_compared : CompareOperator → Item → Item → Outcome Item
 spans_compared op a b =
     and_then (span_operand a) (λ x. and_then (span_operand b) (λ y. compared_item op x y))
 
+-- a value moved by an interval; not by a difference
+abbrev pub moved_by_span : NumericOperator → Kind → Tree → Timespan → Outcome Item
+moved_by_span o k t (Given z) = moved_item o k t z
+moved_by_span o k t (Elapsed u) = refuses NotHeld
+
+-- an interval is added to a value, and taken from one
+abbrev pub moved_items : NumericOperator → Item → Item → Outcome Item
+moved_items numeric.Add (kinded k t) (interval s) = moved_by_span numeric.Add k t s
+moved_items numeric.Add (interval s) (kinded k t) = moved_by_span numeric.Add k t s
+moved_items numeric.Sub (kinded k t) (interval s) = moved_by_span numeric.Sub k t s
+moved_items o a b = refuses NotHeld
+
+-- an operator, one of whose operands is an interval
 abbrev pub spans_joined : KindedOperator → Item → Item → Outcome Item
 spans_joined (Compares op) a b = spans_compared op a b
-spans_joined o a b = refuses NotHeld
-
--- an interval is added to them, and taken from them
-abbrev pub shifted_items : syntax.WrittenOperator → Item → Item → Outcome Item
-shifted_items written.Add (kinded k t) (interval (Given z)) = moved_item numeric.Add k t z
-shifted_items written.Add (interval (Given z)) (kinded k t) = moved_item numeric.Add k t z
-shifted_items written.Sub (kinded k t) (interval (Given z)) = moved_item numeric.Sub k t z
-shifted_items o a b = spans_joined (kinded_operator o) a b
+spans_joined (Computes o) a b = moved_items o a b
+spans_joined Neither a b = refuses NotHeld
 
 -- the text of the result of two literal numbers
 abbrev pub folded_by : KindedOperator → Item → Item → Option (List ℕ)
@@ -240,7 +248,7 @@ values_joined o a b = folded_or_joined (folded_by o a b) o a b
 -- an operator, one of whose operands has a kind or is an interval
 abbrev pub kinded_joined : syntax.WrittenOperator → Item → Item → Outcome Item
 kinded_joined o a b =
-    if is_interval a || is_interval b then shifted_items o a b
+    if is_interval a || is_interval b then spans_joined (kinded_operator o) a b
     else values_joined (kinded_operator o) a b
 
 -- both bounds are inclusive

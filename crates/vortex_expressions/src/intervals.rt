@@ -6,7 +6,7 @@ ghost use Rattle.vortex_expressions.specs.Items.{item_in};
 ghost use Rattle.vortex_expressions.specs.Answering.{Gives};
 
 use crate::item::{Item, Timespan, call_of, callable};
-use crate::kind_operators::{KindedOperator, compared, kinded_operator};
+use crate::kind_operators::{KindedOperator, compared};
 use crate::kinded::value_item;
 use crate::refusal::{BindStop, Refusal};
 use std::alloc::Global;
@@ -18,7 +18,6 @@ use vortex_logical_calls as calls;
 use vortex_logical_calls::{Interval, Lowered};
 use vortex_operators::CompareOperator;
 use vortex_standard::Standard;
-use vortex_syntax::WrittenOperator as Written;
 use vortex_types::NumericOperator;
 
 /// The function that adds months to values of the kind.
@@ -110,7 +109,44 @@ fn spans_compared(
     compared(alloc, operator, first, second)
 }
 
-fn spans_joined(
+/// A value moved by an interval; not by a difference.
+fn moved_by_span(
+    alloc: Global,
+    operator: NumericOperator,
+    kind: Kind,
+    tree: BoundExpression<Standard>,
+    timespan: Timespan,
+) -> Result<Item, BindStop>
+    ensures { Gives item_in result (specs.moved_by_span operator kind tree timespan) }
+{
+    match timespan {
+        Timespan::Given(interval) => moved_item(alloc, operator, kind, tree, interval),
+        Timespan::Elapsed(_micros) => Err(BindStop::Refused(Refusal::NotHeld)),
+    }
+}
+
+/// An interval is added to a date or a timestamp, or taken from one.
+fn moved_items(
+    alloc: Global,
+    operator: NumericOperator,
+    left: Item,
+    right: Item,
+) -> Result<Item, BindStop>
+    ensures { Gives item_in result (specs.moved_items operator (item_in left) (item_in right)) }
+{
+    match (operator, left, right) {
+        (NumericOperator::Add, Item::Kinded(kind, tree), Item::Interval(timespan))
+        | (NumericOperator::Add, Item::Interval(timespan), Item::Kinded(kind, tree))
+        | (NumericOperator::Sub, Item::Kinded(kind, tree), Item::Interval(timespan)) => {
+            moved_by_span(alloc, operator, kind, tree, timespan)
+        }
+        _ => Err(BindStop::Refused(Refusal::NotHeld)),
+    }
+}
+
+/// An operator, one of whose operands is an interval: it moves a date or a timestamp, or is compared
+/// with another, or with how long it is from one timestamp to another.
+pub(crate) fn spans_joined(
     alloc: Global,
     operator: KindedOperator,
     left: Item,
@@ -121,29 +157,7 @@ fn spans_joined(
 {
     match operator {
         KindedOperator::Compares(operator) => spans_compared(alloc, operator, left, right),
-        _ => Err(BindStop::Refused(Refusal::NotHeld)),
-    }
-}
-
-/// An interval is added to a date or a timestamp, taken from one, or compared with how long it is
-/// from one timestamp to another.
-pub(crate) fn shifted_items(
-    alloc: Global,
-    written: Written,
-    left: Item,
-    right: Item,
-) -> Result<Item, BindStop>
-    ensures { Gives item_in result
-        (specs.shifted_items written (item_in left) (item_in right)) }
-{
-    match (written, left, right) {
-        (Written::Add, Item::Kinded(kind, tree), Item::Interval(Timespan::Given(interval)))
-        | (Written::Add, Item::Interval(Timespan::Given(interval)), Item::Kinded(kind, tree)) => {
-            moved_item(alloc, NumericOperator::Add, kind, tree, interval)
-        }
-        (Written::Sub, Item::Kinded(kind, tree), Item::Interval(Timespan::Given(interval))) => {
-            moved_item(alloc, NumericOperator::Sub, kind, tree, interval)
-        }
-        (written, left, right) => spans_joined(alloc, kinded_operator(written), left, right),
+        KindedOperator::Computes(operator) => moved_items(alloc, operator, left, right),
+        KindedOperator::Neither => Err(BindStop::Refused(Refusal::NotHeld)),
     }
 }

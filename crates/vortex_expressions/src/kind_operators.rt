@@ -7,7 +7,7 @@ ghost use Rattle.vortex_expressions.specs.Items.{item_in};
 ghost use Rattle.vortex_expressions.specs.Answering.{Gives};
 
 use crate::folding::folded;
-use crate::intervals::shifted_items;
+use crate::intervals::spans_joined;
 use crate::item::{Item, Timespan};
 use crate::kinded::{is_interval, item_operand, kind_or, value_item};
 use crate::quotes::text_of;
@@ -33,7 +33,7 @@ pub(crate) enum KindedOperator {
     Neither,
 }
 
-pub(crate) fn kinded_operator(written: Written) -> KindedOperator
+fn kinded_operator(written: Written) -> KindedOperator
     ensures { result ≡ specs.kinded_operator written }
 {
     match written {
@@ -158,8 +158,9 @@ pub(crate) fn kinded_joined(
     ensures { Gives item_in result
         (specs.kinded_joined written (item_in left) (item_in right)) }
 {
+    let operator = kinded_operator(written);
     if is_interval(&left) || is_interval(&right) {
-        return shifted_items(alloc, written, left, right);
+        return spans_joined(alloc, operator, left, right);
     }
-    values_joined(alloc, kinded_operator(written), left, right)
+    values_joined(alloc, operator, left, right)
 }
