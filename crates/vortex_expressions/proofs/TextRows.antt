@@ -42,7 +42,8 @@ use Rattle.vortex_expressions.specs.Kinded.{value_item, kinded_operator, operate
 use Rattle.vortex_expressions.specs.Kinded.{span_operand, spans_compared}
 use Rattle.vortex_expressions.specs.Kinded.{spans_joined, computed_item}
 use Rattle.vortex_expressions.specs.Kinded.{values_joined, folded_or_joined, fraction_of}
-use Rattle.vortex_expressions.specs.Folding.{folded, digits_of_item}
+use Rattle.vortex_expressions.specs.declared.folding.Exact.{Exact}
+use Rattle.vortex_expressions.specs.Folding.{folded, exact_text, number_of}
 use Rattle.vortex_expressions.specs.Kinded.{kinded_joined, kinded_between, within_bounds}
 use Rattle.vortex_expressions.specs.Calls.{Names, names_in, joined_item, plain_joined, between_three}
 use Rattle.vortex_expressions.specs.Calls.{between_all, between_tree, negated_if}
@@ -135,13 +136,14 @@ no_interval : (op : NumericOperator) (i j : Item) (w : List ℕ) → folded op i
     → (is_interval i || is_interval j) ≡ false
 no_interval op i j w e = by i j e
   where
-    behind : (o : Option (List ℕ)) → option_and_then (λ v. None) o ≡ Some w → ⊥
+    behind : (o : Option Exact)
+        → option_and_then exact_text (option_and_then (λ x. None) o) ≡ Some w → ⊥
     behind None h = cc
-    behind (Some v) h = cc
+    behind (Some x) h = cc
 
     by : (i j : Item) → folded op i j ≡ Some w → (is_interval i || is_interval j) ≡ false
     by (interval z) j h = absurd cc
-    by i (interval z) h = absurd (behind (digits_of_item i) h)
+    by i (interval z) h = absurd (behind (number_of i) h)
     by i j h = refl
 
 -- values are no intervals

@@ -1,5 +1,5 @@
 //! Arithmetic of two literal numbers, one of them with a point.
-ghost use Rattle.std.specs.Prelude.{◌≡◌, option_map};
+ghost use Rattle.std.specs.Prelude.{◌≡◌, ◌≤◌, option_map, IfSome};
 ghost use Rattle.vortex_errors.specs.Answers.{AnswersUnlessMemory};
 ghost use Rattle.vortex_expressions.specs.Items.{item_in};
 ghost use Rattle.vortex_expressions.specs.Folding as specs;
@@ -18,7 +18,7 @@ use vortex_types::NumericOperator;
 #[derive(Clone, Copy)]
 pub(crate) struct Exact {
     integer: i64,
-    digits: DecimalDigits,
+    scale: u32,
 }
 
 /// The number of a text without an exponent, if it has at most 18 digits.
@@ -28,28 +28,44 @@ fn exact_of(number: &[u8]) -> Option<Exact>
     match number_kind(number) {
         Some(Kind::Decimal(digits)) => {
             let integer = read_decimal(digits, number)?;
-            Some(Exact { integer, digits })
+            let scale = digits.scale();
+            Some(Exact { integer, scale })
         }
         _ => None,
     }
 }
 
-fn within(integer: i128, digits: DecimalDigits) -> Option<Exact>
-    ensures { result ≡ specs.within integer digits }
+/// 18 digits, so many of them after the point.
+fn digits_at(scale: u32) -> Option<DecimalDigits>
+    ensures value { result ≡ specs.digits_at scale }
+    ensures scale { IfSome result (λ d. d.scale ≡ scale) }
 {
-    let integer = within_digits(integer, digits)?;
-    Some(Exact { integer, digits })
+    DecimalDigits::try_new(18, scale)
 }
 
-/// The digits of which more stand after the point.
-fn wider(left: DecimalDigits, right: DecimalDigits) -> DecimalDigits
-    ensures { result ≡ specs.wider left right }
+fn within(scale: u32, integer: i128) -> Option<Exact>
+    ensures { result ≡ specs.within scale integer }
 {
-    if left.scale() <= right.scale() {
-        right
-    } else {
-        left
-    }
+    let integer = within_digits(integer, digits_at(scale)?)?;
+    Some(Exact { integer, scale })
+}
+
+fn wider(left: u32, right: u32) -> u32
+    ensures value { result ≡ specs.wider left right }
+    ensures left { left ≤ result }
+    ensures right { right ≤ result }
+{
+    if left <= right { right } else { left }
+}
+
+/// The integer with as many digits after the point, if 18 are enough.
+fn integer_at(scale: u32, number: Exact) -> Option<i64>
+    requires { number.scale ≤ scale }
+    ensures { result ≡ specs.integer_at scale number }
+{
+    let from = digits_at(number.scale)?;
+    let to = digits_at(scale)?;
+    rescale(number.integer, from, to)
 }
 
 /// Two integers with so many of their digits after the point.
@@ -57,42 +73,41 @@ fn wider(left: DecimalDigits, right: DecimalDigits) -> DecimalDigits
 pub(crate) struct Pair {
     left: i64,
     right: i64,
-    digits: DecimalDigits,
+    scale: u32,
 }
 
 /// Both with as many digits after the point as the one that has more of them.
 fn aligned(left: Exact, right: Exact) -> Option<Pair>
     ensures { result ≡ specs.aligned left right }
 {
-    let digits = wider(left.digits, right.digits);
-    Some(Pair {
-        left: rescale(left.integer, left.digits, digits)?,
-        right: rescale(right.integer, right.digits, digits)?,
-        digits,
-    })
+    let scale = wider(left.scale, right.scale);
+    let left = integer_at(scale, left)?;
+    let right = integer_at(scale, right)?;
+    Some(Pair { left, right, scale })
 }
 
-fn sum(left: Exact, right: Exact) -> Option<Exact>
-    ensures { result ≡ specs.sum left right }
+fn sum_of(pair: Pair) -> Option<Exact>
+    ensures { result ≡ specs.sum_of pair }
 {
-    let pair = aligned(left, right)?;
-    within(pair.left as i128 + pair.right as i128, pair.digits)
+    within(pair.scale, pair.left as i128 + pair.right as i128)
 }
 
-fn difference(left: Exact, right: Exact) -> Option<Exact>
-    ensures { result ≡ specs.difference left right }
+fn difference_of(pair: Pair) -> Option<Exact>
+    ensures { result ≡ specs.difference_of pair }
 {
-    let pair = aligned(left, right)?;
-    within(pair.left as i128 - pair.right as i128, pair.digits)
+    within(pair.scale, pair.left as i128 - pair.right as i128)
 }
 
 /// The product, with as many digits after the point as both have.
 fn product(left: Exact, right: Exact) -> Option<Exact>
     ensures { result ≡ specs.product left right }
 {
-    let scale = left.digits.scale() + right.digits.scale();
-    let digits = DecimalDigits::try_new(18, scale)?;
-    within(left.integer as i128 * right.integer as i128, digits)
+    if left.scale <= 18 && right.scale <= 18 {
+        let integer = left.integer as i128 * right.integer as i128;
+        within(left.scale + right.scale, integer)
+    } else {
+        None
+    }
 }
 
 /// The sum, the difference or the product, if it has at most 18 digits.
@@ -100,8 +115,8 @@ fn result_of(operator: NumericOperator, left: Exact, right: Exact) -> Option<Exa
     ensures { result ≡ specs.result_of operator left right }
 {
     match operator {
-        NumericOperator::Add => sum(left, right),
-        NumericOperator::Sub => difference(left, right),
+        NumericOperator::Add => sum_of(aligned(left, right)?),
+        NumericOperator::Sub => difference_of(aligned(left, right)?),
         NumericOperator::Mul => product(left, right),
         NumericOperator::Div => None,
     }
@@ -117,14 +132,33 @@ fn digits_of_item(item: &Item) -> Option<&[u8]>
     }
 }
 
+/// A literal number.
+fn number_of(item: &Item) -> Option<Exact>
+    ensures { result ≡ specs.number_of (item_in item.now) }
+{
+    exact_of(digits_of_item(item)?)
+}
+
 /// The result of the operator on two literal numbers.
 fn folded_number(operator: NumericOperator, left: &Item, right: &Item) -> Option<Exact>
-    ensures { option_map specs.exact_text result
-        ≡ specs.folded operator (item_in left.now) (item_in right.now) }
+    ensures { result ≡ specs.folded_number operator (item_in left.now) (item_in right.now) }
 {
-    let first = exact_of(digits_of_item(left)?)?;
-    let second = exact_of(digits_of_item(right)?)?;
+    let first = number_of(left)?;
+    let second = number_of(right)?;
     result_of(operator, first, second)
+}
+
+/// The text of a number, with as many digits after the point as it has. E9 where an allocation fails.
+fn exact_text(alloc: Global, number: Exact) -> VortexResult<Option<Vec<u8>>>
+    ensures { AnswersUnlessMemory result
+        (λ o. option_map (λ w. w.items) o ≡ specs.exact_text number) }
+{
+    let Some(digits) = digits_at(number.scale) else {
+        return Ok(None);
+    };
+    let mut text = Vec::new(alloc);
+    write_decimal(digits, number.integer, &mut text)?;
+    Ok(Some(text))
 }
 
 /// The text of the result of the operator on two literal numbers, where it is exact: a sum, a
@@ -138,10 +172,8 @@ pub(crate) fn folded(
     ensures { AnswersUnlessMemory result (λ o. option_map (λ w. w.items) o
         ≡ specs.folded operator (item_in left.now) (item_in right.now)) }
 {
-    let Some(number) = folded_number(operator, left, right) else {
-        return Ok(None);
-    };
-    let mut text = Vec::new(alloc);
-    write_decimal(number.digits, number.integer, &mut text)?;
-    Ok(Some(text))
+    match folded_number(operator, left, right) {
+        Some(number) => exact_text(alloc, number),
+        None => Ok(None),
+    }
 }
