@@ -5,11 +5,10 @@ use Rattle.std.specs.Prelude.{◌&&◌, option_and_then, if◌then◌else◌, na
 use Rattle.std.specs.Option.{option_map}
 use Rattle.vortex_errors.specs.declared.error.NumericOperator.{NumericOperator}
 use Rattle.vortex_errors.specs.declared.error.NumericOperator.TheVariants as numeric
-use Rattle.vortex_logical.specs.declared.kind.Kind.{Kind}
-use Rattle.vortex_logical.specs.declared.kind.Kind.TheVariants.{Decimal}
 use Rattle.vortex_logical.specs.Decimals.{rescaled, within_digits}
 use Rattle.vortex_logical.specs.DecimalTexts.{decimal_of_text, decimal_text}
 use Rattle.vortex_logical.specs.Digits.{Digits, digits_of}
+use Rattle.vortex_logical.specs.Kinds.{decimal_digits}
 use Rattle.vortex_logical_calls.specs.Literals.{number_kind}
 use Rattle.vortex_expressions.specs.declared.folding.Exact.{Exact}
 use Rattle.vortex_expressions.specs.declared.folding.Pair.{Pair}
@@ -19,13 +18,14 @@ use Rattle.vortex_expressions.specs.Items.{Item, literal, fraction}
 abbrev pub exact : ℕ → ℤ → Exact
 exact s m = record { integer = m; scale = s }
 
-abbrev pub exact_at : List ℕ → Option Kind → Option Exact
-exact_at w (Some (Decimal d)) = option_map (exact d.scale) (decimal_of_text d w)
-exact_at w k = None
+-- 18 digits, as many of them after the point as the number has
+abbrev pub number_digits : List ℕ → Option Digits
+number_digits w = option_and_then decimal_digits (number_kind w)
 
--- the number of a text without an exponent, if it has at most 18 digits
+-- the number of a text without an exponent, if 18 digits are enough
 abbrev pub exact_of : List ℕ → Option Exact
-exact_of w = exact_at w (number_kind w)
+exact_of w =
+    option_and_then (λ d. option_map (exact d.scale) (decimal_of_text d w)) (number_digits w)
 
 -- 18 digits, so many of them after the point
 abbrev pub digits_at : ℕ → Option Digits

@@ -10,7 +10,6 @@ use std::alloc::Global;
 use vortex_columns::VortexResult;
 use vortex_logical::decimals::{read_decimal, rescale, within_digits, write_decimal};
 use vortex_logical::digits::DecimalDigits;
-use vortex_logical::kind::Kind;
 use vortex_logical_calls::number_kind;
 use vortex_types::NumericOperator;
 
@@ -21,18 +20,22 @@ pub(crate) struct Exact {
     scale: u32,
 }
 
-/// The number of a text without an exponent, if it has at most 18 digits.
+/// 18 digits, as many of them after the point as the number has.
+fn number_digits(number: &[u8]) -> Option<DecimalDigits>
+    ensures { result ≡ specs.number_digits number.now }
+{
+    let kind = number_kind(number)?;
+    kind.decimal_digits()
+}
+
+/// The number of a text without an exponent, if 18 digits are enough.
 fn exact_of(number: &[u8]) -> Option<Exact>
     ensures { result ≡ specs.exact_of number.now }
 {
-    match number_kind(number) {
-        Some(Kind::Decimal(digits)) => {
-            let integer = read_decimal(digits, number)?;
-            let scale = digits.scale();
-            Some(Exact { integer, scale })
-        }
-        _ => None,
-    }
+    let digits = number_digits(number)?;
+    let integer = read_decimal(digits, number)?;
+    let scale = digits.scale();
+    Some(Exact { integer, scale })
 }
 
 /// 18 digits, so many of them after the point.
