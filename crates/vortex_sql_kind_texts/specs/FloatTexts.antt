@@ -22,7 +22,7 @@ stored_type F64 = I64
 stored_type F32 = I32
 
 -- what is read back as the float, by the definition of `float_text`
-abbrev pub made_text : Width → ℤ → Outcome
+unfoldable pub made_text : Width → ℤ → Outcome
 made_text w z = written_or_fault OtherValues (float_text w z)
 
 abbrev pub number_text : Width → ℤ → Outcome
@@ -43,6 +43,7 @@ float_named F32 = refl
 
 number_fits : (w : Width) (z : Option ℤ)
     → GivesType (text_type false) (on_taken (made_text w) z)
+unfolding made_text
 number_fits w None = tt
 number_fits w (Some z) = written_fits OtherValues (float_text w z)
 

@@ -34,6 +34,7 @@ fn stored_type(width: Width) -> PType
 }
 
 /// The text of a stored integer, or the fault where it has none.
+#[tactic(auto, unfolding(crate::specs::FloatTexts::made_text))]
 fn made_text(alloc: Global, width: Width, number: i64) -> VortexResult<Option<String>>
     ensures { MakesRow (specs.made_text width number) result }
 {
