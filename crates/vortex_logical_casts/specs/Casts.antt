@@ -8,6 +8,8 @@ use Rattle.vortex_logical.specs.declared.kind.Kind.TheVariants.{Plain, Date, Tim
 use Rattle.vortex_logical.specs.declared.kind.Kind.TheVariants.{F64, F32}
 use Rattle.vortex_logical.specs.declared.operand.Operand.{Operand}
 use Rattle.vortex_logical.specs.declared.operand.Operand.TheVariants.{Whole, Of}
+use Rattle.vortex_float_texts.specs.declared.width.Width.{Width}
+use Rattle.vortex_float_texts.specs.declared.width.Width.TheVariants as width
 use Rattle.vortex_sql_rows.specs.Types.{has_all_of}
 use Rattle.vortex_sql_kind_texts.specs.declared.kinds.StoredKind.{StoredKind}
 use Rattle.vortex_sql_kind_texts.specs.declared.kinds.StoredKind.TheVariants as stored
@@ -101,10 +103,15 @@ scaled_float_steps d = Two (nearest false I64) (scaling false 0 d.precision)
 abbrev pub writing : WrittenKind → Steps
 writing k = One (alone (standard.KindToText (record { kind = k })))
 
+abbrev pub float_writing : Width → Steps
+float_writing w = One (alone (standard.FloatToText (record { width = w })))
+
 -- to a text
 abbrev pub written_steps : Kind → Option Steps
 written_steps Date = Some (writing written.Date)
 written_steps Timestamp = Some (writing written.Timestamp)
 written_steps (Decimal d) =
     Some (One (record { function = standard.DecimalToText; more = more.One d.scale }))
-written_steps k = None
+written_steps F64 = Some (float_writing width.F64)
+written_steps F32 = Some (float_writing width.F32)
+written_steps Plain = None

@@ -7,8 +7,8 @@ use vortex_logical::digits::DecimalDigits;
 use vortex_logical::kind::Kind;
 use vortex_logical::operand::Operand;
 use vortex_standard::{
-    Cast, DecimalRound, FloatToInt, KindToText, Rounding, Standard, StoredKind, TextToKind, Widen,
-    WrittenKind, has_all_of,
+    Cast, DecimalRound, FloatToInt, FloatToText, KindToText, Rounding, Standard, StoredKind,
+    TextToKind, Widen, Width, WrittenKind, has_all_of,
 };
 use vortex_types::PType;
 
@@ -173,8 +173,13 @@ fn writing(kind: WrittenKind) -> Steps
     Steps::One(alone(Standard::KindToText(KindToText { kind })))
 }
 
-/// The function that writes values of the kind; the text of a float is pinned by no statement of the
-/// toolchain's.
+fn float_writing(width: Width) -> Steps
+    ensures { result ≡ specs.float_writing width }
+{
+    Steps::One(alone(Standard::FloatToText(FloatToText { width })))
+}
+
+/// The function that writes values of the kind.
 pub fn written_steps(kind: &Kind) -> Option<Steps>
     ensures { result ≡ specs.written_steps kind.now }
 {
@@ -186,6 +191,8 @@ pub fn written_steps(kind: &Kind) -> Option<Steps>
             let more = More::One(digits.scale());
             Some(Steps::One(Step { function, more }))
         }
-        _ => None,
+        Kind::F64 => Some(float_writing(Width::F64)),
+        Kind::F32 => Some(float_writing(Width::F32)),
+        Kind::Plain => None,
     }
 }

@@ -67,7 +67,7 @@ kind_named : (k : WrittenKind) → get_or (kind_id k) 0 0 ≡ 115
 kind_named Date = refl
 kind_named Timestamp = refl
 
-written_fits : (f : RowFault) (t : Option (List ℕ))
+pub written_fits : (f : RowFault) (t : Option (List ℕ))
     → GivesType (text_type false) (written_or_fault f t)
 written_fits f None = tt
 written_fits f (Some bs) = made_fits bs

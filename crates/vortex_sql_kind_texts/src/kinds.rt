@@ -15,8 +15,7 @@ pub enum StoredKind {
     F32,
 }
 
-/// What is cast to a text, but for decimals. A float has several texts that are read back as the
-/// float, and which of them is written no contract below says: so none is here.
+/// What is cast to a text, but for decimals, which `DecimalToText` has, and floats (`FloatToText`).
 #[derive(Clone, Copy, Debug, PartialEq, Eq)]
 pub enum WrittenKind {
     Date,

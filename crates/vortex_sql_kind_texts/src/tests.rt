@@ -1,11 +1,13 @@
 //! Rows beside what Python's `datetime`, `struct` and `decimal` made of them on 29 November 2026.
 
 use crate::decimals::{DecimalRound, Rounding};
+use crate::float_texts::FloatToText;
 use crate::from_texts::{TextToDecimal, TextToKind};
 use crate::kinds::{StoredKind, WrittenKind};
 use crate::scales::DecimalScaled;
 use crate::to_texts::{DecimalToText, KindToText};
 use vortex_columns::{Cell, PType, VortexResult};
+use vortex_float_texts::width::Width;
 use vortex_sql_rows::row::{RowFn, TextFn};
 use vortex_sql_try_casts::try_fn::Try;
 
@@ -149,6 +151,46 @@ fn values_of_kinds_have_texts(rt: HostRuntime) {
         let answer = KindToText { kind }.make(rt.alloc(), PType::I64, &[Cell::Int(number)]);
         assert!(rt; answer.is_err());
     }
+}
+
+#[test]
+fn floats_have_texts(rt: HostRuntime) {
+    let rows: [(Width, i128, &str); 27] = [
+        (Width::F64, 4611686018427387904, "2.0"),
+        (Width::F64, 4612811918334230528, "2.5"),
+        (Width::F64, 4591870180066957722, "0.1"),
+        (Width::F64, 4599075939470750516, "0.30000000000000004"),
+        (Width::F64, 4831355200913801216, "1000000000000000.0"),
+        (Width::F64, 4846369599423283200, "1e16"),
+        (Width::F64, 4906019910204099648, "1e20"),
+        (Width::F64, 4950912855330343670, "1e23"),
+        (Width::F64, 4532020583610935537, "0.00001"),
+        (Width::F64, 4517329193108106637, "1e-6"),
+        (Width::F64, 4504762867522569078, "1.5e-7"),
+        (Width::F64, 1, "5e-324"),
+        (Width::F64, 4503599627370496, "2.2250738585072014e-308"),
+        (Width::F64, 9218868437227405311, "1.7976931348623157e308"),
+        (Width::F64, -4638387860618067575, "-123.456"),
+        (Width::F64, 4832362400168542209, "1125899906842624.2"),
+        (Width::F64, 4832362400168542211, "1125899906842624.8"),
+        (Width::F64, 4409024035195715584, "5.684341886080802e-14"),
+        (Width::F64, 0, "0.0"),
+        (Width::F64, -9218868437227405312, "-inf"),
+        (Width::F64, 9221120237041090560, "NaN"),
+        (Width::F32, 1036831949, "0.1"),
+        (Width::F32, 1399379109, "1000000000000.0"),
+        (Width::F32, 1427211495, "1e13"),
+        (Width::F32, 897988541, "0.000001"),
+        (Width::F32, 2139095039, "3.4028235e38"),
+        (Width::F32, 1, "1e-45"),
+    ];
+    for (width, number, expected) in rows {
+        let answer = FloatToText { width }.make(rt.alloc(), PType::I64, &[Cell::Int(number)]);
+        assert!(rt; is_text(answer, expected));
+    }
+    let none = FloatToText { width: Width::F64 };
+    let answer = none.make(rt.alloc(), PType::I64, &[Cell::Int(9221120237041090561)]);
+    assert!(rt; answer.is_err());
 }
 
 #[test]

@@ -49,7 +49,7 @@ fn utf8_text(bytes: Vec<u8>) -> Option<String>
 
 /// The text of these bytes, or the fault where they are none.
 #[tactic(auto, using(crate::proofs::WrittenBytes::no_text_is))]
-fn bytes_or_fault(bytes: Vec<u8>) -> VortexResult<Option<String>>
+pub(crate) fn bytes_or_fault(bytes: Vec<u8>) -> VortexResult<Option<String>>
     ensures { MakesRow (text_or_fault bytes.items) result }
 {
     match utf8_text(bytes) {
@@ -72,7 +72,7 @@ fn kind_text(alloc: Global, kind: WrittenKind, number: i64) -> VortexResult<Opti
 }
 
 /// The number, if it has 32 bits.
-fn day_in(number: i128) -> Option<i64>
+pub(crate) fn day_in(number: i128) -> Option<i64>
     ensures { result ≡ checked I32 number }
 {
     if is_in(PType::I32, number) {

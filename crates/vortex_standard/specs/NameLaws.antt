@@ -24,6 +24,8 @@ use Rattle.vortex_sql_dates.specs.declared.truncations.Unit.{Unit}
 use Rattle.vortex_sql_dates.specs.declared.truncations.Unit.TheVariants as unit
 use Rattle.vortex_sql_pads.specs.declared.pads.Pad.TheVariants as pad
 use Rattle.vortex_sql_patterns.specs.declared.functions.PatternFunction.TheVariants as pattern
+use Rattle.vortex_float_texts.specs.declared.width.Width.{Width}
+use Rattle.vortex_float_texts.specs.declared.width.Width.TheVariants as width
 use Rattle.vortex_sql_kind_texts.specs.declared.kinds.StoredKind.{StoredKind}
 use Rattle.vortex_sql_kind_texts.specs.declared.kinds.StoredKind.TheVariants as stored
 use Rattle.vortex_sql_kind_texts.specs.declared.kinds.WrittenKind.{WrittenKind}
@@ -209,6 +211,10 @@ first_writing : (k : WrittenKind) → IsFirst (standard.KindToText (record { kin
 first_writing written.Date = refl
 first_writing written.Timestamp = refl
 
+first_float_writing : (w : Width) → IsFirst (standard.FloatToText (record { width = w }))
+first_float_writing width.F64 = refl
+first_float_writing width.F32 = refl
+
 first_rounding : (r : Rounding) → IsFirst (standard.DecimalRound (record { rounding = r }))
 first_rounding rounding.Half = refl
 first_rounding rounding.Floor = refl
@@ -316,6 +322,7 @@ first (standard.TimestampTrunc f) = first_timestamp_trunc f.unit
 first (standard.TextToKind f) = first_reading f.kind
 first (standard.TryTextToKind f) = first_try_reading f.kind
 first (standard.KindToText f) = first_writing f.kind
+first (standard.FloatToText f) = first_float_writing f.width
 first (standard.DecimalRound f) = first_rounding f.rounding
 first (standard.PatternFunction pattern.Like) = refl
 first (standard.PatternFunction pattern.Substr) = refl

@@ -59,6 +59,7 @@ use Rattle.vortex_sql_dates.specs.Truncations.{timestamp_trunc_row, timestamp_tr
 use Rattle.vortex_sql_dates.specs.Months as months
 use Rattle.vortex_sql_kind_texts.specs.DecimalRounding.{round_row, round_lawful}
 use Rattle.vortex_sql_kind_texts.specs.DecimalScales.{scaled_row, scaled_lawful}
+use Rattle.vortex_sql_kind_texts.specs.FloatTexts.{float_row, float_lawful}
 use Rattle.vortex_sql_kind_texts.specs.KindTexts as to_texts
 use Rattle.vortex_sql_kind_texts.specs.TextKinds as from_texts
 use Rattle.vortex_sql_kind_texts.specs.Tried as tried
@@ -149,6 +150,7 @@ row_of (standard.TimestampTrunc f) = timestamp_trunc_row f.unit
 row_of (standard.TextToKind f) = from_texts.text_row f.kind
 row_of (standard.TryTextToKind f) = tried.try_text_row f.kind
 row_of (standard.KindToText f) = to_texts.kind_row f.kind
+row_of (standard.FloatToText f) = float_row f.width
 row_of (standard.DecimalRound f) = round_row f.rounding
 row_of (standard.PatternFunction f) = pattern_row f
 
@@ -232,6 +234,7 @@ lawful_of (standard.TimestampTrunc f) = timestamp_trunc_lawful f.unit
 lawful_of (standard.TextToKind f) = from_texts.text_lawful f.kind
 lawful_of (standard.TryTextToKind f) = tried.try_text_lawful f.kind
 lawful_of (standard.KindToText f) = to_texts.kind_lawful f.kind
+lawful_of (standard.FloatToText f) = float_lawful f.width
 lawful_of (standard.DecimalRound f) = round_lawful f.rounding
 lawful_of (standard.PatternFunction f) = pattern_lawful f
 

@@ -254,6 +254,7 @@ macro_rules! with_row {
             Standard::TimestampTrunc($f) => $rows,
             Standard::TextToKind($f) => $rows,
             Standard::KindToText($f) => $texts,
+            Standard::FloatToText($f) => $texts,
             Standard::DecimalRound($f) => $rows,
             Standard::PatternFunction($f) => $patterns,
             Standard::RegexpReplace => {

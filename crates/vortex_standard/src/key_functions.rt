@@ -3,19 +3,21 @@
 use crate::scales::DecimalScale;
 use crate::standard::Standard;
 use vortex_columns::PType;
+use vortex_float_texts::width::Width;
 use vortex_sql_dates::parts::{DatePart, Part, TimestampPart};
 use vortex_sql_dates::truncations::{DateTrunc, TimestampTrunc, Unit};
 use vortex_sql_float_functions::functions::FloatFunction;
 use vortex_sql_floats::floats::FloatOperator;
 use vortex_sql_floats::integers::FloatToInt;
 use vortex_sql_kind_texts::decimals::{DecimalRound, Rounding};
+use vortex_sql_kind_texts::float_texts::FloatToText;
 use vortex_sql_kind_texts::from_texts::TextToKind;
 use vortex_sql_kind_texts::kinds::{StoredKind, WrittenKind};
 use vortex_sql_kind_texts::to_texts::KindToText;
 
 /// The functions on stored keys, each once: what arithmetic over columns of floats and parts of
 /// dates and timestamps call.
-pub const KEY_FUNCTIONS: [Standard; 123] = [
+pub const KEY_FUNCTIONS: [Standard; 125] = [
     Standard::FloatNegate,
     Standard::IntToFloat,
     Standard::WidenFloat,
@@ -183,6 +185,8 @@ pub const KEY_FUNCTIONS: [Standard; 123] = [
     Standard::KindToText(KindToText {
         kind: WrittenKind::Timestamp,
     }),
+    Standard::FloatToText(FloatToText { width: Width::F64 }),
+    Standard::FloatToText(FloatToText { width: Width::F32 }),
     Standard::DecimalRound(DecimalRound {
         rounding: Rounding::Half,
     }),

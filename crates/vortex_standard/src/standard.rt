@@ -28,6 +28,7 @@ use vortex_sql_floats::floats::FloatOperator;
 use vortex_sql_floats::integers::FloatToInt;
 use vortex_sql_in_list::execute_in_list;
 use vortex_sql_kind_texts::decimals::DecimalRound;
+use vortex_sql_kind_texts::float_texts::FloatToText;
 use vortex_sql_kind_texts::from_texts::{TextToDecimal, TextToKind};
 use vortex_sql_kind_texts::scales::DecimalScaled;
 use vortex_sql_kind_texts::to_texts::KindToText;
@@ -127,6 +128,7 @@ pub enum Standard {
     TextToKind(TextToKind),
     TryTextToKind(TextToKind),
     KindToText(KindToText),
+    FloatToText(FloatToText),
     DecimalRound(DecimalRound),
     PatternFunction(PatternFunction),
 }
