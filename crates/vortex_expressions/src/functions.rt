@@ -64,8 +64,7 @@ fn first_kind(fraction_before: bool, items: &[Item]) -> Kind
     fraction_kind(has_fraction, Kind::Plain)
 }
 
-/// The kind of the first value with one among the values of cases, or that of a number with a
-/// fraction.
+/// The kind of the first value of cases with one, or that of a number with a fraction.
 #[tactic(auto, using(crate::proofs::FirstKinds::fraction_again))]
 fn first_case_kind(items: &[Item]) -> Kind
     ensures { result ≡ first_kind (values_of (map item_in items.now)) }
