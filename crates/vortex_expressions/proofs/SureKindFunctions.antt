@@ -169,7 +169,7 @@ sure_elapsed_part : (p : Part) (t : Tree) → IsTyped t → Sure IsItem (elapsed
 sure_elapsed_part part.Epoch t h = h
 sure_elapsed_part part.Day t h =
     sure_item _ (sure_called (Binary operator.Div) None (bound t ∷ bound day_micros ∷ []) refl
-    (λ ks. refl) (h, refl, tt))
+    (λ ks. refl) (h, (refl, tt)))
 sure_elapsed_part p t h = tt
 
 sure_of_value : (f : KindFunction) (i : Item) → IsItem i → Sure IsItem (of_value f i)

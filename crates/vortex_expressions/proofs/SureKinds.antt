@@ -40,7 +40,7 @@ use Rattle.vortex_logical_calls.specs.Comparison.{if_met, compared}
 use Rattle.vortex_logical_calls.specs.Bounds as bounds
 use Rattle.vortex_logical_calls.specs.Computation.{of_operand, of_result}
 use Rattle.vortex_logical_calls.specs.Computation.{float_operator, goes_by_floats}
-use Rattle.vortex_logical.specs.declared.kind.Kind.TheVariants.{Date, Timestamp, Decimal, F64}
+use Rattle.vortex_logical.specs.declared.kind.Kind.TheVariants.{Plain, Date, Timestamp, Decimal, F64}
 use Rattle.vortex_logical.specs.declared.kind.Kind.TheVariants.{F32}
 use Rattle.vortex_standard.specs.declared.standard.Standard.TheVariants as standard
 use Rattle.vortex_logical_calls.specs.Computation.{computed}
