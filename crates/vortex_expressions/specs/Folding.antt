@@ -23,7 +23,7 @@ abbrev pub number_digits : List ℕ → Option Digits
 number_digits w = option_and_then decimal_digits (number_kind w)
 
 -- the number of a text without an exponent, if 18 digits are enough
-abbrev pub exact_of : List ℕ → Option Exact
+unfoldable pub exact_of : List ℕ → Option Exact
 exact_of w =
     option_and_then (λ d. option_map (exact d.scale) (decimal_of_text d w)) (number_digits w)
 

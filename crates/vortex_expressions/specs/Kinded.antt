@@ -230,7 +230,7 @@ spans_joined (Computes o) a b = moved_items o a b
 spans_joined Neither a b = refuses NotHeld
 
 -- the text of the result of two literal numbers
-pub folded_by : KindedOperator → Item → Item → Option (List ℕ)
+abbrev pub folded_by : KindedOperator → Item → Item → Option (List ℕ)
 folded_by (Computes o) a b = folded o a b
 folded_by o a b = None
 

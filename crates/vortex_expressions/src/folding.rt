@@ -29,6 +29,7 @@ fn number_digits(number: &[u8]) -> Option<DecimalDigits>
 }
 
 /// The number of a text without an exponent, if 18 digits are enough.
+#[tactic(auto, unfolding(crate::specs::Folding::exact_of))]
 fn exact_of(number: &[u8]) -> Option<Exact>
     ensures { result ≡ specs.exact_of number.now }
 {

@@ -115,7 +115,6 @@ fn joined_beside(
 }
 
 /// The text of the result of two literal numbers. E9 where an allocation fails.
-#[tactic(auto, unfolding(crate::specs::Kinded::folded_by))]
 fn folded_by(
     alloc: Global,
     operator: KindedOperator,
