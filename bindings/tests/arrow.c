@@ -178,7 +178,7 @@ static void untaken(void) {
     CHECK(strstr(message, "dictionary"));
     schemas[5].dictionary = NULL;
     SAME(run("g", &schema, &out, &error), YK_SCOPE_MISMATCH);
-    SAME(run("'f' = t and n", &schema, &out, &error), YK_TYPE_MISMATCH);
+    SAME(run("'f' = t and t", &schema, &out, &error), YK_TYPE_MISMATCH);
 }
 
 /* Whether the first answer of a text over the batch has that format and those values, of so many bytes a row; the third row is null. */

@@ -97,8 +97,9 @@ class Decimals(unittest.TestCase):
         with self.assertRaises(ArithmeticRefusal) as caught:
             evaluate("p * 1000000000", {"p": [Decimal("1"), Decimal("9999999999.99")]})
         self.assertEqual(caught.exception.row, 1)
-        with self.assertRaises(ExpressionError):
-            evaluate("p / 2", {"p": [Decimal("1")]})
+
+    def test_quotients_are_floats(self):
+        self.assertEqual(evaluate("p / 8 as q", {"p": [Decimal("1"), None, Decimal("-0.5")]})["q"].tolist(), [0.125, None, -0.0625])
 
     def test_groups(self):
         wanted = Expression("p > 100", {"p": "decimal(12,2)"})
