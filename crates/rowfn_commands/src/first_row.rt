@@ -11,22 +11,34 @@ use std::io::Read;
 use vortex_columns::VortexError;
 use vortex_expressions::{Reason, Refusal};
 
-/// Whether types do not go together, and no field is known that made one of them text.
+/// Whether it is one of types that do not go together, or of a call that there is not.
+fn is_refusal_of_types(refusal: &Refusal) -> bool {
+    match refusal {
+        Refusal::NotHeld | Refusal::NoFunction | Refusal::NoCast | Refusal::Kinds(_) => true,
+        Refusal::Binding(error) => matches!(error, VortexError::TypeMismatch(_)),
+        _ => false,
+    }
+}
+
+fn is_reason_of_types(reason: &Reason) -> bool {
+    match reason {
+        Reason::Refused(refusal) => is_refusal_of_types(refusal),
+        _ => false,
+    }
+}
+
+/// The same, where no field is known that made one of them text.
+fn is_query_of_types(error: &QueryError) -> bool {
+    match error {
+        QueryError::NoTruth(_) => true,
+        QueryError::Unread(_, error, field) => field.is_none() && is_reason_of_types(&error.reason),
+        _ => false,
+    }
+}
+
 fn is_of_types(error: &ProgramError) -> bool {
     match error {
-        ProgramError::Query(QueryError::NoTruth(_)) => true,
-        ProgramError::Query(QueryError::Unread(_, error, None)) => {
-            matches!(
-                &error.reason,
-                Reason::Refused(
-                    Refusal::NotHeld
-                        | Refusal::NoFunction
-                        | Refusal::NoCast
-                        | Refusal::Kinds(_)
-                        | Refusal::Binding(VortexError::TypeMismatch(_))
-                )
-            )
-        }
+        ProgramError::Query(error) => is_query_of_types(error),
         _ => false,
     }
 }
