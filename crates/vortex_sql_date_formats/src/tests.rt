@@ -178,7 +178,7 @@ fn other_texts_are_faults(rt: HostRuntime) {
     let rows: [(&str, &str); 16] = [
         ("3-01-01", "YY-MM-DD"),
         ("2003-01-01", "YY-MM-DD"),
-        ("2024 R1", "YYYY \"Q1\""),
+        ("2024 P1", "YYYY \"Q1\""),
         ("5022024", "DD\"02\"YYYY"),
         ("2023-02-29", "YYYY-MM-DD"),
         ("2024-13-01", "YYYY-MM-DD"),
