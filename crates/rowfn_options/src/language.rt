@@ -22,11 +22,14 @@ pub(crate) const AFTER_HELP: &str = "Rows are CSV. EXPRESSION is one answer or m
                                      concat_ws ascii chr translate overlay to_hex space
                                      bit_length regexp_like regexp_substr regexp_instr
                                      regexp_count regexp_replace(s, 'a+', 'b', 'g')
-  round(x, 2), sqrt(x)               numbers; floor ceil trunc abs sign; n::f64 is a float
+                                     regexp_extract(s, '(a+)(b+)', 2) substring(s from 'a+')
+  round(x, 2), sqrt(x)               numbers, halves away from zero; floor ceil trunc abs sign;
+                                     n::f64 is a float, x::decimal(12,2) has two places always
   day + 30, at + interval '3 days'   dates and timestamps: year quarter month week day dow doy hour
                                      minute second epoch date_trunc make_date add_months(day, 1)
-                                     extract(year from at) to_char(day, 'YYYY-MM')
-                                     to_date(s, 'DD/MM/YYYY') to_timestamp
+                                     extract(year from at) dayname monthname
+                                     to_char(day, 'FMDay DD Mon YYYY') to_date(s, 'DD/MM/YYYY')
+                                     to_timestamp(s, 'DD/MM/YYYY HH24:MI')
   cast(a as int), a::int             s::date, s::f64, n::text, x::decimal(12,2); try_cast gives
                                      null where a cast fails
 Types are bool, i8 to i64, u8 to u64, f32, f64, decimal(12,2), date, timestamp and utf8; a ? after

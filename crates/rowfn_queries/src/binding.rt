@@ -10,11 +10,12 @@ ghost use Rattle.vortex_program.specs.Texts.{IsRead};
 ghost use Rattle.rowfn_queries.specs.Queries.{IsTruth, IsTruthFor};
 ghost use Rattle.rowfn_queries.specs.Refusals.{IsNoTruth, RefusesTruth};
 
+use crate::advice::mixed_among;
 use crate::column_type::ColumnType;
 use crate::columns::{Gathered, Scope};
 use crate::declared::Declared;
 use crate::error::QueryError;
-use crate::mixed::{MixedColumn, mixed_among};
+use crate::mixed::MixedColumn;
 use crate::places::places_of;
 use crate::query::Words;
 use crate::question::Question;
@@ -131,7 +132,7 @@ impl Binding<'_> {
         let answers = match parsed.bind(self.alloc, &columns.fields, &columns.kinds) {
             Ok(answers) => answers,
             Err(error) => {
-                let mixed = mixed_among(self.alloc, self.mixed, &names, &error);
+                let mixed = mixed_among(self.alloc, self.mixed, &names, parsed.text, &error);
                 return Err(QueryError::Unread(place_of(form), error, mixed));
             }
         };

@@ -2,6 +2,7 @@
 //! and answers. Columns that are not declared take their types from the first rows.
 #![tactic(auto)]
 
+mod advice;
 pub mod again;
 mod binding;
 pub mod column_type;
@@ -10,6 +11,7 @@ pub mod declared;
 pub mod error;
 pub mod inference;
 pub mod mixed;
+mod other_dates;
 mod places;
 pub mod query;
 pub mod question;

@@ -2,12 +2,11 @@
 ghost use Rattle.std.specs.Prelude.{◌≡◌, ◌<◌, ◌*◌, length};
 
 use crate::inference::is_numeric;
-use crate::scopes::is_in_names;
+use crate::other_dates::dated_column;
 use rowfn_csv::Format;
 use std::alloc::{AllocError, Global};
 use std::{fmt, str};
-use vortex_columns::{DType, StructFields, VortexError};
-use vortex_expressions::{Reason, Refusal, TextError};
+use vortex_columns::{DType, StructFields};
 use vortex_logical::cells::read_cell;
 use vortex_logical::kind::Kind;
 
@@ -53,6 +52,8 @@ pub struct TextField {
     pub is_quoted_null: bool,
     /// Whether null is the empty field alone, as it is where no text for it is given.
     pub is_usual_null: bool,
+    /// The call that reads it, if it is a date or a timestamp in another form, as `29.02.2024`.
+    pub reading: Option<String>,
 }
 
 /// A column that is text by its first rows, and may not be meant to be.
@@ -80,12 +81,16 @@ impl TextField {
             text: String::from_str(alloc, self.text.as_str())?,
             is_quoted_null: self.is_quoted_null,
             is_usual_null: self.is_usual_null,
+            reading: match &self.reading {
+                Some(reading) => Some(String::from_str(alloc, reading.as_str())?),
+                None => None,
+            },
         })
     }
 }
 
 impl MixedColumn {
-    fn try_clone(&self, alloc: Global) -> Result<MixedColumn, AllocError> {
+    pub(crate) fn try_clone(&self, alloc: Global) -> Result<MixedColumn, AllocError> {
         Ok(MixedColumn {
             name: String::from_str(alloc, self.name.as_str())?,
             field: match &self.field {
@@ -110,7 +115,7 @@ fn is_declarable(shape: Shape, text: &str) -> bool {
 }
 
 /// Whether a name is written without quotes.
-fn is_word(name: &str) -> bool {
+pub(crate) fn is_word(name: &str) -> bool {
     let mut bytes = name.as_bytes().iter();
     bytes.all(|byte| byte.is_ascii_alphanumeric() || *byte == b'_')
 }
@@ -136,6 +141,9 @@ impl TextField {
 
     /// Writes how the column of that name is read otherwise.
     fn write_advice<W: fmt::Write>(&self, name: &str, f: &mut fmt::Formatter<W>) -> fmt::Result {
+        if let Some(reading) = &self.reading {
+            return write!(f, "{reading})");
+        }
         let kind = self.shape;
         match (is_declarable(kind, self.text.as_str()), is_word(name)) {
             (true, true) => write!(f, "--columns '{name} {kind}')"),
@@ -320,13 +328,15 @@ fn mixed_column(
             text: String::from_str(alloc, text)?,
             is_quoted_null: format.is_null_text(found.text),
             is_usual_null: format.null.is_empty() && format.more_nulls.is_empty(),
+            reading: None,
         }),
         is_meant: found.is_mostly || is_null_text(text),
     }))
 }
 
 /// The columns of those names that are text, and have numbers, dates or timestamps, or nulls alone:
-/// of rows with those numbers; `is_full` says that others may follow.
+/// of rows with those numbers; `is_full` says that others may follow, `has_date` that what is asked has
+/// a date in a text.
 pub(crate) fn mixed_columns(
     alloc: Global,
     format: &Format<'_>,
@@ -335,6 +345,7 @@ pub(crate) fn mixed_columns(
     fields: &[Option<&[u8]>],
     numbers: &[usize],
     is_full: bool,
+    has_date: bool,
 ) -> Result<Vec<MixedColumn>, AllocError>
     requires { length fields.now ≡ length names.now * length numbers.now }
 {
@@ -348,35 +359,10 @@ pub(crate) fn mixed_columns(
             alloc, format, name, fields, width, numbers, is_full, column,
         )? {
             columns.push(found)?;
+        } else if let Some(mut found) = dated_column(alloc, name, fields, width, numbers, column)? {
+            found.is_meant = has_date;
+            columns.push(found)?;
         }
     }
     Ok(columns)
-}
-
-/// Whether types do not go together.
-fn is_of_types(error: &TextError) -> bool {
-    matches!(
-        &error.reason,
-        Reason::Refused(
-            Refusal::NotHeld | Refusal::Kinds(_) | Refusal::Binding(VortexError::TypeMismatch(_))
-        )
-    )
-}
-
-/// The first of these columns that is among those names, if an error may come of its type.
-pub(crate) fn mixed_among(
-    alloc: Global,
-    columns: &[MixedColumn],
-    names: &[String],
-    error: &TextError,
-) -> Option<MixedColumn> {
-    if !is_of_types(error) {
-        return None;
-    }
-    for column in columns {
-        if is_in_names(names, column.name.as_str()) {
-            return column.try_clone(alloc).ok();
-        }
-    }
-    None
 }

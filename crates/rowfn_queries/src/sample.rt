@@ -12,6 +12,7 @@ use crate::columns::Gathered;
 use crate::error::QueryError;
 use crate::inference::infer;
 use crate::mixed::{MixedColumn, mixed_columns};
+use crate::other_dates::compares_dates;
 use crate::query::Words;
 use crate::rows::{Rows, read_named, read_numbered, read_rows};
 use crate::scopes::typed_columns;
@@ -134,19 +135,30 @@ fn columns_of(
     typed_columns(alloc, names, &types)
 }
 
-/// The columns of rows that are text, by one field, and have numbers.
+/// The columns of rows that are text, by one field, and have numbers, or dates in another form;
+/// whether what is asked has a date.
 fn mixed_of(
     alloc: Global,
     format: &Format<'_>,
     rows: &Rows,
     types: &StructFields,
+    has_date: bool,
 ) -> Result<Vec<MixedColumn>, AllocError> {
     let fields = rows.batch.fields(alloc)?;
     let (names, numbers) = (rows.names.as_slice(), rows.numbers.as_slice());
     if names.len().checked_mul(numbers.len()) != Some(fields.len()) {
         return Ok(Vec::new(alloc));
     }
-    mixed_columns(alloc, format, names, types, &fields, numbers, rows.is_full)
+    mixed_columns(
+        alloc,
+        format,
+        names,
+        types,
+        &fields,
+        numbers,
+        rows.is_full,
+        has_date,
+    )
 }
 
 /// Reads the header, where there is one, and the first rows: without bad ones, where they are left
@@ -176,6 +188,7 @@ pub(crate) fn read_sample<R: Read>(
         Err(RecordError::OutOfMemory) => return Err(QueryError::OutOfMemory),
     }
     sample.columns = columns_of(alloc, &rows.names, &rows.batch, format.any_truths)?;
-    sample.mixed = mixed_of(alloc, &format, &rows, &sample.columns.fields)?;
+    let has_date = compares_dates(words);
+    sample.mixed = mixed_of(alloc, &format, &rows, &sample.columns.fields, has_date)?;
     Ok(sample)
 }

@@ -58,10 +58,19 @@ use Rattle.vortex_expressions.specs.Functions.{standard_item, meant_item, made_d
 use Rattle.vortex_expressions.specs.Functions.{trim_word}
 use Rattle.vortex_syntax.specs.Postfix.{side_of}
 use Rattle.vortex_expressions.specs.Functions.{takes_whole, whole_item, kinds_item, kinded_item}
-use Rattle.vortex_expressions.specs.Functions.{joined_call, joining_item, is_locate, located, format_word, read_by}
+use Rattle.vortex_expressions.specs.Functions.{by_pattern, joined_call, joining_item, is_locate, located, format_word, read_by}
+use Rattle.vortex_expressions.specs.Functions.{is_iso, read_text, read_as, form_word, contained}
+use Rattle.vortex_expressions.specs.Functions.{ended_by, last_day, days_between, formed, formed_item}
+use Rattle.vortex_expressions.specs.declared.written_forms.Form.{Form}
+use Rattle.vortex_expressions.specs.declared.written_forms.Form.TheVariants as form
+use Rattle.vortex_expressions.specs.KindFunctions.{months_after, of_value}
+use Rattle.vortex_expressions.proofs.SureKindFunctions.{sure_months_after, sure_of_value}
+use Rattle.vortex_sql_dates.specs.declared.truncations.Unit.TheVariants as units
+use Rattle.vortex_sql_texts.specs.declared.texts.Measure.TheVariants.{Characters}
+use Rattle.vortex_expressions.specs.KindCasts.{cast_to_kind}
 use Rattle.vortex_expressions.specs.Functions.{named_item}
 use Rattle.vortex_syntax.specs.SizeDigits.{text_size_of}
-use Rattle.vortex_sql_texts.specs.declared.parts.Side.TheVariants.{Left}
+use Rattle.vortex_sql_texts.specs.declared.parts.Side.TheVariants.{Left, Right}
 use Rattle.vortex_expressions.specs.Joining.{as_text, as_texts, joins}
 use Rattle.vortex_expressions.specs.Truths.{as_truth, truth_settled}
 use Rattle.vortex_expressions.proofs.SureTexts.{sure_as_text, sure_as_texts}
@@ -70,7 +79,7 @@ use Rattle.vortex_expressions.specs.Kinded.{first_kind}
 use Rattle.vortex_expressions.specs.KindWords.{kind_word}
 use Rattle.vortex_expressions.specs.declared.kind_words.KindName.{KindName}
 use Rattle.vortex_expressions.specs.declared.kind_words.KindName.TheVariants.{Single}
-use Rattle.vortex_expressions.specs.declared.kind_words.KindFunction.TheVariants.{OfFloat}
+use Rattle.vortex_expressions.specs.declared.kind_words.KindFunction.TheVariants.{OfFloat, ToUnit}
 use Rattle.vortex_expressions.proofs.SureKindFunctions.{sure_single_call, sure_kind_call}
 use Rattle.vortex_logical.specs.declared.operand.Operand.TheVariants.{Of}
 use Rattle.vortex_expressions.specs.Casts.{cast_function, cast_by, cast_from, cast_tree, cast_hint}
@@ -91,12 +100,12 @@ use Rattle.vortex_expressions.proofs.SureCalls.{sure_null, sure_called, sure_ite
 use Rattle.vortex_expressions.proofs.SureCalls.{sure_text, sure_quoted, sure_column, sure_named}
 use Rattle.vortex_expressions.proofs.SureKinds.{sure_kinded_joined, sure_kinded_between, sure_stored}
 use Rattle.vortex_expressions.proofs.SureKinds.{Any, sure_met, sure_aligned_arguments, result_is}
-use Rattle.vortex_expressions.proofs.SureKinds.{sure_kind_item, sure_cast_to_kind}
+use Rattle.vortex_expressions.proofs.SureKinds.{sure_kind_cast, sure_kind_item, sure_cast_to_kind, sure_numeric_cast}
 use Rattle.vortex_expressions.proofs.SureKinds.{sure_stored_cast, sure_fraction_cast}
 use Rattle.vortex_expressions.proofs.SureKinds.{sure_text_literal}
 use Rattle.vortex_expressions.specs.KindCasts.{is_interval_name}
 use Rattle.vortex_expressions.specs.KindCasts.{interval_told, interval_item, is_unit_name}
-use Rattle.vortex_expressions.specs.KindCasts.{unit_text, unit_item}
+use Rattle.vortex_expressions.specs.KindCasts.{unit_text, unit_item, is_numeric_name}
 use Rattle.vortex_expressions.specs.Kinded.{text_literal}
 use Rattle.vortex_expressions.specs.Literals.{has_fraction}
 use Rattle.vortex_logical_calls.specs.Intervals.{interval_of}
@@ -381,8 +390,9 @@ module _ (columns : Names) (sure_columns : (w : List ℕ) → Sure IsItem (colum
       → Sure IsItem (calls.cast_sized o p w n i)
   sure_cast_sized (Some ds) p w n i h = sure_cut_cast p ds i h
   sure_cast_sized None p w n i h =
-      sure_then {A = Option Kind} (λ k. Unit {0}) IsItem (calls.kind_of_name w n) _ (sure_kind_name w n)
-      (λ k j. sure_cast_named p w n i k h)
+      sure_if IsItem (is_numeric_name w n) _ _ (sure_numeric_cast p i h)
+      (sure_then {A = Option Kind} (λ k. Unit {0}) IsItem (calls.kind_of_name w n) _
+      (sure_kind_name w n) (λ k j. sure_cast_named p w n i k h))
 
   sure_cast_with : (b p : Bool) (w : List ℕ) (n : Bool) (i : Item) → IsItem i
       → Sure IsItem (calls.cast_by b p w n i)
@@ -400,8 +410,9 @@ module _ (columns : Names) (sure_columns : (w : List ℕ) → Sure IsItem (colum
       → Sure IsItem (calls.typed_sized o w n i)
   sure_typed_sized (Some ds) w n i h = sure_cut_cast false ds i (literal_item i h)
   sure_typed_sized None w n i h =
-      sure_then {A = Option Kind} (λ k. Unit {0}) IsItem (calls.kind_of_name w n) _ (sure_kind_name w n)
-      (λ k j. sure_typed_named w n i k h)
+      sure_if IsItem (is_numeric_name w n) _ _ (sure_numeric_cast false i (literal_item i h))
+      (sure_then {A = Option Kind} (λ k. Unit {0}) IsItem (calls.kind_of_name w n) _
+      (sure_kind_name w n) (λ k j. sure_typed_named w n i k h))
 
   sure_typed_by : (b : Bool) (w : List ℕ) (n : Bool) (i : Item) → IsLiteral i
       → Sure IsItem (calls.typed_by b w n i)
@@ -636,18 +647,73 @@ module _ (columns : Names) (sure_columns : (w : List ℕ) → Sure IsItem (colum
   sure_located (i ∷ j ∷ []) h = sure_item_call standard.StrPos (j ∷ i ∷ []) (h.1.0, (h.0, tt))
   sure_located (i ∷ j ∷ k ∷ is) h = sure_item_call standard.StrPos (i ∷ j ∷ k ∷ is) h
 
+  sure_read_text : (k : Kind) (f : Standard) (is : List Item) → AllItems is
+      → Sure IsItem (read_text k f is)
+  sure_read_text k f is h =
+      sure_then IsTyped IsItem (function_call f is) _ (sure_call_on f is h) (λ t l. l)
+
+  sure_read_as : (k : Kind) (f : Standard) (is : List Item) → AllItems is
+      → Sure IsItem (read_as k f is)
+  sure_read_as k f (kinded j t ∷ literal (literals.text bs) ∷ []) h =
+      sure_if IsItem (is_iso bs) _ _ (sure_kind_cast false k j t h.0)
+      (sure_read_text k f (kinded j t ∷ literal (literals.text bs) ∷ []) h)
+  sure_read_as k f is h = sure_read_text k f is h
+
   sure_read_by : (o : Option (Kind × Standard)) (is : List Item) → AllItems is
       → Sure IsItem (read_by o is)
   sure_read_by None is h = tt
-  sure_read_by (Some x) is h =
-      sure_then IsTyped IsItem (function_call x.1 is) _ (sure_call_on x.1 is h) (λ t k. k)
+  sure_read_by (Some x) is h = sure_read_as x.0 x.1 is h
+
+  sure_contained : (is : List Item) → AllItems is → Sure IsItem (contained is)
+  sure_contained is h =
+      sure_then IsItem IsItem (function_item standard.StrPos is) _
+      (sure_item_call standard.StrPos is h)
+      (λ i k. sure_item _ (sure_called (Binary operator.Gt) None
+      (i ∷ literal (literals.number (codes "0")) ∷ []) refl (λ ks. refl) (k, (tt, tt))))
+
+  sure_ended_by : (i j : Item) → IsItem i → IsItem j → Sure IsItem (ended_by i j)
+  sure_ended_by i j h k =
+      sure_then IsItem IsItem (function_item (standard.Measure Characters) (j ∷ [])) _
+      (sure_item_call (standard.Measure Characters) (j ∷ []) (k, tt))
+      (λ n l. sure_then IsItem IsItem (function_item (standard.Side Right) (i ∷ n ∷ [])) _
+      (sure_item_call (standard.Side Right) (i ∷ n ∷ []) (h, (l, tt)))
+      (λ r m. sure_item _ (sure_called (Binary operator.Eq) None (r ∷ j ∷ []) refl (λ ks. refl)
+      (m, (k, tt)))))
+
+  sure_last_day : (i : Item) → IsItem i → Sure IsItem (last_day i)
+  sure_last_day i h =
+      let one = literal (literals.number (codes "1")) in
+      sure_then IsItem IsItem (cast_to_kind false Date i) _ (sure_cast_to_kind false Date i h)
+      (λ d k. sure_then IsItem IsItem (of_value (ToUnit units.Month) d) _
+      (sure_of_value (ToUnit units.Month) d k)
+      (λ m l. sure_then IsItem IsItem (months_after m one) _ (sure_months_after m one tt)
+      (λ n q. sure_kinded_joined signs.Sub n one)))
+
+  sure_days_between : (i j : Item) → IsItem i → IsItem j → Sure IsItem (days_between i j)
+  sure_days_between i j h k =
+      sure_then IsItem IsItem (cast_to_kind false Date i) _ (sure_cast_to_kind false Date i h)
+      (λ a l. sure_then IsItem IsItem (cast_to_kind false Date j) _
+      (sure_cast_to_kind false Date j k) (λ b m. sure_kinded_joined signs.Sub a b))
+
+  sure_formed : (f : Form) (is : List Item) → AllItems is → Sure IsItem (formed f is)
+  sure_formed form.Contains is h = sure_contained is h
+  sure_formed form.EndsWith (s ∷ t ∷ []) h = sure_ended_by s t h.0 h.1.0
+  sure_formed form.LastDay (i ∷ []) h = sure_last_day i h.0
+  sure_formed form.DaysBetween (i ∷ j ∷ []) h = sure_days_between i j h.0 h.1.0
+  sure_formed form.DaysBetween (literal (literals.text u) ∷ i ∷ j ∷ []) h =
+      sure_if IsItem (same_word u (codes "day")) _ _ (sure_days_between j i h.1.1.0 h.1.0) tt
+  sure_formed f is h = tt
+
+  sure_formed_item : (o : Option Form) (w : List ℕ) (is : List Item) → AllItems is
+      → Sure IsItem (formed_item o w is)
+  sure_formed_item (Some f) w is h = sure_formed f is h
+  sure_formed_item None w is h = sure_read_by (format_word w) is h
 
   sure_named_item : (o : Option Standard) (w : List ℕ) (is : List Item) → AllItems is
       → Sure IsItem (named_item o w is)
-  sure_named_item (Some f) w is h = sure_joined_call f is h
+  sure_named_item (Some f) w is h = sure_joined_call (by_pattern f is) is h
   sure_named_item None w is h =
-      sure_if IsItem (is_locate w) _ _ (sure_located is h)
-      (sure_read_by (format_word w) is h)
+      sure_if IsItem (is_locate w) _ _ (sure_located is h) (sure_formed_item (form_word w) w is h)
 
   sure_joining : (w : List ℕ) (is : List Item) → AllItems is → Sure IsItem (joining_item w is)
   sure_joining w is h = sure_named_item (standard_named w) w is h

@@ -1,14 +1,13 @@
 -- Calls of functions on values of kinds are trees with a type, or are refused.
 use Rattle.std.proofs.Common.{ℕ, List, [], ◌∷◌, ◌++◌, Option, Some, None, refl}
-use Rattle.std.specs.Prelude.{codes}
 use Rattle.vortex_operators.specs.declared.operators.Operator.TheVariants as operator
 use Rattle.vortex_interface.specs.Shipped.{Binary}
 use Rattle.vortex_interface.specs.Eval.{tree_type}
 use Rattle.vortex_logical.specs.Digits.{Digits}
 use Rattle.vortex_logical_casts.specs.declared.roundings.Rounded.{Rounded}
-use Rattle.vortex_logical_casts.specs.Roundings.{is_rounding, rounded}
+use Rattle.vortex_logical_casts.specs.declared.steps.Step.{Step}
+use Rattle.vortex_logical_casts.specs.Roundings.{float_rounding, is_rounding, rounded}
 use Rattle.vortex_sql_float_functions.specs.declared.functions.FloatFunction.TheVariants as float
-use Rattle.vortex_sql_floats.specs.declared.floats.FloatOperator.TheVariants.{Multiply, Divide}
 use Rattle.vortex_lowering.specs.Rows.{lowered}
 use Rattle.vortex_logical.specs.declared.kind.Kind.{Kind}
 use Rattle.vortex_logical.specs.declared.kind.Kind.TheVariants.{Date, Timestamp, Decimal, F64}
@@ -25,7 +24,8 @@ use Rattle.vortex_standard.specs.declared.standard.Standard.TheVariants as stand
 use Rattle.vortex_expressions.specs.declared.refusal.Refusal.TheVariants.{NotHeld}
 use Rattle.vortex_expressions.specs.declared.kind_words.KindFunction.{KindFunction}
 use Rattle.vortex_expressions.specs.declared.kind_words.KindFunction.TheVariants.{OfFloat, OfPart}
-use Rattle.vortex_expressions.specs.declared.kind_words.KindFunction.TheVariants.{ToUnit}
+use Rattle.vortex_expressions.specs.declared.kind_words.KindFunction.TheVariants.{ToUnit, ToName}
+use Rattle.vortex_expressions.specs.declared.kind_words.Named.{Named}
 use Rattle.vortex_expressions.specs.declared.kind_words.KindName.{KindName}
 use Rattle.vortex_expressions.specs.declared.kind_words.KindName.TheVariants.{Single, PartByText}
 use Rattle.vortex_expressions.specs.declared.kind_words.KindName.TheVariants.{UnitByText, AddMonths, ToChar}
@@ -37,8 +37,8 @@ use Rattle.vortex_expressions.specs.Kinded.{told, text_literal, plain_operand}
 use Rattle.vortex_expressions.specs.KindCasts.{step_on, count_of}
 use Rattle.vortex_expressions.specs.KindWords.{part_word, unit_word}
 use Rattle.vortex_expressions.specs.KindFunctions.{is_numeric, whole_float, kind_float, float_of}
-use Rattle.vortex_expressions.specs.KindFunctions.{float_on, float_call, decimal_rounded, absolute}
-use Rattle.vortex_expressions.specs.KindFunctions.{rounded_or_float, decimal_call, number_call, scaled_float}
+use Rattle.vortex_expressions.specs.KindFunctions.{float_on, float_by, float_call, decimal_rounded, absolute}
+use Rattle.vortex_expressions.specs.KindFunctions.{rounded_or_float, decimal_call, number_call, float_placed}
 use Rattle.vortex_expressions.specs.KindFunctions.{float_places, number_places, placed}
 use Rattle.vortex_expressions.specs.KindFunctions.{places_call, part_function, part_call}
 use Rattle.vortex_expressions.specs.KindFunctions.{unit_function, unit_call, of_value, pair_call}
@@ -47,6 +47,7 @@ use Rattle.vortex_expressions.specs.declared.item.Timespan.TheVariants.{Elapsed}
 use Rattle.vortex_expressions.specs.KindFunctions.{function_by, single_call, text_call, kind_call}
 use Rattle.vortex_expressions.specs.KindFunctions.{months_added, months_after, months_call}
 use Rattle.vortex_expressions.specs.KindFunctions.{char_function, written_by, char_of, char_call}
+use Rattle.vortex_expressions.specs.KindFunctions.{name_format, name_call}
 use Rattle.vortex_expressions.proofs.SureCalls.{Sure, sure_then, sure_if, sure_or, IsTyped, IsItem}
 use Rattle.vortex_expressions.proofs.SureCalls.{AllItems, sure_named_call, sure_item, sure_settled, sure_called}
 use Rattle.vortex_expressions.specs.Months.{months_function}
@@ -77,11 +78,22 @@ sure_float_of i = tt
 sure_float_on : (f : FloatFunction) (t : Tree) → Sure IsTyped (float_on f t)
 sure_float_on f t = sure_named_call (standard.FloatFunction f) (t ∷ [])
 
+sure_float_placed : (o : Option Step) (t : Tree) → Sure IsItem (float_placed o t)
+sure_float_placed None t = tt
+sure_float_placed (Some s) t =
+    sure_then IsTyped IsItem (step_on s t) (λ u. answers (kinded F64 u)) (sure_step s t)
+    (λ u l. l)
+
+sure_float_by : (f : FloatFunction) (t : Tree) → Sure IsItem (float_by f t)
+sure_float_by float.Round t = sure_float_placed (float_rounding float.Round 0) t
+sure_float_by f t =
+    sure_then IsTyped IsItem (float_on f t) (λ u. answers (kinded F64 u)) (sure_float_on f t)
+    (λ u l. l)
+
 sure_float_call : (f : FloatFunction) (i : Item) → Sure IsItem (float_call f i)
 sure_float_call f i =
     sure_then {A = Lowered} Any IsItem (float_of i) _ (sure_float_of i)
-    (λ x h. sure_then IsTyped IsItem (float_on f x.tree) (λ u. answers (kinded F64 u))
-    (sure_float_on f x.tree) (λ u l. l))
+    (λ x h. sure_float_by f x.tree)
 
 -- decimals
 sure_decimal_rounded : (d : Digits) (t : Tree) (o : Option Rounded) → IsTyped t
@@ -112,35 +124,23 @@ sure_number_call f (kinded (Decimal d) t) h = sure_decimal_call f d t h
 sure_number_call f i h = sure_float_call f i
 
 -- places
-sure_scaled_float : (f : FloatFunction) (t s : Tree) → Sure IsItem (scaled_float f t s)
-sure_scaled_float f t s =
-    sure_then IsTyped IsItem
-    (call_of (callable (standard.FloatOperator Multiply)) (t ∷ s ∷ [])) _
-    (sure_named_call (standard.FloatOperator Multiply) (t ∷ s ∷ []))
-    (λ a h. sure_then IsTyped IsItem (float_on f a) _ (sure_float_on f a)
-    (λ b l. sure_then IsTyped IsItem
-    (call_of (callable (standard.FloatOperator Divide)) (b ∷ s ∷ []))
-    (λ c. answers (kinded F64 c))
-    (sure_named_call (standard.FloatOperator Divide) (b ∷ s ∷ [])) (λ c m. m)))
-
-sure_float_places : (f : FloatFunction) (i : Item) (w : List ℕ) → Sure IsItem (float_places f i w)
-sure_float_places f i w =
+sure_float_places : (f : FloatFunction) (i : Item) (n : ℕ) → Sure IsItem (float_places f i n)
+sure_float_places f i n =
     sure_then {A = Lowered} Any IsItem (float_of i) _ (sure_float_of i)
-    (λ x h. sure_then {A = Lowered} Any IsItem (text_literal F64 (codes "1e" ++ w)) _
-    (sure_text_literal F64 (codes "1e" ++ w)) (λ s l. sure_scaled_float f x.tree s.tree))
+    (λ x h. sure_float_placed (float_rounding f n) x.tree)
 
-sure_number_places : (f : FloatFunction) (i : Item) (w : List ℕ) (n : ℕ) → IsItem i
-    → Sure IsItem (number_places f i w n)
-sure_number_places f (kinded (Decimal d) t) w n h = sure_decimal_rounded d t (rounded f d n) h
-sure_number_places f i w n h = sure_float_places f i w
+sure_number_places : (f : FloatFunction) (i : Item) (n : ℕ) → IsItem i
+    → Sure IsItem (number_places f i n)
+sure_number_places f (kinded (Decimal d) t) n h = sure_decimal_rounded d t (rounded f d n) h
+sure_number_places f i n h = sure_float_places f i n
 
-sure_placed : (f : FloatFunction) (i : Item) (w : List ℕ) (o : Option ℕ) → IsItem i
-    → Sure IsItem (placed f i w o)
-sure_placed f i w None h = tt
-sure_placed f i w (Some n) h = sure_number_places f i w n h
+sure_placed : (f : FloatFunction) (i : Item) (o : Option ℕ) → IsItem i
+    → Sure IsItem (placed f i o)
+sure_placed f i None h = tt
+sure_placed f i (Some n) h = sure_number_places f i n h
 
 sure_places_call : (f : FloatFunction) (i j : Item) → IsItem i → Sure IsItem (places_call f i j)
-sure_places_call f i (literal (number w)) h = sure_placed f i w (count_of w) h
+sure_places_call f i (literal (number w)) h = sure_placed f i (count_of w) h
 sure_places_call f i j h = tt
 
 -- parts and units
@@ -172,10 +172,26 @@ sure_elapsed_part part.Day t h =
     (λ ks. refl) (h, (refl, tt)))
 sure_elapsed_part p t h = tt
 
-sure_of_value : (f : KindFunction) (i : Item) → IsItem i → Sure IsItem (of_value f i)
+-- texts by formats
+sure_char_function : (k : Kind) → Sure Any (char_function k)
+sure_char_function Date = tt
+sure_char_function Timestamp = tt
+sure_char_function k = tt
+
+sure_written_by : (k : Kind) (t : Tree) (j : Item) → IsItem j → Sure IsItem (written_by k t j)
+sure_written_by k t j h =
+    sure_then Any IsItem (char_function k) _ (sure_char_function k)
+    (λ f l. sure_then IsTyped IsItem (settled None j) _ (sure_settled None j h)
+    (λ n m. sure_item (call_of (callable f) (t ∷ n ∷ [])) (sure_named_call f (t ∷ n ∷ []))))
+
+sure_name_call : (n : Named) (k : Kind) (t : Tree) → Sure IsItem (name_call n k t)
+sure_name_call n k t = sure_written_by k t (literal (text (name_format n))) tt
+
+pub sure_of_value : (f : KindFunction) (i : Item) → IsItem i → Sure IsItem (of_value f i)
 sure_of_value (OfFloat f) i h = sure_number_call f i h
 sure_of_value (OfPart p) (kinded k t) h = sure_part_call p k t
 sure_of_value (ToUnit u) (kinded k t) h = sure_unit_call u k t
+sure_of_value (ToName n) (kinded k t) h = sure_name_call n k t
 sure_of_value (OfPart p) (interval (Elapsed t)) h = sure_elapsed_part p t h
 sure_of_value f (fraction w) h = tt
 sure_of_value f i h = tt
@@ -213,24 +229,13 @@ sure_months_added k t j h =
     (λ n m. sure_then IsTyped IsItem (call_of (callable f) (t ∷ n ∷ []))
     (λ u. answers (kinded k u)) (sure_named_call f (t ∷ n ∷ [])) (λ u g. g)))
 
-sure_months_after : (i j : Item) → IsItem j → Sure IsItem (months_after i j)
+pub sure_months_after : (i j : Item) → IsItem j → Sure IsItem (months_after i j)
 sure_months_after (kinded k t) j h = sure_months_added k t j h
 sure_months_after i j h = tt
 
 sure_months_call : (is : List Item) → AllItems is → Sure IsItem (months_call is)
 sure_months_call (i ∷ j ∷ []) h = sure_months_after i j h.1.0
 sure_months_call is h = tt
-
-sure_char_function : (k : Kind) → Sure Any (char_function k)
-sure_char_function Date = tt
-sure_char_function Timestamp = tt
-sure_char_function k = tt
-
-sure_written_by : (k : Kind) (t : Tree) (j : Item) → IsItem j → Sure IsItem (written_by k t j)
-sure_written_by k t j h =
-    sure_then Any IsItem (char_function k) _ (sure_char_function k)
-    (λ f l. sure_then IsTyped IsItem (settled None j) _ (sure_settled None j h)
-    (λ n m. sure_item (call_of (callable f) (t ∷ n ∷ [])) (sure_named_call f (t ∷ n ∷ []))))
 
 sure_char_of : (i j : Item) → IsItem j → Sure IsItem (char_of i j)
 sure_char_of (kinded k t) j h = sure_written_by k t j h

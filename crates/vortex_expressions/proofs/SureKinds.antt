@@ -72,14 +72,11 @@ use Rattle.vortex_expressions.specs.KindCasts.{kind_cast, cast_to_kind, cast_by,
 use Rattle.vortex_expressions.specs.KindCasts.{more_trees, step_on, stepped, kind_by, text_cast}
 use Rattle.vortex_expressions.specs.KindCasts.{decimal_cast, number_cast, is_text_type, plain_cast}
 use Rattle.vortex_expressions.specs.KindCasts.{literal_cast, from_kind, stored_cast}
-use Rattle.vortex_expressions.specs.KindCasts.{fraction_cast, float_digits, decimal_of_float}
-use Rattle.vortex_expressions.specs.KindCasts.{float_cast}
-use Rattle.std.specs.Prelude.{◌++◌, codes}
-use Rattle.std.specs.Fmt.{decimal}
+use Rattle.vortex_expressions.specs.KindCasts.{fraction_cast, decimal_of_float}
+use Rattle.vortex_expressions.specs.KindCasts.{numeric_cast, numeric_kind}
 use Rattle.vortex_sql_kind_texts.specs.TextKinds.{overflows}
 use Rattle.vortex_logical.specs.Digits.{Digits}
-use Rattle.vortex_logical_casts.specs.Casts.{scaled_float_steps}
-use Rattle.vortex_sql_floats.specs.declared.floats.FloatOperator.TheVariants.{Multiply}
+use Rattle.vortex_logical_casts.specs.Casts.{float_steps}
 use Rattle.vortex_logical_casts.specs.declared.steps.Step.{Step}
 use Rattle.vortex_logical_casts.specs.declared.steps.Steps.{Steps}
 use Rattle.vortex_logical_casts.specs.declared.steps.Steps.TheVariants.{One, Two}
@@ -458,36 +455,21 @@ sure_instant_cast : (p : Bool) (k : Kind) (f : Standard) (t : Tree)
     → Sure IsItem (instant_cast p k f t)
 sure_instant_cast p k f t = sure_if IsItem p _ _ tt (sure_cast_by k f t)
 
-sure_float_digits : (d : Digits) (t s : Tree) → Sure IsItem (float_digits d t s)
-sure_float_digits d t s =
-    sure_then IsTyped IsItem
-    (call_of (callable (standard.FloatOperator Multiply)) (t ∷ s ∷ []))
-    (kind_by (Decimal d) (Some (scaled_float_steps d)))
-    (sure_named_call (standard.FloatOperator Multiply) (t ∷ s ∷ []))
-    (λ u h. sure_kind_by (Decimal d) (Some (scaled_float_steps d)) u)
-
-sure_decimal_of_float : (d : Digits) (j : Kind) (t : Tree) → IsTyped t
-    → Sure IsItem (decimal_of_float d j t)
-sure_decimal_of_float d j t h =
+sure_decimal_of_float : (p : Bool) (d : Digits) (j : Kind) (t : Tree) → IsTyped t
+    → Sure IsItem (decimal_of_float p d j t)
+sure_decimal_of_float p d j t h =
     let x : Lowered = lowered t (Of j) in
     sure_then {A = Lowered} IsValue IsItem (told (as_float x)) _
     (sure_told IsValue (as_float x) (after_made (float_function x.operand) (Of F64) x h))
-    (λ y l. sure_then {A = Lowered} Any IsItem
-    (text_literal F64 (codes "1e" ++ decimal d.scale)) (λ s. float_digits d y.tree s.tree)
-    (sure_text_literal F64 (codes "1e" ++ decimal d.scale))
-    (λ s m. sure_float_digits d y.tree s.tree))
-
-sure_float_cast : (p : Bool) (d : Digits) (j : Kind) (t : Tree) → IsTyped t
-    → Sure IsItem (float_cast p d j t)
-sure_float_cast p d j t h = sure_if IsItem p _ _ tt (sure_decimal_of_float d j t h)
+    (λ y l. sure_kind_by (Decimal d) (Some (float_steps p d)) y.tree)
 
 sure_decimal_cast : (p : Bool) (d : Digits) (j : Kind) (t : Tree) → IsTyped t
     → Sure IsItem (decimal_cast p d j t)
-sure_decimal_cast p d F64 t h = sure_float_cast p d F64 t h
-sure_decimal_cast p d F32 t h = sure_float_cast p d F32 t h
+sure_decimal_cast p d F64 t h = sure_decimal_of_float p d F64 t h
+sure_decimal_cast p d F32 t h = sure_decimal_of_float p d F32 t h
 sure_decimal_cast p d j t h = sure_kind_by (Decimal d) (decimal_steps p d (Of j)) t
 
-sure_kind_cast : (p : Bool) (k j : Kind) (t : Tree) → IsTyped t → Sure IsItem (kind_cast p k j t)
+pub sure_kind_cast : (p : Bool) (k j : Kind) (t : Tree) → IsTyped t → Sure IsItem (kind_cast p k j t)
 sure_kind_cast p Date Date t h = h
 sure_kind_cast p Timestamp Timestamp t h = h
 sure_kind_cast p F32 F32 t h = h
@@ -526,6 +508,11 @@ sure_cast_to_kind p k (bound t) h = sure_plain_cast p k t h
 sure_cast_to_kind p k (kinded j t) h = sure_kind_cast p k j t h
 sure_cast_to_kind p k (fraction w) h = sure_kind_item k (number w)
 sure_cast_to_kind p k (interval z) h = tt
+
+pub sure_numeric_cast : (p : Bool) (i : Item) → IsItem i → Sure IsItem (numeric_cast p i)
+sure_numeric_cast p (fraction w) h = tt
+sure_numeric_cast p (kinded (Decimal d) t) h = h
+sure_numeric_cast p i h = sure_cast_to_kind p (numeric_kind i) i h
 
 -- casts from kinds
 pub sure_from_kind : (k : Kind) (o : Option Steps) (t : Tree) → Sure IsItem (from_kind k o t)

@@ -52,7 +52,8 @@ use Rattle.vortex_expressions.specs.Calls.{conditions_of}
 use Rattle.vortex_expressions.specs.KindWords.{kind_word}
 use Rattle.vortex_expressions.specs.Functions.{call_kind, function_item, standard_item, meant_item}
 use Rattle.vortex_expressions.specs.Functions.{applied_item, made_date, whole_item, kinds_item}
-use Rattle.vortex_expressions.specs.Functions.{applied_by, joined_call, joining_item, kinded_item}
+use Rattle.vortex_expressions.specs.Functions.{applied_by, by_pattern, joined_call, joining_item}
+use Rattle.vortex_expressions.specs.Functions.{kinded_item, meant_by}
 use Rattle.vortex_expressions.specs.Functions.{named_item}
 use Rattle.vortex_expressions.specs.Joining.{joins, joined_texts}
 use Rattle.vortex_expressions.specs.Calls.{is_concat, concat_item}
@@ -459,20 +460,10 @@ module _ (scope : Fields) (kinds : List Kind) where
     joins_plain standard.ConcatWs is h = refl
     joins_plain f is h = cc
 
-    named_kinds : (w : List ℕ) (f : Standard) (is : List Item) (r : Item) → kind_word w ≡ None
-        → standard_named w ≡ Some f → kinds_item w is ≡ answers r → IsCall f is answers r
-    named_kinds w f is r k n e =
-        let one : joining_item w is ≡ answers r = by (is_plain (first_kind is)) e in
-        let two : joined_call f is ≡ answers r =
-        ap (λ o. named_item o w is) (sym n) ∙ one in
-        choose (joins f) refl two
+    joined_kinds : (f : Standard) (is : List Item) (r : Item) → joined_call f is ≡ answers r
+        → IsCall f is answers r
+    joined_kinds f is r e = choose (joins f) refl e
       where
-        by : (b : Bool)
-            → cond b (whole_item (kind_word w) w is) (kinded_item (kind_word w) w is) ≡ answers r
-            → joining_item w is ≡ answers r
-        by true h = ap (λ (o : Option KindName). whole_item o w is) (sym k) ∙ h
-        by false h = ap (λ (o : Option KindName). kinded_item o w is) (sym k) ∙ h
-
         choose : (b : Bool) → joins f ≡ b
             → cond b (joined_texts f is) (function_item f is) ≡ answers r → IsCall f is answers r
         choose true j h =
@@ -483,10 +474,24 @@ module _ (scope : Fields) (kinds : List Kind) where
             }
         choose false j h = record { called = r; calls = λ p. law f is r p h; made = refl }
 
+    named_kinds : (w : List ℕ) (f : Standard) (is : List Item) (r : Item) → kind_word w ≡ None
+        → standard_named w ≡ Some f → kinds_item w is ≡ answers r
+        → IsCall (by_pattern f is) is answers r
+    named_kinds w f is r k n e =
+        let one : joining_item w is ≡ answers r = by (is_plain (first_kind is)) e in
+        joined_kinds (by_pattern f is) is r (ap (λ o. named_item o w is) (sym n) ∙ one)
+      where
+        by : (b : Bool)
+            → cond b (whole_item (kind_word w) w is) (kinded_item (kind_word w) w is) ≡ answers r
+            → joining_item w is ≡ answers r
+        by true h = ap (λ (o : Option KindName). whole_item o w is) (sym k) ∙ h
+        by false h = ap (λ (o : Option KindName). kinded_item o w is) (sym k) ∙ h
+
     -- that of no date
     named_by : (h : Bool) (w : List ℕ) (f : Standard) (is : List Item) (r : Item)
         → same_word w (codes "make_date") ≡ false → kind_word w ≡ None
-        → standard_named w ≡ Some f → applied_by h w is ≡ answers r → IsCall f is answers r
+        → standard_named w ≡ Some f → applied_by h w is ≡ answers r
+        → IsCall (meant_by h f is) is answers r
     named_by false w f is r m k n e = named_call w f is r k n e
     named_by true w f is r m k n e =
         named_kinds w f is r k n
@@ -494,7 +499,8 @@ module _ (scope : Fields) (kinds : List Kind) where
 
     names_call : NamesCall scope kinds
     names_call p w args a f us t m k n h e =
-        ended_call f (reverse us) answers (applied_by names.has_kinds w) _ us t h
+        ended_call (meant_by names.has_kinds f (reverse us)) (reverse us) answers
+        (applied_by names.has_kinds w) _ us t h
         (λ r g. named_by names.has_kinds w f (reverse us) r m k n g) e
 
     case_call : (b : Bool) (is js : List Item) (r : Item) → conditions_of b is ≡ answers js

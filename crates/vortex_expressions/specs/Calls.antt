@@ -55,7 +55,7 @@ pub use Rattle.vortex_expressions.specs.Kinded.{is_kinded, kinded_joined, kinded
 pub use Rattle.vortex_expressions.specs.Kinded.{stored_item, is_plain, stores}
 use Rattle.vortex_expressions.specs.KindCasts.{word_kind, kind_item, cast_to_kind, stored_cast}
 use Rattle.vortex_expressions.specs.KindCasts.{fraction_cast, is_interval_name, interval_item}
-use Rattle.vortex_expressions.specs.KindCasts.{is_unit_name, unit_item}
+use Rattle.vortex_expressions.specs.KindCasts.{is_unit_name, unit_item, is_numeric_name, numeric_cast}
 
 -- In quotes each quote is doubled, and the second of two is skipped: the mark is true after the
 -- first.
@@ -212,7 +212,8 @@ cut_cast p ds i = and_then (cast_of_kind p (codes "varchar") false i) (cut_item 
 
 abbrev pub cast_sized : Option (List ℕ) → Bool → List ℕ → Bool → Item → Outcome Item
 cast_sized (Some ds) p w n i = cut_cast p ds i
-cast_sized None p w n i = and_then (kind_of_name w n) (cast_named p w n i)
+cast_sized None p w n i =
+    if is_numeric_name w n then numeric_cast p i else and_then (kind_of_name w n) (cast_named p w n i)
 
 abbrev pub cast_by : Bool → Bool → List ℕ → Bool → Item → Outcome Item
 cast_by false p w n i = cast_item p w n i
@@ -221,7 +222,9 @@ cast_by true p w n i = cast_sized (text_size_of w) p w n i
 -- a literal of the type of that name
 abbrev pub typed_sized : Option (List ℕ) → List ℕ → Bool → Item → Outcome Item
 typed_sized (Some ds) w n i = cut_cast false ds i
-typed_sized None w n i = and_then (kind_of_name w n) (typed_named w n i)
+typed_sized None w n i =
+    if is_numeric_name w n then numeric_cast false i
+    else and_then (kind_of_name w n) (typed_named w n i)
 
 abbrev pub typed_by : Bool → List ℕ → Bool → Item → Outcome Item
 typed_by false w n i = typed_item w n i

@@ -1,7 +1,7 @@
 -- Calls of functions on items. Of values of kinds some functions take those that meet in a kind: each becomes the
 -- integer that stores it in that kind.
 use Rattle.std.specs.Prelude.{ℕ, List, [], ◌∷◌, Bool, true, false, ◌||◌, if◌then◌else◌}
-use Rattle.std.specs.Prelude.{Option, Some, None, codes}
+use Rattle.std.specs.Prelude.{Option, Some, None, codes, length, take, nat_lt}
 use Rattle.vortex_logical.specs.declared.kind.Kind.{Kind}
 use Rattle.vortex_logical.specs.declared.kind.Kind.TheVariants.{Date, Timestamp, Plain}
 use Rattle.vortex_logical.specs.declared.operand.Operand.{Operand}
@@ -19,15 +19,29 @@ use Rattle.vortex_standard.specs.Names.{standard_named}
 use Rattle.vortex_expressions.specs.declared.refusal.Refusal.TheVariants.{NoFunction}
 use Rattle.vortex_sql_float_functions.specs.declared.functions.FloatFunction.{FloatFunction}
 use Rattle.vortex_sql_float_functions.specs.declared.functions.FloatFunction.TheVariants as float
-use Rattle.vortex_expressions.specs.declared.kind_words.KindFunction.TheVariants.{OfFloat}
+use Rattle.vortex_expressions.specs.declared.kind_words.KindFunction.TheVariants.{OfFloat, ToUnit}
 use Rattle.vortex_expressions.specs.declared.kind_words.KindName.{KindName}
 use Rattle.vortex_expressions.specs.declared.kind_words.KindName.TheVariants.{Single}
 use Rattle.vortex_expressions.specs.Outcomes.{Outcome, answers, refuses, and_then, or_refuses}
-use Rattle.vortex_expressions.specs.Items.{Item, bound, kinded, Tree, as_item}
+use Rattle.vortex_expressions.specs.Items.{Item, literal, bound, kinded, Tree, as_item, called, meaning}
 use Rattle.vortex_expressions.specs.Applied.{values_of, function_call}
 use Rattle.vortex_expressions.specs.Kinded.{told, first_kind, is_plain, item_operand, value_item}
+use Rattle.vortex_expressions.specs.Kinded.{kinded_joined}
 use Rattle.vortex_expressions.specs.KindWords.{kind_word}
-use Rattle.vortex_expressions.specs.KindFunctions.{single_call, kind_call}
+use Rattle.vortex_expressions.specs.KindCasts.{is_text_type, kind_cast, cast_to_kind}
+use Rattle.vortex_expressions.specs.Literals.{text, number}
+use Rattle.vortex_interface.specs.Functions.{ours}
+use Rattle.vortex_interface.specs.Shipped.{Binary}
+use Rattle.vortex_operators.specs.declared.operators.Operator.TheVariants as operator
+use Rattle.vortex_syntax.specs.declared.step.WrittenOperator.TheVariants as written
+use Rattle.vortex_sql_dates.specs.declared.truncations.Unit.TheVariants as units
+use Rattle.vortex_sql_texts.specs.declared.parts.Side.TheVariants.{Right}
+use Rattle.vortex_sql_texts.specs.declared.texts.Measure.TheVariants.{Characters}
+use Rattle.vortex_expressions.specs.declared.written_forms.Form.{Form}
+use Rattle.vortex_expressions.specs.declared.written_forms.Form.TheVariants as form
+use Rattle.vortex_interface.specs.Eval.{tree_type}
+use Rattle.vortex_sql_patterns.specs.declared.functions.PatternFunction.TheVariants as pattern
+use Rattle.vortex_expressions.specs.KindFunctions.{single_call, kind_call, months_after, of_value}
 use Rattle.vortex_expressions.specs.Joining.{joins, joined_texts}
 
 -- functions that return one of their values
@@ -131,6 +145,22 @@ takes_whole f = true
 abbrev pub joined_call : Standard → List Item → Outcome Item
 joined_call f is = if joins f then joined_texts f is else function_item f is
 
+-- a text, next to which `substring` finds a pattern
+abbrev pub is_text : Item → Bool
+is_text (literal (text bs)) = true
+is_text (bound t) = is_text_type (tree_type meaning t)
+is_text i = false
+
+abbrev pub by_pattern : Standard → List Item → Standard
+by_pattern standard.Substr (i ∷ j ∷ []) =
+    if is_text j then standard.PatternFunction pattern.Part else standard.Substr
+by_pattern f is = f
+
+-- what a name that has this function means of these arguments, over columns with kinds where the
+-- flag is true
+abbrev pub meant_by : Bool → Standard → List Item → Standard
+meant_by h f is = if h then by_pattern f is else f
+
 -- `position(a in b)` is `position(a, b)`
 abbrev pub is_locate : List ℕ → Bool
 is_locate w = same_word w (codes "locate") || same_word w (codes "position")
@@ -149,18 +179,85 @@ format_word w =
     else (if same_word w (codes "try_to_timestamp")
     then Some (Timestamp, standard.TryTextToTimestampBy) else None)))
 
+-- a format that begins as dates are written
+abbrev pub is_iso : List ℕ → Bool
+is_iso bs =
+    if nat_lt (length bs) 10 then false
+    else same_word (take 10 bs) (codes "YYYY-MM-DD") || same_word (take 10 bs) (codes "YYYY/MM/DD")
+
+abbrev pub read_text : Kind → Standard → List Item → Outcome Item
+read_text k f is = and_then (function_call f is) (λ t. answers (kinded k t))
+
+-- a value that was read as its format says is cast
+abbrev pub read_as : Kind → Standard → List Item → Outcome Item
+read_as k f (kinded j t ∷ literal (text bs) ∷ []) =
+    if is_iso bs then kind_cast false k j t else read_text k f (kinded j t ∷ literal (text bs) ∷ [])
+read_as k f is = read_text k f is
+
 abbrev pub read_by : Option (Kind × Standard) → List Item → Outcome Item
 read_by None is = refuses NoFunction
-read_by (Some x) is = and_then (function_call x.1 is) (λ t. answers (kinded x.0 t))
+read_by (Some x) is = read_as x.0 x.1 is
+
+-- the forms that are written out in other functions, by name
+abbrev pub form_word : List ℕ → Option Form
+form_word w =
+    if same_word w (codes "contains") then Some form.Contains
+    else (if same_word w (codes "ends_with") || same_word w (codes "endswith")
+    then Some form.EndsWith
+    else (if same_word w (codes "last_day") then Some form.LastDay
+    else (if same_word w (codes "datediff") || same_word w (codes "date_diff")
+    then Some form.DaysBetween else None)))
+
+-- the place of one text in another is above 0
+abbrev pub contained : List Item → Outcome Item
+contained is =
+    and_then (function_item standard.StrPos is) (λ i.
+    as_item (called (ours (Binary operator.Gt)) None (i ∷ literal (number (codes "0")) ∷ [])))
+
+-- the last characters of a text, as many as the other has, are the other
+abbrev pub ended_by : Item → Item → Outcome Item
+ended_by s t =
+    and_then (function_item (standard.Measure Characters) (t ∷ [])) (λ n.
+    and_then (function_item (standard.Side Right) (s ∷ n ∷ [])) (λ r.
+    as_item (called (ours (Binary operator.Eq)) None (r ∷ t ∷ []))))
+
+-- the day before the month after that of a date begins
+abbrev pub last_day : Item → Outcome Item
+last_day i =
+    and_then (cast_to_kind false Date i) (λ d.
+    and_then (of_value (ToUnit units.Month) d) (λ m.
+    and_then (months_after m (literal (number (codes "1")))) (λ n.
+    kinded_joined written.Sub n (literal (number (codes "1"))))))
+
+-- the days from the second date to the first
+abbrev pub days_between : Item → Item → Outcome Item
+days_between i j =
+    and_then (cast_to_kind false Date i) (λ a.
+    and_then (cast_to_kind false Date j) (λ b. kinded_joined written.Sub a b))
+
+-- after the name of the unit, the days from the first date to the second
+abbrev pub units_between : List ℕ → Item → Item → Outcome Item
+units_between u i j = if same_word u (codes "day") then days_between j i else refuses NoFunction
+
+abbrev pub formed : Form → List Item → Outcome Item
+formed form.Contains is = contained is
+formed form.EndsWith (s ∷ t ∷ []) = ended_by s t
+formed form.LastDay (i ∷ []) = last_day i
+formed form.DaysBetween (i ∷ j ∷ []) = days_between i j
+formed form.DaysBetween (literal (text u) ∷ i ∷ j ∷ []) = units_between u i j
+formed f is = refuses NoFunction
 
 -- of names that no function has, over columns with kinds
+abbrev pub formed_item : Option Form → List ℕ → List Item → Outcome Item
+formed_item (Some f) w is = formed f is
+formed_item None w is = read_by (format_word w) is
+
 abbrev pub unnamed_item : List ℕ → List Item → Outcome Item
-unnamed_item w is =
-    if is_locate w then located is else read_by (format_word w) is
+unnamed_item w is = if is_locate w then located is else formed_item (form_word w) w is
 
 abbrev pub named_item : Option Standard → List ℕ → List Item → Outcome Item
 named_item None w is = unnamed_item w is
-named_item (Some f) w is = joined_call f is
+named_item (Some f) w is = joined_call (by_pattern f is) is
 
 abbrev pub joining_item : List ℕ → List Item → Outcome Item
 joining_item w is = named_item (standard_named w) w is

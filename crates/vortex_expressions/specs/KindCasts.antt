@@ -1,7 +1,6 @@
 -- Literals of kinds by name, and casts from and to kinds.
 use Rattle.std.specs.Prelude.{ℕ, ℤ, List, [], ◌∷◌, Bool, true, false, ◌||◌, Option, Some, None}
 use Rattle.std.specs.Prelude.{codes, pos, ◌++◌, if◌then◌else◌}
-use Rattle.std.specs.Fmt.{decimal}
 use Rattle.std.specs.Str.{str_to_ascii_lowercase}
 use Rattle.vortex_types.specs.declared.dtype.PType.TheVariants.{I64}
 use Rattle.vortex_types.specs.LogicalTypes.{LogicalType, integer_type, text_type}
@@ -23,9 +22,8 @@ use Rattle.vortex_logical_casts.specs.declared.steps.Steps.TheVariants.{One, Two
 use Rattle.vortex_logical_casts.specs.declared.steps.More.{More}
 use Rattle.vortex_logical_casts.specs.declared.steps.More.TheVariants as more
 use Rattle.vortex_logical_casts.specs.Casts.{text_steps, decimal_steps, integer_steps, written_steps}
-use Rattle.vortex_logical_casts.specs.Casts.{scaled_float_steps}
-use Rattle.vortex_logical.specs.Digits.{Digits}
-use Rattle.vortex_sql_floats.specs.declared.floats.FloatOperator.TheVariants.{Multiply}
+use Rattle.vortex_logical_casts.specs.Casts.{float_steps}
+use Rattle.vortex_logical.specs.Digits.{Digits, digits_of}
 use Rattle.vortex_lowering.specs.Rows.{lowered}
 use Rattle.vortex_logical_calls.specs.Calls.{Lowered}
 use Rattle.vortex_logical_calls.specs.Conversions.{as_float}
@@ -126,24 +124,16 @@ cast_by k f t = and_then (call_of (callable f) (t ∷ [])) (λ u. answers (kinde
 abbrev pub instant_cast : Bool → Kind → Standard → Tree → Outcome Item
 instant_cast p k f t = if p then refuses NoCast else cast_by k f t
 
--- a float times ten to the scale, as so many digits; by `try_cast` none
-abbrev pub float_digits : Digits → Tree → Tree → Outcome Item
-float_digits d t s =
-    and_then (call_of (callable (standard.FloatOperator Multiply)) (t ∷ s ∷ []))
-    (kind_by (Decimal d) (Some (scaled_float_steps d)))
-
-abbrev pub decimal_of_float : Digits → Kind → Tree → Outcome Item
-decimal_of_float d j t =
-    and_then (told (as_float (lowered t (Of j)))) (λ x.
-    and_then (text_literal F64 (codes "1e" ++ decimal d.scale)) (λ s. float_digits d x.tree s.tree))
-
-abbrev pub float_cast : Bool → Digits → Kind → Tree → Outcome Item
-float_cast p d j t = if p then refuses NoCast else decimal_of_float d j t
+-- a float as so many digits
+abbrev pub decimal_of_float : Bool → Digits → Kind → Tree → Outcome Item
+decimal_of_float p d j t =
+    and_then (told (as_float (lowered t (Of j))))
+    (λ x. kind_by (Decimal d) (Some (float_steps p d)) x.tree)
 
 -- a value of a kind as a decimal
 abbrev pub decimal_cast : Bool → Digits → Kind → Tree → Outcome Item
-decimal_cast p d F64 t = float_cast p d F64 t
-decimal_cast p d F32 t = float_cast p d F32 t
+decimal_cast p d F64 t = decimal_of_float p d F64 t
+decimal_cast p d F32 t = decimal_of_float p d F32 t
 decimal_cast p d j t = kind_by (Decimal d) (decimal_steps p d (Of j)) t
 
 -- a value of the first kind as one of the second, by `try_cast` if the flag is true: of its own kind
@@ -193,6 +183,26 @@ cast_to_kind p k (bound t) = plain_cast p k t
 cast_to_kind p k (kinded j t) = kind_cast p k j t
 cast_to_kind p k (fraction w) = kind_item k (number w)
 cast_to_kind p k (interval z) = refuses NoCast
+
+-- `numeric` without digits is the type of a decimal as it is, of a whole number with 18 digits, and
+-- of all else a float
+abbrev pub is_numeric_name : List ℕ → Bool → Bool
+is_numeric_name w n =
+    if n then false else same_word w (codes "numeric") || same_word w (codes "decimal")
+
+abbrev pub whole_kind : Operand → Kind
+whole_kind (Whole p) = Decimal (digits_of 18 0)
+whole_kind a = F64
+
+abbrev pub numeric_kind : Item → Kind
+numeric_kind (bound t) = whole_kind (plain_operand (tree_type meaning t))
+numeric_kind (literal (number w)) = Decimal (digits_of 18 0)
+numeric_kind i = F64
+
+abbrev pub numeric_cast : Bool → Item → Outcome Item
+numeric_cast p (fraction w) = answers (fraction w)
+numeric_cast p (kinded (Decimal d) t) = answers (kinded (Decimal d) t)
+numeric_cast p i = cast_to_kind p (numeric_kind i) i
 
 abbrev pub from_kind : Kind → Option Steps → Tree → Outcome Item
 from_kind k None t = refuses (OfKind k)

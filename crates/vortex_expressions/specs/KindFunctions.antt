@@ -19,13 +19,13 @@ use Rattle.vortex_logical.specs.declared.operand.Operand.{Operand}
 use Rattle.vortex_logical.specs.declared.operand.Operand.TheVariants.{Whole, Of}
 use Rattle.vortex_logical.specs.Digits.{Digits, digits_of}
 use Rattle.vortex_logical_casts.specs.declared.roundings.Rounded.{Rounded}
-use Rattle.vortex_logical_casts.specs.Roundings.{is_rounding, rounded}
+use Rattle.vortex_logical_casts.specs.declared.steps.Step.{Step}
+use Rattle.vortex_logical_casts.specs.Roundings.{float_rounding, is_rounding, rounded}
 use Rattle.vortex_lowering.specs.Rows.{lowered}
 use Rattle.vortex_logical_calls.specs.Calls.{Lowered}
 use Rattle.vortex_logical_calls.specs.Conversions.{as_float}
 use Rattle.vortex_sql_float_functions.specs.declared.functions.FloatFunction.{FloatFunction}
 use Rattle.vortex_sql_float_functions.specs.declared.functions.FloatFunction.TheVariants as float
-use Rattle.vortex_sql_floats.specs.declared.floats.FloatOperator.TheVariants.{Multiply, Divide}
 use Rattle.vortex_sql_dates.specs.declared.parts.Part.{Part}
 use Rattle.vortex_sql_dates.specs.declared.parts.Part.TheVariants as part
 use Rattle.vortex_sql_dates.specs.declared.truncations.Unit as units
@@ -36,7 +36,9 @@ use Rattle.vortex_expressions.specs.declared.refusal.BindStop.{BindStop}
 use Rattle.vortex_expressions.specs.declared.refusal.BindStop.TheVariants.{Refused}
 use Rattle.vortex_expressions.specs.declared.kind_words.KindFunction.{KindFunction}
 use Rattle.vortex_expressions.specs.declared.kind_words.KindFunction.TheVariants.{OfFloat, OfPart}
-use Rattle.vortex_expressions.specs.declared.kind_words.KindFunction.TheVariants.{ToUnit}
+use Rattle.vortex_expressions.specs.declared.kind_words.KindFunction.TheVariants.{ToUnit, ToName}
+use Rattle.vortex_expressions.specs.declared.kind_words.Named.{Named}
+use Rattle.vortex_expressions.specs.declared.kind_words.Named.TheVariants as named
 use Rattle.vortex_expressions.specs.declared.kind_words.KindName.{KindName}
 use Rattle.vortex_expressions.specs.declared.kind_words.KindName.TheVariants.{Single, PartByText}
 use Rattle.vortex_expressions.specs.declared.kind_words.KindName.TheVariants.{UnitByText, AddMonths, ToChar}
@@ -81,10 +83,19 @@ float_of i = refuses (Binding (TypeMismatch Scalars))
 abbrev pub float_on : FloatFunction → Tree → Outcome Tree
 float_on f t = call_of (callable (standard.FloatFunction f)) (t ∷ [])
 
+-- a float by a function that rounds to places, if there is one
+abbrev pub float_placed : Option Step → Tree → Outcome Item
+float_placed None t = refuses (Binding (TypeMismatch Scalars))
+float_placed (Some s) t = and_then (step_on s t) (λ u. answers (kinded F64 u))
+
+-- the function of a float; `round` keeps no places
+abbrev pub float_by : FloatFunction → Tree → Outcome Item
+float_by float.Round t = float_placed (float_rounding float.Round 0) t
+float_by f t = and_then (float_on f t) (λ u. answers (kinded F64 u))
+
 -- of the nearest float
 abbrev pub float_call : FloatFunction → Item → Outcome Item
-float_call f i =
-    and_then (float_of i) (λ x. and_then (float_on f x.tree) (λ u. answers (kinded F64 u)))
+float_call f i = and_then (float_of i) (λ x. float_by f x.tree)
 
 -- decimals are rounded as decimals
 abbrev pub decimal_rounded : Digits → Tree → Option Rounded → Outcome Item
@@ -110,30 +121,20 @@ abbrev pub number_call : FloatFunction → Item → Outcome Item
 number_call f (kinded (Decimal d) t) = decimal_call f d t
 number_call f i = float_call f i
 
--- a float, times ten to the places, rounded, and divided by that
-abbrev pub scaled_float : FloatFunction → Tree → Tree → Outcome Item
-scaled_float f t s =
-    and_then (call_of (callable (standard.FloatOperator Multiply)) (t ∷ s ∷ [])) (λ a.
-    and_then (float_on f a) (λ b.
-    and_then (call_of (callable (standard.FloatOperator Divide)) (b ∷ s ∷ [])) (λ c.
-    answers (kinded F64 c))))
-
-abbrev pub float_places : FloatFunction → Item → List ℕ → Outcome Item
-float_places f i w =
-    and_then (float_of i) (λ x.
-    and_then (text_literal F64 (codes "1e" ++ w)) (λ s. scaled_float f x.tree s.tree))
+abbrev pub float_places : FloatFunction → Item → ℕ → Outcome Item
+float_places f i n = and_then (float_of i) (λ x. float_placed (float_rounding f n) x.tree)
 
 -- a number rounded to so many places
-abbrev pub number_places : FloatFunction → Item → List ℕ → ℕ → Outcome Item
-number_places f (kinded (Decimal d) t) w n = decimal_rounded d t (rounded f d n)
-number_places f i w n = float_places f i w
+abbrev pub number_places : FloatFunction → Item → ℕ → Outcome Item
+number_places f (kinded (Decimal d) t) n = decimal_rounded d t (rounded f d n)
+number_places f i n = float_places f i n
 
-abbrev pub placed : FloatFunction → Item → List ℕ → Option ℕ → Outcome Item
-placed f i w None = refuses (Binding (TypeMismatch Scalars))
-placed f i w (Some n) = number_places f i w n
+abbrev pub placed : FloatFunction → Item → Option ℕ → Outcome Item
+placed f i None = refuses (Binding (TypeMismatch Scalars))
+placed f i (Some n) = number_places f i n
 
 abbrev pub places_call : FloatFunction → Item → Item → Outcome Item
-places_call f i (literal (number w)) = placed f i w (count_of w)
+places_call f i (literal (number w)) = placed f i (count_of w)
 places_call f i j = refuses (Binding (TypeMismatch Scalars))
 
 abbrev pub part_function : Part → Kind → Outcome Standard
@@ -170,8 +171,28 @@ elapsed_part part.Day t =
     as_item (called (ours (Binary operator.Div)) None (bound t ∷ bound day_micros ∷ []))
 elapsed_part p t = refuses NotHeld
 
+-- the text of a date or a timestamp by a format
+abbrev pub char_function : Kind → Outcome Standard
+char_function Date = answers standard.DateToChar
+char_function Timestamp = answers standard.TimestampToChar
+char_function k = refuses (OfKind k)
+
+abbrev pub written_by : Kind → Tree → Item → Outcome Item
+written_by k t j =
+    and_then (char_function k) (λ f.
+    and_then (settled None j) (λ n. as_item (call_of (callable f) (t ∷ n ∷ []))))
+
+-- the format of a name
+abbrev pub name_format : Named → List ℕ
+name_format named.Day = codes "FMDay"
+name_format named.Month = codes "FMMonth"
+
+abbrev pub name_call : Named → Kind → Tree → Outcome Item
+name_call n k t = written_by k t (literal (text (name_format n)))
+
 abbrev pub of_value : KindFunction → Item → Outcome Item
 of_value (OfFloat f) i = number_call f i
+of_value (ToName n) (kinded k t) = name_call n k t
 of_value (OfPart p) (kinded k t) = part_call p k t
 of_value (ToUnit u) (kinded k t) = unit_call u k t
 of_value (OfPart p) (interval (Elapsed t)) = elapsed_part p t
@@ -222,17 +243,6 @@ months_after i j = refuses (Binding (TypeMismatch Scalars))
 abbrev pub months_call : List Item → Outcome Item
 months_call (i ∷ j ∷ []) = months_after i j
 months_call is = refuses (Binding (ArityMismatch (Exact 2) (length is)))
-
--- the text of a date or a timestamp by a format
-abbrev pub char_function : Kind → Outcome Standard
-char_function Date = answers standard.DateToChar
-char_function Timestamp = answers standard.TimestampToChar
-char_function k = refuses (OfKind k)
-
-abbrev pub written_by : Kind → Tree → Item → Outcome Item
-written_by k t j =
-    and_then (char_function k) (λ f.
-    and_then (settled None j) (λ n. as_item (call_of (callable f) (t ∷ n ∷ []))))
 
 abbrev pub char_of : Item → Item → Outcome Item
 char_of (kinded k t) j = written_by k t j

@@ -9,6 +9,8 @@ use Rattle.vortex_sql_dates.specs.declared.parts.Part.TheVariants as part
 use Rattle.vortex_sql_dates.specs.declared.truncations.Unit as units
 use Rattle.vortex_sql_dates.specs.declared.truncations.Unit.TheVariants as unit
 use Rattle.vortex_expressions.specs.declared.kind_words.KindFunction.TheVariants.{OfFloat, OfPart}
+use Rattle.vortex_expressions.specs.declared.kind_words.KindFunction.TheVariants.{ToName}
+use Rattle.vortex_expressions.specs.declared.kind_words.Named.TheVariants as named
 use Rattle.vortex_expressions.specs.declared.kind_words.KindName.{KindName}
 use Rattle.vortex_expressions.specs.declared.kind_words.KindName.TheVariants.{Single, PartByText}
 use Rattle.vortex_expressions.specs.declared.kind_words.KindName.TheVariants.{UnitByText, AddMonths, ToChar}
@@ -30,11 +32,12 @@ date_word w =
     if same_word w (codes "year") then Some part.Year
     else (if same_word w (codes "quarter") then Some part.Quarter
     else (if same_word w (codes "month") then Some part.Month
-    else (if same_word w (codes "week") then Some part.Week
-    else (if same_word w (codes "day") then Some part.Day
+    else (if same_word w (codes "week") || same_word w (codes "weekofyear") then Some part.Week
+    else (if same_word w (codes "day") || same_word w (codes "dayofmonth") then Some part.Day
     else (if same_word w (codes "dow") then Some part.DayOfWeek
     else (if same_word w (codes "isodow") then Some part.IsoDayOfWeek
-    else (if same_word w (codes "doy") then Some part.DayOfYear
+    else (if same_word w (codes "doy") || same_word w (codes "dayofyear")
+    then Some part.DayOfYear
     else None)))))))
 
 -- a part of a time
@@ -64,13 +67,19 @@ unit_word w =
     else (if same_word w (codes "second") then Some unit.Second
     else None)))))))
 
+-- the name of a day of the week, of a month
+abbrev pub name_word : List ℕ → Option KindName
+name_word w =
+    if same_word w (codes "dayname") then Some (Single (ToName named.Day))
+    else (if same_word w (codes "monthname") then Some (Single (ToName named.Month)) else None)
+
 -- a function of a text and a value, or of a value and a number of months or a format
 abbrev pub texted_word : List ℕ → Option KindName
 texted_word w =
     if same_word w (codes "extract") || same_word w (codes "date_part") then Some PartByText
     else (if same_word w (codes "date_trunc") then Some UnitByText
     else (if same_word w (codes "add_months") then Some AddMonths
-    else (if same_word w (codes "to_char") then Some ToChar else None)))
+    else (if same_word w (codes "to_char") then Some ToChar else name_word w)))
 
 abbrev pub first_meaning : Option FloatFunction → Option Part → Option KindName → Option KindName
 first_meaning (Some f) p o = Some (Single (OfFloat f))

@@ -210,7 +210,7 @@ module _ (scope : Fields) (kinds : List Kind) where
       → standard_named w ≡ Some f
       → with_item (items_by names (answers []) args) (item_by names a) ≡ answers us
       → logical_of scope kinds (applied p w args a) ≡ answers t
-      → IsEnded f (reverse us) answers t
+      → IsEnded (meant_by names.has_kinds f (reverse us)) (reverse us) answers t
 
   abbrev pub CasesCall : Type 0
   CasesCall =

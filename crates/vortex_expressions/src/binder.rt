@@ -20,10 +20,10 @@ use crate::calls::{
     bit_not_item, joined_item, minus_item, negative_item, not_item, operand_item, plus_item,
 };
 use crate::cases::chosen_item;
-use crate::functions::{applied_by, trim_word};
 use crate::item::{Item, LogicalTree};
 use crate::kind_casts::cast_by;
 use crate::kind_names::{are_given, typed_by};
+use crate::named_calls::{applied_by, trim_word};
 use crate::patterns::matched_item;
 use crate::predicates::{distinct_item, listed_item, tested_item};
 use crate::refusal::BindStop;

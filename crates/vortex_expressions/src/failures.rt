@@ -4,8 +4,8 @@ use crate::binder::operands;
 use crate::calls::joined_item;
 use crate::casts::type_of_name;
 use crate::forms::{
-    arguments_hint, function_in, function_text, push_accepted, push_unnamed, takes_only_texts,
-    text_hint,
+    arguments_hint, count_hint, function_in, function_text, push_accepted, push_unnamed,
+    takes_only_texts, text_hint,
 };
 use crate::hints::missing_type;
 use crate::item::{Item, common_type};
@@ -250,8 +250,9 @@ impl<'a> TextFailure<'a> {
             VortexError::TypeMismatch(place) => self.types_text(*place),
             VortexError::ArityMismatch { arity, given } => {
                 let found = found_at(self.text, self.byte);
+                let hint = count_hint(self.failing_step());
                 Ok(format!(in alloc;
-                    "E6 ArityMismatch: {found} takes {arity} arguments, not {given}"
+                    "E6 ArityMismatch: {found} takes {arity} arguments, not {given}{hint}"
                 )?)
             }
             VortexError::ScopeMismatch => { column_text(alloc, self.scope, self.failing_step()) }

@@ -1,11 +1,11 @@
 //! Functions that there are not, and how what they mean is written.
 use crate::casts::type_of_name;
-use crate::functions::trim_word;
 use crate::hints::{meant_by_texts, missing_function};
 use crate::item::Item;
 use crate::item_texts::{is_no_text, push_literal};
 use crate::kind_words::{KindFunction, KindName, kind_word};
 use crate::located::meant_function;
+use crate::named_calls::trim_word;
 use crate::words::LIKENED;
 use std::alloc::Global;
 use std::str;
@@ -81,7 +81,8 @@ fn taken_by(name: KindName) -> &'static str {
         }
         KindName::Single(KindFunction::OfFloat(_)) => "a number",
         KindName::Single(_) => "a date or a timestamp",
-        KindName::PartByText | KindName::UnitByText => "a text, and a date or a timestamp",
+        KindName::PartByText => "the name of a part, as year, and a date or a timestamp",
+        KindName::UnitByText => "the name of a unit, as 'month', and a date or a timestamp",
         KindName::AddMonths => "a date or a timestamp, and a number of months",
         KindName::ToChar => "a date or a timestamp, and a format, as 'YYYY-MM-DD'",
     }
@@ -115,6 +116,22 @@ pub(crate) fn push_unnamed(
     Ok(true)
 }
 
+/// How a text becomes a date or a timestamp, where the types of the arguments have one in its place.
+fn advice_for(name: KindName, given: &str) -> &'static str {
+    let text = match name {
+        KindName::PartByText | KindName::UnitByText => "utf8 and utf8",
+        _ => "utf8",
+    };
+    match name {
+        KindName::Single(KindFunction::OfFloat(_)) => "",
+        _ if given.starts_with(text) => {
+            "; to_date(s, 'DD/MM/YYYY') and to_timestamp(s, 'DD/MM/YYYY HH24:MI') read texts"
+        }
+        KindName::ToChar => "; of a number write n::text, or x::decimal(12,2)::text",
+        _ => "",
+    }
+}
+
 /// The function that there is not, or not of the given types, and the one that may be meant, or how
 /// it is written.
 pub(crate) fn function_text(
@@ -125,7 +142,8 @@ pub(crate) fn function_text(
     let written = str::from_utf8(called_name(step)).unwrap_or("");
     if let Some(name) = kind_word(called_name(step)) {
         let taken = taken_by(name);
-        return Ok(format!(in alloc; "{written:?} takes {taken}, not {given}")?);
+        let advice = advice_for(name, given);
+        return Ok(format!(in alloc; "{written:?} takes {taken}, not {given}{advice}")?);
     }
     let missing = missing_function(called_name(step));
     if !missing.is_empty() {
@@ -250,12 +268,24 @@ pub(crate) fn text_hint(alloc: Global, step: Option<&Step<'_>>, kind: LogicalKin
         }
         _ => false,
     };
+    if kind_word(called_name(step)) == Some(KindName::ToChar) {
+        return "; x::decimal(12,2)::text has two digits after the point";
+    }
     match kind {
         _ if !is_cast && !takes_texts(step) => "",
         LogicalKind::F64 | LogicalKind::F32 => {
             "; x::decimal(12,2)::text has two digits of x after the point"
         }
         _ => "; d::text is d as a text",
+    }
+}
+
+/// What is meant where a function takes another number of arguments; empty if it is not known.
+pub(crate) fn count_hint(step: Option<&Step<'_>>) -> &'static str {
+    if called_name(step).eq_ignore_ascii_case(b"regexp_substr") {
+        "; regexp_extract(s, '(a+)b', 1) is the part that a group matches"
+    } else {
+        ""
     }
 }
 

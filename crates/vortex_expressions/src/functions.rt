@@ -9,20 +9,15 @@ ghost use Rattle.vortex_expressions.specs.Answering.{Gives};
 
 use crate::applied::function_call;
 use crate::item::{Item, Timespan};
-use crate::joining::{joined_texts, joins};
-use crate::kind_functions::{kind_call, single_call};
-use crate::kind_words::{KindFunction, KindName, is_word, kind_word};
 use crate::kinded::{fraction_kind, is_plain, item_operand, value_item};
-use crate::located::unnamed_item;
-use crate::refusal::{BindStop, Refusal};
+use crate::refusal::BindStop;
 use std::alloc::Global;
 use vortex_functions::BoundExpression;
 use vortex_logical::kind::Kind;
 use vortex_logical::operand::Operand;
 use vortex_logical_calls as calls;
 use vortex_logical_calls::Lowered;
-use vortex_standard::{FloatFunction, Standard, Takes, named};
-use vortex_syntax::TrimSide;
+use vortex_standard::{Standard, Takes};
 
 /// Whether the function returns one of its values.
 fn is_choice(function: Standard) -> bool
@@ -47,7 +42,7 @@ fn is_test(function: Standard) -> bool
 /// The kind of the first value with one, or that of a number with a fraction, of which one comes
 /// before where the flag is true.
 #[tactic(auto, using(crate::proofs::FirstKinds::fraction_again))]
-fn first_kind(fraction_before: bool, items: &[Item]) -> Kind
+pub(crate) fn first_kind(fraction_before: bool, items: &[Item]) -> Kind
     ensures { result ≡ fraction_kind fraction_before (first_kind (map item_in items.now)) }
 {
     let mut has_fraction = fraction_before;
@@ -286,115 +281,5 @@ pub(crate) fn function_item(
         Ok(Item::Bound(function_call(alloc, function, items)?))
     } else {
         kinded_call(alloc, function, kind, &items)
-    }
-}
-
-/// The call of the function of that name.
-fn standard_item(alloc: Global, name: &[u8], items: Vec<Item>) -> Result<Item, BindStop>
-    ensures { Gives item_in result (specs.standard_item name.now (map item_in items.items)) }
-{
-    match named(name) {
-        Some(function) => function_item(alloc, function, items),
-        None => Err(BindStop::Refused(Refusal::NoFunction)),
-    }
-}
-
-/// What a name means next to a value of a kind, or without one.
-fn applied_item(alloc: Global, name: &[u8], items: Vec<Item>) -> Result<Item, BindStop>
-    ensures { Gives item_in result (specs.applied_item name.now (map item_in items.items)) }
-{
-    if is_plain(&first_kind(false, &items)) {
-        return standard_item(alloc, name, items);
-    }
-    match kind_word(name) {
-        Some(meant) => kind_call(alloc, meant, &items),
-        None => standard_item(alloc, name, items),
-    }
-}
-
-/// The date of a year, a month and a day.
-fn made_date(alloc: Global, items: Vec<Item>) -> Result<Item, BindStop>
-    ensures { Gives item_in result (specs.made_date (map item_in items.items)) }
-{
-    let tree = function_call(alloc, Standard::MakeDate, items)?;
-    Ok(Item::Kinded(Kind::Date, tree))
-}
-
-/// Whether a function of numbers takes whole numbers as floats: some whole numbers have, too.
-fn takes_whole(function: FloatFunction) -> bool
-    ensures { result ≡ specs.takes_whole function }
-{
-    !matches!(function, FloatFunction::Abs | FloatFunction::Sign)
-}
-
-/// The function of that name; one that makes a text of several takes values of each type.
-fn joining_item(alloc: Global, name: &[u8], items: Vec<Item>) -> Result<Item, BindStop>
-    ensures { Gives item_in result (specs.joining_item name.now (map item_in items.items)) }
-{
-    match named(name) {
-        Some(function) if joins(function) => joined_texts(alloc, function, items),
-        Some(function) => function_item(alloc, function, items),
-        None => unnamed_item(alloc, name, items),
-    }
-}
-
-/// What a name means without a value of a kind, over columns with kinds.
-fn whole_item(
-    alloc: Global,
-    meant: Option<KindName>,
-    name: &[u8],
-    items: Vec<Item>,
-) -> Result<Item, BindStop>
-    ensures { Gives item_in result (specs.whole_item meant name.now (map item_in items.items)) }
-{
-    match meant {
-        Some(KindName::Single(KindFunction::OfFloat(function))) if takes_whole(function) => {
-            single_call(alloc, KindFunction::OfFloat(function), &items)
-        }
-        _ => joining_item(alloc, name, items),
-    }
-}
-
-/// What a name means over columns with kinds.
-fn kinds_item(alloc: Global, name: &[u8], items: Vec<Item>) -> Result<Item, BindStop>
-    ensures { Gives item_in result (specs.kinds_item name.now (map item_in items.items)) }
-{
-    if is_plain(&first_kind(false, &items)) {
-        return whole_item(alloc, kind_word(name), name, items);
-    }
-    match kind_word(name) {
-        Some(meant) => kind_call(alloc, meant, &items),
-        None => joining_item(alloc, name, items),
-    }
-}
-
-/// What a name means in a text, over columns with kinds if the flag is true.
-pub(crate) fn applied_by(
-    alloc: Global,
-    has_kinds: bool,
-    name: &[u8],
-    items: Vec<Item>,
-) -> Result<Item, BindStop>
-    ensures { Gives item_in result
-        (specs.applied_by has_kinds name.now (map item_in items.items)) }
-{
-    if !has_kinds {
-        return applied_item(alloc, name, items);
-    }
-    if is_word(name, b"make_date") {
-        made_date(alloc, items)
-    } else {
-        kinds_item(alloc, name, items)
-    }
-}
-
-/// The name of the function that trims there: `trim(both b from a)` is `btrim(a, b)`.
-pub(crate) fn trim_word(side: TrimSide) -> &'static str
-    ensures { result.now ≡ specs.trim_word side }
-{
-    match side {
-        TrimSide::Both => "btrim",
-        TrimSide::Leading => "ltrim",
-        TrimSide::Trailing => "rtrim",
     }
 }

@@ -17,6 +17,9 @@ const COLLATIONS: &str = "no collations: texts compare by their bytes";
 
 const ARRAYS: &str = "no arrays: a in (1, 2) compares with a list of values";
 
+const COLUMNS: &str =
+    "name each column; rowfn_stream --append keeps all, and --where alone returns them";
+
 const POWERS: &str = "no powers: write a * a";
 
 const DISTANCES: &str =
@@ -26,7 +29,7 @@ const FORMATTED: &str = "write s || t, with lpad(n::text, 3, '0') for a width";
 
 const SAFE: &str = "write try_cast(a as int)";
 
-const LOGARITHMS: &str = "no logarithms, exponentials or angles";
+const LOGARITHMS: &str = "no logarithms, exponentials or functions of angles";
 
 /// Words that other languages have behind an operand.
 const BEHIND: [(&str, &str); 19] = [
@@ -64,7 +67,7 @@ const BEFORE: [(&str, &[u8], &str); 7] = [
 ];
 
 /// Functions that other languages have.
-const FUNCTIONS: [(&str, &str); 72] = [
+const FUNCTIONS: [(&str, &str); 81] = [
     ("sum", AGGREGATES),
     ("count", AGGREGATES),
     ("avg", AGGREGATES),
@@ -106,11 +109,8 @@ const FUNCTIONS: [(&str, &str); 72] = [
     ("datediff", DISTANCES),
     ("date_diff", DISTANCES),
     ("timestampdiff", DISTANCES),
-    ("monthname", "write to_char(d, 'Mon')"),
-    (
-        "dayname",
-        "write case dow(d) when 0 then 'Sunday' when 1 then 'Monday' .. end",
-    ),
+    ("monthname", "it is of a date or a timestamp"),
+    ("dayname", "it is of a date or a timestamp"),
     (
         "make_timestamp",
         "write to_timestamp(s, 'YYYY-MM-DD HH24:MI:SS')",
@@ -125,7 +125,6 @@ const FUNCTIONS: [(&str, &str); 72] = [
     ),
     ("regexp_matches", "write regexp_like(s, 'a+')"),
     ("regexp_match", "write regexp_substr(s, 'a+')"),
-    ("regexp_extract", "write regexp_substr(s, 'a+')"),
     ("safe_cast", SAFE),
     ("format", FORMATTED),
     ("printf", FORMATTED),
@@ -138,7 +137,6 @@ const FUNCTIONS: [(&str, &str); 72] = [
     ("startswith", "write starts_with(s, t)"),
     ("weekday", "write dow(d), from 0 for Sunday"),
     ("dayofweek", "write dow(d), from 0 for Sunday"),
-    ("dayofyear", "write doy(d)"),
     ("split", "write split_part(s, ',', 1)"),
     ("substring_index", "write split_part(s, ',', 1)"),
     ("title", "write initcap(s)"),
@@ -152,6 +150,17 @@ const FUNCTIONS: [(&str, &str); 72] = [
     ("ln", LOGARITHMS),
     ("log", LOGARITHMS),
     ("exp", LOGARITHMS),
+    ("sin", LOGARITHMS),
+    ("cos", LOGARITHMS),
+    ("tan", LOGARITHMS),
+    ("asin", LOGARITHMS),
+    ("acos", LOGARITHMS),
+    ("atan", LOGARITHMS),
+    ("atan2", LOGARITHMS),
+    ("radians", "write x * 0.017453292519943295"),
+    ("degrees", "write x * 57.29577951308232"),
+    ("pi", "write 3.141592653589793"),
+    ("months_between", DISTANCES),
 ];
 
 fn told_of(words: &[(&'static str, &'static str)], word: &[u8]) -> &'static str {
@@ -229,6 +238,7 @@ fn told_of_signs(before: &[u8], behind: &[u8]) -> &'static str {
         (_, [b'!', b'>', ..]) => "write <=",
         (_, [b'!', ..]) => "is not or <> meant?",
         (_, [b'[', ..]) => ARRAYS,
+        ([], [b'*', ..]) | ([.., b','], [b'*', ..]) | ([.., b',', b' '], [b'*', ..]) => COLUMNS,
         (_, [b'^', ..]) | ([.., b'*'], [b'*', ..]) => POWERS,
         ([.., b'='], [b'=', ..]) => "one = compares",
         ([.., b'='], [b'>', ..]) => "is >= meant?",

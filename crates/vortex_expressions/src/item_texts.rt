@@ -80,7 +80,7 @@ pub(crate) fn push_types(out: &mut String, items: &[Item]) -> VortexResult<()> {
 fn push_operand(out: &mut String, operand: &Operand) -> VortexResult<()> {
     match operand {
         Operand::Whole(ptype) => out.push_str(ptype.text())?,
-        Operand::Of(Kind::Plain) => out.push_str("value without a kind")?,
+        Operand::Of(Kind::Plain) => out.push_str("text or truth value")?,
         Operand::Of(kind) => write!(out, "{kind}")?,
     }
     Ok(())

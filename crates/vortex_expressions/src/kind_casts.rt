@@ -10,7 +10,7 @@ ghost use Rattle.vortex_expressions.specs.Literals.{literal_in};
 ghost use Rattle.vortex_expressions.specs.Answering.{Gives};
 
 use crate::casts::{cast_item, type_of_name};
-use crate::decimal_casts::decimal_cast;
+use crate::decimal_casts::{decimal_cast, is_numeric_name, numeric_cast};
 use crate::item::{Item, call_of, callable, constant_at};
 use crate::kind_names::{kind_item, kind_of_name};
 use crate::kind_steps::stepped;
@@ -98,7 +98,7 @@ pub(crate) fn kind_by(
 /// A value of a kind as one of another, by `try_cast` if the flag is true: of its own kind it is
 /// unchanged, each number has a nearest float, and a date is a timestamp's day, which is its
 /// midnight.
-fn kind_cast(
+pub(crate) fn kind_cast(
     alloc: Global,
     is_tried: bool,
     kind: Kind,
@@ -162,7 +162,7 @@ fn number_cast(
     }
 }
 
-fn is_text_type(dtype: &DType) -> bool
+pub(crate) fn is_text_type(dtype: &DType) -> bool
     ensures { result ≡ specs.is_text_type (Some (type_of dtype.now)) }
 {
     matches!(dtype, DType::Utf8(_))
@@ -204,7 +204,12 @@ fn literal_cast(
 }
 
 /// A cast to a kind, by `try_cast` if the flag is true.
-fn cast_to_kind(alloc: Global, is_tried: bool, kind: Kind, item: Item) -> Result<Item, BindStop>
+pub(crate) fn cast_to_kind(
+    alloc: Global,
+    is_tried: bool,
+    kind: Kind,
+    item: Item,
+) -> Result<Item, BindStop>
     ensures { Gives item_in result (specs.cast_to_kind is_tried kind (item_in item)) }
 {
     match item {
@@ -379,6 +384,9 @@ pub(crate) fn cast_by(
     }
     if let Some(digits) = text_size_of(name) {
         return cut_cast(alloc, is_tried, digits, item);
+    }
+    if is_numeric_name(name, is_nullable) {
+        return numeric_cast(alloc, is_tried, item);
     }
     let kind = kind_of_name(alloc, name, is_nullable)?;
     cast_named(alloc, is_tried, name, is_nullable, item, kind)

@@ -8,7 +8,7 @@ ghost use Rattle.vortex_expressions.specs.Answering.{Gives};
 
 use crate::intervals::months_function;
 use crate::item::{Item, Timespan, call_of, callable, called};
-use crate::kind_words::{KindFunction, KindName, part_word, unit_word};
+use crate::kind_words::{KindFunction, KindName, Named, part_word, unit_word};
 use crate::literal::Literal;
 use crate::number_functions::{number_call, places_call};
 use crate::refusal::{BindStop, Refusal};
@@ -122,8 +122,56 @@ fn elapsed_part(
     }
 }
 
+/// The function that writes values of the kind by a format.
+fn char_function(kind: Kind) -> Result<Standard, BindStop>
+    ensures { Gives (λ f. f) result (specs.char_function kind) }
+{
+    match kind {
+        Kind::Date => Ok(Standard::DateToChar),
+        Kind::Timestamp => Ok(Standard::TimestampToChar),
+        _ => Err(BindStop::Refused(Refusal::OfKind(kind))),
+    }
+}
+
+/// The text of a date or a timestamp by a format.
+fn written_by(
+    alloc: Global,
+    kind: Kind,
+    tree: BoundExpression<Standard>,
+    format: &Item,
+) -> Result<Item, BindStop>
+    ensures { Gives item_in result (specs.written_by kind tree (item_in format.now)) }
+{
+    let function = char_function(kind)?;
+    let format = format.settle(alloc, None)?;
+    let tree = call_of(alloc, callable(function), vec![in alloc; tree, format]?)?;
+    Ok(Item::Bound(tree))
+}
+
+fn name_format(name: Named) -> &'static str
+    ensures { result.now ≡ specs.name_format name }
+{
+    match name {
+        Named::Day => "FMDay",
+        Named::Month => "FMMonth",
+    }
+}
+
+/// The name of a day of the week or of a month.
+fn name_call(
+    alloc: Global,
+    name: Named,
+    kind: Kind,
+    tree: BoundExpression<Standard>,
+) -> Result<Item, BindStop>
+    ensures { Gives item_in result (specs.name_call name kind tree) }
+{
+    let format = String::from_str(alloc, name_format(name))?;
+    written_by(alloc, kind, tree, &Item::Literal(Literal::Text(format)))
+}
+
 /// The function on a value.
-fn of_value(alloc: Global, function: KindFunction, item: &Item) -> Result<Item, BindStop>
+pub(crate) fn of_value(alloc: Global, function: KindFunction, item: &Item) -> Result<Item, BindStop>
     ensures { Gives item_in result (specs.of_value function (item_in item.now)) }
 {
     match (function, item) {
@@ -133,6 +181,9 @@ fn of_value(alloc: Global, function: KindFunction, item: &Item) -> Result<Item, 
         }
         (KindFunction::ToUnit(unit), Item::Kinded(kind, tree)) => {
             unit_call(alloc, unit, *kind, tree.try_clone(alloc)?)
+        }
+        (KindFunction::ToName(name), Item::Kinded(kind, tree)) => {
+            name_call(alloc, name, *kind, tree.try_clone(alloc)?)
         }
         (KindFunction::OfPart(part), Item::Interval(Timespan::Elapsed(micros))) => {
             elapsed_part(alloc, part, micros.try_clone(alloc)?)
@@ -241,7 +292,7 @@ fn months_added(
     Ok(Item::Kinded(kind, tree))
 }
 
-fn months_after(alloc: Global, item: &Item, months: &Item) -> Result<Item, BindStop>
+pub(crate) fn months_after(alloc: Global, item: &Item, months: &Item) -> Result<Item, BindStop>
     ensures { Gives item_in result (specs.months_after (item_in item.now) (item_in months.now)) }
 {
     match item {
@@ -257,32 +308,6 @@ fn months_call(alloc: Global, items: &[Item]) -> Result<Item, BindStop>
         [item, months] => months_after(alloc, item, months),
         _ => Err(other_count(2, items.len())),
     }
-}
-
-/// The function that writes values of the kind by a format.
-fn char_function(kind: Kind) -> Result<Standard, BindStop>
-    ensures { Gives (λ f. f) result (specs.char_function kind) }
-{
-    match kind {
-        Kind::Date => Ok(Standard::DateToChar),
-        Kind::Timestamp => Ok(Standard::TimestampToChar),
-        _ => Err(BindStop::Refused(Refusal::OfKind(kind))),
-    }
-}
-
-/// The text of a date or a timestamp by a format.
-fn written_by(
-    alloc: Global,
-    kind: Kind,
-    tree: BoundExpression<Standard>,
-    format: &Item,
-) -> Result<Item, BindStop>
-    ensures { Gives item_in result (specs.written_by kind tree (item_in format.now)) }
-{
-    let function = char_function(kind)?;
-    let format = format.settle(alloc, None)?;
-    let tree = call_of(alloc, callable(function), vec![in alloc; tree, format]?)?;
-    Ok(Item::Bound(tree))
 }
 
 fn char_of(alloc: Global, item: &Item, format: &Item) -> Result<Item, BindStop>

@@ -13,6 +13,7 @@ ghost use Rattle.vortex_expressions.specs.Answering.{Gives};
 
 use crate::calls::typed_item;
 use crate::casts::{cast_to, is_same_word, type_of_name};
+use crate::decimal_casts::{is_numeric_name, numeric_cast};
 use crate::item::{Item, Timespan, constant_at};
 use crate::kind_casts::cut_cast;
 use crate::kinded::{null_literal, text_literal, value_item};
@@ -310,6 +311,9 @@ pub(crate) fn typed_by(
     }
     if let Some(digits) = text_size_of(name) {
         return cut_cast(alloc, false, digits, item);
+    }
+    if is_numeric_name(name, is_nullable) {
+        return numeric_cast(alloc, false, item);
     }
     let kind = kind_of_name(alloc, name, is_nullable)?;
     typed_named(alloc, name, is_nullable, item, kind)

@@ -14,6 +14,16 @@ pub(crate) enum KindFunction {
     OfPart(Part),
     /// A date or a timestamp, truncated to that unit.
     ToUnit(Unit),
+    /// That name of a date or a timestamp.
+    ToName(Named),
+}
+
+/// What of a date or a timestamp has a name.
+#[derive(Clone, Copy, Debug, PartialEq, Eq)]
+pub(crate) enum Named {
+    /// The day of the week.
+    Day,
+    Month,
 }
 
 /// What a name means where an argument is a value of a kind.
@@ -70,15 +80,15 @@ fn date_word(word: &[u8]) -> Option<Part>
         Some(Part::Quarter)
     } else if is_word(word, b"month") {
         Some(Part::Month)
-    } else if is_word(word, b"week") {
+    } else if is_word(word, b"week") || is_word(word, b"weekofyear") {
         Some(Part::Week)
-    } else if is_word(word, b"day") {
+    } else if is_word(word, b"day") || is_word(word, b"dayofmonth") {
         Some(Part::Day)
     } else if is_word(word, b"dow") {
         Some(Part::DayOfWeek)
     } else if is_word(word, b"isodow") {
         Some(Part::IsoDayOfWeek)
-    } else if is_word(word, b"doy") {
+    } else if is_word(word, b"doy") || is_word(word, b"dayofyear") {
         Some(Part::DayOfYear)
     } else {
         None
@@ -138,6 +148,19 @@ pub(crate) fn unit_word(word: &[u8]) -> Option<Unit>
     }
 }
 
+/// The name of a day of the week or of a month.
+fn name_word(word: &[u8]) -> Option<KindName>
+    ensures { result ≡ specs.name_word word.now }
+{
+    if is_word(word, b"dayname") {
+        Some(KindName::Single(KindFunction::ToName(Named::Day)))
+    } else if is_word(word, b"monthname") {
+        Some(KindName::Single(KindFunction::ToName(Named::Month)))
+    } else {
+        None
+    }
+}
+
 /// The function of that name of a text and a value, or of a value and a number of months or a
 /// format.
 fn texted_word(word: &[u8]) -> Option<KindName>
@@ -152,7 +175,7 @@ fn texted_word(word: &[u8]) -> Option<KindName>
     } else if is_word(word, b"to_char") {
         Some(KindName::ToChar)
     } else {
-        None
+        name_word(word)
     }
 }
 

@@ -33,6 +33,7 @@ mod literal;
 mod located;
 mod meeting;
 mod messages;
+mod named_calls;
 mod number_functions;
 mod patterns;
 mod predicates;
@@ -47,6 +48,7 @@ mod unheld;
 mod unknown_columns;
 pub mod words;
 pub mod writing;
+mod written_forms;
 
 pub use answers::{Answer, bind_answers, read_answers};
 pub use casts::named_type;

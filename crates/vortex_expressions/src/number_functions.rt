@@ -1,9 +1,7 @@
 //! Calls of functions on numbers: as floats, and the roundings of decimals as decimals.
-ghost use Rattle.std.specs.Prelude.{◌≡◌, ◌++◌, codes};
-ghost use Rattle.vortex_logical.specs.declared.kind.Kind.TheVariants.{F64};
+ghost use Rattle.std.specs.Prelude.{◌≡◌};
 ghost use Rattle.vortex_lowering.specs.Rows.{lowered};
 ghost use Rattle.vortex_expressions.specs.KindFunctions as specs;
-ghost use Rattle.vortex_expressions.specs.Kinded.{text_literal as float_literal};
 ghost use Rattle.vortex_expressions.specs.Items.{item_in};
 ghost use Rattle.vortex_expressions.specs.Answering.{Gives};
 
@@ -21,8 +19,8 @@ use vortex_logical::kind::Kind;
 use vortex_logical::operand::Operand;
 use vortex_logical_calls::Lowered;
 use vortex_logical_calls::conversions::as_float;
-use vortex_logical_casts::{Rounded, decimal_rounding, is_rounding};
-use vortex_standard::{FloatFunction, FloatOperator, Standard};
+use vortex_logical_casts::{Rounded, Step, decimal_rounding, float_rounding, is_rounding};
+use vortex_standard::{FloatFunction, Standard};
 
 /// Whether it is a kind of numbers.
 fn is_numeric(kind: &Kind) -> bool
@@ -89,12 +87,40 @@ fn float_on(
     call_of(alloc, call, vec![in alloc; tree]?)
 }
 
+/// A float by a function that rounds to places, if there is one.
+fn float_placed(
+    alloc: Global,
+    step: Option<Step>,
+    tree: BoundExpression<Standard>,
+) -> Result<Item, BindStop>
+    ensures { Gives item_in result (specs.float_placed step tree) }
+{
+    match step {
+        Some(step) => Ok(Item::Kinded(Kind::F64, step_on(alloc, step, tree)?)),
+        None => Err(other_types()),
+    }
+}
+
+/// The function of a float; `round` keeps no places.
+fn float_by(
+    alloc: Global,
+    function: FloatFunction,
+    tree: BoundExpression<Standard>,
+) -> Result<Item, BindStop>
+    ensures { Gives item_in result (specs.float_by function tree) }
+{
+    match function {
+        FloatFunction::Round => float_placed(alloc, float_rounding(function, 0), tree),
+        _ => Ok(Item::Kinded(Kind::F64, float_on(alloc, function, tree)?)),
+    }
+}
+
 /// The function of a number, which becomes the nearest float.
 fn float_call(alloc: Global, function: FloatFunction, item: &Item) -> Result<Item, BindStop>
     ensures { Gives item_in result (specs.float_call function (item_in item.now)) }
 {
     let float = float_of(alloc, item)?;
-    Ok(Item::Kinded(Kind::F64, float_on(alloc, function, float.tree)?))
+    float_by(alloc, function, float.tree)
 }
 
 /// A decimal after a rounding, if it has more places than are left.
@@ -161,46 +187,16 @@ pub(crate) fn number_call(
     }
 }
 
-/// A float, times ten to the places, rounded, and divided by that.
-fn scaled_float(
-    alloc: Global,
-    function: FloatFunction,
-    tree: BoundExpression<Standard>,
-    scale: BoundExpression<Standard>,
-) -> Result<Item, BindStop>
-    ensures { Gives item_in result (specs.scaled_float function tree scale) }
-{
-    let multiply = callable(Standard::FloatOperator(FloatOperator::Multiply));
-    let divide = callable(Standard::FloatOperator(FloatOperator::Divide));
-    let factor = scale.try_clone(alloc)?;
-    let longer = call_of(alloc, multiply, vec![in alloc; tree, factor]?)?;
-    let whole = float_on(alloc, function, longer)?;
-    let tree = call_of(alloc, divide, vec![in alloc; whole, scale]?)?;
-    Ok(Item::Kinded(Kind::F64, tree))
-}
-
-/// The float of ten to the places that a number in a text is.
-pub(crate) fn power_of_ten(alloc: Global, number: &[u8]) -> Result<Lowered<Standard>, BindStop>
-    ensures { Gives (λ x. lowered x.tree x.operand) result
-        (float_literal F64 (codes "1e" ++ number.now)) }
-{
-    let mut text = Vec::new(alloc);
-    text.extend_from_slice(b"1e")?;
-    text.extend_from_slice(number)?;
-    text_literal(alloc, Kind::F64, &text)
-}
-
 fn float_places(
     alloc: Global,
     function: FloatFunction,
     item: &Item,
-    number: &[u8],
+    places: u32,
 ) -> Result<Item, BindStop>
-    ensures { Gives item_in result (specs.float_places function (item_in item.now) number.now) }
+    ensures { Gives item_in result (specs.float_places function (item_in item.now) places) }
 {
     let float = float_of(alloc, item)?;
-    let scale = power_of_ten(alloc, number)?;
-    scaled_float(alloc, function, float.tree, scale.tree)
+    float_placed(alloc, float_rounding(function, places), float.tree)
 }
 
 /// A number rounded to so many places after the point.
@@ -208,18 +204,16 @@ fn number_places(
     alloc: Global,
     function: FloatFunction,
     item: &Item,
-    number: &[u8],
     places: u32,
 ) -> Result<Item, BindStop>
-    ensures { Gives item_in result
-        (specs.number_places function (item_in item.now) number.now places) }
+    ensures { Gives item_in result (specs.number_places function (item_in item.now) places) }
 {
     match item {
         Item::Kinded(Kind::Decimal(digits), tree) => {
             let by = decimal_rounding(function, *digits, places);
             decimal_rounded(alloc, *digits, tree.try_clone(alloc)?, by)
         }
-        item => float_places(alloc, function, item, number),
+        item => float_places(alloc, function, item, places),
     }
 }
 
@@ -237,7 +231,7 @@ pub(crate) fn places_call(
         return Err(other_types());
     };
     match count_of(number.as_bytes()) {
-        Some(count) => number_places(alloc, function, item, number.as_bytes(), count),
+        Some(count) => number_places(alloc, function, item, count),
         None => Err(other_types()),
     }
 }

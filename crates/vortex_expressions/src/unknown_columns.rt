@@ -41,6 +41,14 @@ fn push_delimiter(out: &mut String, scope: &StructFields) -> VortexResult<()> {
     Ok(())
 }
 
+/// That the names are probably those of a comment before the header.
+fn push_comment(out: &mut String, scope: &StructFields) -> VortexResult<()> {
+    if scope.len() > 0 && scope.name(0).starts_with('#') {
+        out.push_str("; --comment '#' passes lines over that begin so")?;
+    }
+    Ok(())
+}
+
 /// The column that the scope does not have, and the one that may be meant.
 pub(crate) fn column_text(
     alloc: Global,
@@ -67,6 +75,7 @@ pub(crate) fn column_text(
             let mut out = format!(in alloc; "no column {name:?}")?;
             push_columns(&mut out, scope)?;
             push_delimiter(&mut out, scope)?;
+            push_comment(&mut out, scope)?;
             Ok(out)
         }
     }

@@ -96,9 +96,13 @@ integer_steps p F64 q = Some (One (nearest p q))
 integer_steps p F32 q = Some (Two (alone standard.WidenFloat) (nearest p q))
 integer_steps p k q = None
 
--- from a float, times ten to the scale, to a decimal
-abbrev pub scaled_float_steps : Digits → Steps
-scaled_float_steps d = Two (nearest false I64) (scaling false 0 d.precision)
+-- from a float to a decimal; null where that does not have it, if the flag is true
+abbrev pub float_steps : Bool → Digits → Steps
+float_steps p d =
+    One (record {
+      function = if p then standard.TryFloatToDecimal else standard.FloatToDecimal;
+      more = more.Two d.scale d.precision;
+    })
 
 abbrev pub writing : WrittenKind → Steps
 writing k = One (alone (standard.KindToText (record { kind = k })))

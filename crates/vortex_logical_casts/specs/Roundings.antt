@@ -8,6 +8,11 @@ use Rattle.vortex_sql_float_functions.specs.declared.functions.FloatFunction.{Fl
 use Rattle.vortex_sql_float_functions.specs.declared.functions.FloatFunction.TheVariants as float
 use Rattle.vortex_sql_kind_texts.specs.declared.decimals.Rounding.{Rounding}
 use Rattle.vortex_sql_kind_texts.specs.declared.decimals.Rounding.TheVariants as by
+use Rattle.vortex_sql_float_functions.specs.declared.places.FloatPlaces.{FloatPlaces}
+use Rattle.vortex_sql_float_functions.specs.declared.places.FloatPlaces.TheVariants as places
+use Rattle.vortex_standard.specs.declared.standard.Standard.TheVariants as standard
+use Rattle.vortex_logical_casts.specs.declared.steps.Step.{Step}
+use Rattle.vortex_logical_casts.specs.declared.steps.More.TheVariants as more
 use Rattle.vortex_logical_casts.specs.declared.roundings.Rounded.{Rounded}
 use Rattle.vortex_logical_casts.specs.Casts.{rounding}
 
@@ -33,6 +38,15 @@ abbrev pub rounded_by : Digits → ℕ → Rounding → Option Rounded
 rounded_by d s r =
     if nat_le d.scale s then None
     else Some (record { step = rounding r (d.scale - s); digits = left_digits d (d.scale - s) })
+
+-- a float to so many places after the point
+abbrev pub placing : FloatPlaces → ℕ → Step
+placing f n = record { function = standard.FloatPlaces f; more = more.One n }
+
+abbrev pub float_rounding : FloatFunction → ℕ → Option Step
+float_rounding float.Round n = Some (placing places.Round n)
+float_rounding float.Trunc n = Some (placing places.Trunc n)
+float_rounding f n = None
 
 abbrev pub rounded : FloatFunction → Digits → ℕ → Option Rounded
 rounded f d s = option_and_then (rounded_by d s) (rounding_of f)

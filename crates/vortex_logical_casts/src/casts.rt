@@ -156,15 +156,18 @@ pub fn integer_steps(is_tried: bool, kind: &Kind, ptype: PType) -> Option<Steps>
     }
 }
 
-/// From a float, times ten to the scale, to a decimal of these digits: to the nearest, from halfway to
-/// that whose last digit is even.
-pub fn scaled_float_steps(digits: DecimalDigits) -> Steps
-    ensures { result ≡ specs.scaled_float_steps digits }
+/// From a float of 64 bits to a decimal of these digits: its first 15 digits, rounded from halfway away
+/// from zero.
+pub fn float_steps(is_tried: bool, digits: DecimalDigits) -> Steps
+    ensures { result ≡ specs.float_steps is_tried digits }
 {
-    Steps::Two(
-        nearest(false, PType::I64),
-        scaling(false, 0, digits.precision()),
-    )
+    let more = More::Two(digits.scale(), digits.precision());
+    let function = if is_tried {
+        Standard::TryFloatToDecimal
+    } else {
+        Standard::FloatToDecimal
+    };
+    Steps::One(Step { function, more })
 }
 
 fn writing(kind: WrittenKind) -> Steps

@@ -6,6 +6,6 @@ pub mod casts;
 pub mod roundings;
 pub mod steps;
 
-pub use casts::{decimal_steps, integer_steps, scaled_float_steps, text_steps, written_steps};
-pub use roundings::{Rounded, decimal_rounding, is_rounding};
+pub use casts::{decimal_steps, float_steps, integer_steps, text_steps, written_steps};
+pub use roundings::{Rounded, decimal_rounding, float_rounding, is_rounding};
 pub use steps::{More, Step, Steps};

@@ -3,9 +3,9 @@ ghost use Rattle.std.specs.Prelude.{◌≡◌, Some};
 ghost use Rattle.vortex_logical_casts.specs.Roundings as specs;
 
 use crate::casts::rounding;
-use crate::steps::Step;
+use crate::steps::{More, Step};
 use vortex_logical::digits::DecimalDigits;
-use vortex_standard::{FloatFunction, Rounding};
+use vortex_standard::{FloatFunction, FloatPlaces, Rounding, Standard};
 
 /// A rounding of decimals.
 #[derive(Clone, Copy, Debug, PartialEq, Eq)]
@@ -70,4 +70,25 @@ pub fn decimal_rounding(
     let digits = left_digits(digits, dropped)?;
     let step = rounding(by, dropped);
     Some(Rounded { step, digits })
+}
+
+/// A float to so many places after the point.
+fn placing(function: FloatPlaces, places: u32) -> Step
+    ensures { result ≡ specs.placing function places }
+{
+    let function = Standard::FloatPlaces(function);
+    let more = More::One(places);
+    Step { function, more }
+}
+
+/// The function that rounds floats of 64 bits to so many places after the point; none of functions
+/// that take no places.
+pub fn float_rounding(function: FloatFunction, places: u32) -> Option<Step>
+    ensures { result ≡ specs.float_rounding function places }
+{
+    match function {
+        FloatFunction::Round => Some(placing(FloatPlaces::Round, places)),
+        FloatFunction::Trunc => Some(placing(FloatPlaces::Trunc, places)),
+        _ => None,
+    }
 }
