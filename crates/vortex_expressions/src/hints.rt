@@ -64,7 +64,7 @@ const BEFORE: [(&str, &[u8], &str); 7] = [
 ];
 
 /// Functions that other languages have.
-const FUNCTIONS: [(&str, &str); 72] = [
+const FUNCTIONS: [(&str, &str); 71] = [
     ("sum", AGGREGATES),
     ("count", AGGREGATES),
     ("avg", AGGREGATES),
@@ -125,7 +125,6 @@ const FUNCTIONS: [(&str, &str); 72] = [
     ),
     ("regexp_matches", "write regexp_like(s, 'a+')"),
     ("regexp_match", "write regexp_substr(s, 'a+')"),
-    ("regexp_extract", "write regexp_substr(s, 'a+')"),
     ("safe_cast", SAFE),
     ("format", FORMATTED),
     ("printf", FORMATTED),
