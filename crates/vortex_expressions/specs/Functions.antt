@@ -145,7 +145,7 @@ takes_whole f = true
 abbrev pub joined_call : Standard → List Item → Outcome Item
 joined_call f is = if joins f then joined_texts f is else function_item f is
 
--- a text, next to which `substring` finds a pattern
+-- a text, by which `substring` finds a pattern
 abbrev pub is_text : Item → Bool
 is_text (literal (text bs)) = true
 is_text (bound t) = is_text_type (tree_type meaning t)
@@ -154,6 +154,7 @@ is_text i = false
 abbrev pub by_pattern : Standard → List Item → Standard
 by_pattern standard.Substr (i ∷ j ∷ []) =
     if is_text j then standard.PatternFunction pattern.Part else standard.Substr
+by_pattern standard.RegexpExtract (i ∷ j ∷ []) = standard.PatternFunction pattern.Substr
 by_pattern f is = f
 
 -- what a name that has this function means of these arguments, over columns with kinds where the

@@ -80,7 +80,8 @@ fn is_text(item: &Item) -> bool
     }
 }
 
-/// The function that is meant: `substring` by a pattern is another one.
+/// The function that is meant: `substring` by a pattern is another one, and so is `regexp_extract` of
+/// no group.
 fn by_pattern(function: Standard, items: &[Item]) -> Standard
     ensures { result ≡ specs.by_pattern function (map item_in items.now) }
 {
@@ -88,6 +89,7 @@ fn by_pattern(function: Standard, items: &[Item]) -> Standard
         (Standard::Substr, [_, second]) if is_text(second) => {
             Standard::PatternFunction(PatternFunction::Part)
         }
+        (Standard::RegexpExtract, [_, _]) => Standard::PatternFunction(PatternFunction::Substr),
         _ => function,
     }
 }

@@ -1,5 +1,5 @@
 -- What the groups of captures span.
-use Rattle.std.proofs.Common.{◌≡◌, ◌==◌, ℕ, zero, suc, List, Some, true, ap, ap₂, arith, ne_eqb, refl, sym, ◌∙◌}
+use Rattle.std.proofs.Common.{◌≡◌, ◌==◌, ℕ, ℤ, pos, negsuc, zero, suc, List, Some, true, ap, ap₂, arith, ne_eqb, refl, sym, ◌∙◌}
 use Rattle.std.proofs.lemmas.Bool.{cond-false}
 use Rattle.std.specs.Prelude.{if◌then◌else◌}
 use mathlib.Core.Path.{fun_ext}
@@ -10,7 +10,9 @@ use Rattle.regex.specs.Strings.{captures_haystack, captures_span, match_span, Is
 use Rattle.regex.specs.Writes.{group_of}
 use Rattle.regex.specs.declared.string.captures.Captures.{Captures}
 use Rattle.vortex_sql_patterns.specs.Items.{captured}
+use Rattle.vortex_sql_patterns.specs.PatternFunctions.{group_span}
 use Rattle.vortex_sql_patterns.specs.Replacing.{group_in, seen}
+use Rattle.vortex_sql_patterns.specs.Wanted.{span_by}
 
 group_zero : (hay : List ℕ) (whole : ℕ × ℕ) (cells : List ℕ)
     → group_span true hay whole cells 0 ≡ Some whole
@@ -35,3 +37,8 @@ same_groups bs m c h = fun_ext (λ n. ap₂ bytes_of h.0 (span_of bs m c h n))
 pub whole_span : (bs : List ℕ) (m : Match) (c : Captures) → IsCapturesOf bs m c
     → captures_span c 0 ≡ Some (m.start, m.trace.end)
 whole_span bs m c h = span_of bs m c h 0
+
+pub span_by_is : (bs : List ℕ) (m : Match) (c : Captures) → IsCapturesOf bs m c → (n : ℤ)
+    → span_by n c ≡ group_span n m
+span_by_is bs m c h (pos n) = span_of bs m c h n
+span_by_is bs m c h (negsuc n) = refl

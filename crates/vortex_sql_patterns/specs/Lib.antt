@@ -2,5 +2,7 @@ pub mod Items
 pub mod Matched
 pub mod PatternFunctions
 pub mod Patterns
+pub mod RegexpExtract
 pub mod RegexpReplace
 pub mod Replacing
+pub mod Wanted

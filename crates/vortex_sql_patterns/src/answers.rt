@@ -1,13 +1,16 @@
 //! The result of a function by a compiled pattern.
-ghost use Rattle.std.specs.Prelude.{◌≡◌, ℕ, List};
-ghost use Rattle.regex.specs.Strings.{matcher_pattern};
+ghost use Rattle.std.specs.Prelude.{◌≡◌, ℕ, List, IfSome, option_map};
+ghost use Rattle.regex.specs.Strings.{captures_haystack, match_haystack, match_span, matcher_pattern};
 ghost use Rattle.vortex_sql_rows.specs.AnsweredRows.{AnswersRow};
 ghost use Rattle.vortex_sql_texts.specs.MadeTexts.{text_or_fault};
-ghost use Rattle.vortex_sql_patterns.specs.PatternFunctions.{answer_to, asked, part, span_at, IsReadBy};
+ghost use Rattle.vortex_sql_patterns.specs.PatternFunctions.{asked, first_group, group_at, part, span_at};
+ghost use Rattle.vortex_sql_patterns.specs.PatternFunctions.{IsReadBy};
+ghost use Rattle.vortex_sql_patterns.specs.Wanted.{answer_for, function_of, span_by};
 
 use crate::functions::PatternFunction;
 use crate::searches::{count_matches, place};
-use regex::Matcher;
+use crate::wanted::Wanted;
+use regex::{Captures, Match, Matcher};
 use vortex_columns::{Cell, PType, VortexError, VortexResult};
 use vortex_sql_rows::cells::int_or_fault;
 use vortex_sql_rows::faults::RowFault;
@@ -36,16 +39,52 @@ fn part<'a>(matcher: &mut Matcher<'_>, text: &'a str) -> VortexResult<Cell<'a>>
     }
 }
 
-/// What is asked of a text, by the pattern as it was compiled.
+/// What a group takes, where group 0 is the match.
+fn group_in<'h>(groups: &Captures<'_, 'h>, number: i128) -> Option<Match<'h>>
+    ensures within { IfSome result (λ m. match_haystack m ≡ captures_haystack groups.now) }
+    ensures found { option_map match_span result ≡ span_by number groups.now }
+{
+    if number < 0 || number >= groups.len() as i128 {
+        return None;
+    }
+    groups.get(number as usize)
+}
+
+/// The part of a text that was found; null where none was.
+fn found_part<'a>(text: &'a str, found: Option<Match<'a>>) -> VortexResult<Cell<'a>>
+    requires { IfSome found (λ m. match_haystack m ≡ text.now) }
+    ensures { AnswersRow (part text.now (option_map match_span found)) result }
+{
+    let Some(found) = found else {
+        return Ok(Cell::Null);
+    };
+    text_or_fault(found.as_str())
+}
+
+/// What a group takes in the first match; null where it takes no part.
+fn group_part<'a>(matcher: &mut Matcher<'_>, text: &'a str, number: i128) -> VortexResult<Cell<'a>>
+    ensures same { matcher_pattern matcher.new ≡ matcher_pattern matcher.old }
+    ensures value { AnswersRow (part text.now
+        (group_at number (matcher_pattern matcher.old) text.now)) result }
+{
+    let Some(groups) = matcher.captures(text) else {
+        return Ok(Cell::Null);
+    };
+    found_part(text, group_in(&groups, number))
+}
+
+/// What is asked of a text, by the pattern as it was compiled, and by the number of a group.
 fn asked<'a>(
     function: PatternFunction,
     matcher: &mut Matcher<'_>,
     text: &'a str,
+    number: i128,
 ) -> VortexResult<Cell<'a>>
     ensures same { matcher_pattern matcher.new ≡ matcher_pattern matcher.old }
-    ensures value { AnswersRow (asked function text.now (matcher_pattern matcher.old)) result }
+    ensures value { AnswersRow (asked function number text.now (matcher_pattern matcher.old))
+        result }
 {
-    let number = match function {
+    let count = match function {
         PatternFunction::Like | PatternFunction::AnyCase => {
             return Ok(Cell::Bool(matcher.is_match(text)));
         }
@@ -53,21 +92,29 @@ fn asked<'a>(
             return Ok(Cell::Bool(!matcher.is_match(text)));
         }
         PatternFunction::Substr => return part(matcher, text),
+        PatternFunction::Part => return group_part(matcher, text, number),
         PatternFunction::Instr => place(matcher, text),
         PatternFunction::Count => count_matches(matcher, text) as i128,
     };
-    int_or_fault(checked(PType::I64, number), RowFault::TextTooLong)
+    int_or_fault(checked(PType::I64, count), RowFault::TextTooLong)
 }
 
-/// What is asked of a text, by the pattern that was compiled.
+/// What is asked of a text, by the pattern that was compiled, by its first group, and by the number
+/// of the row.
 pub(crate) fn answer<'a>(
-    function: PatternFunction,
+    wanted: Wanted,
+    first: i128,
     matcher: &mut Matcher<'_>,
     text: &'a str,
+    number: i128,
 ) -> VortexResult<Cell<'a>>
     ensures same { matcher_pattern matcher.new ≡ matcher_pattern matcher.old }
-    ensures value { (ps : List ℕ) → IsReadBy function ps (matcher_pattern matcher.old)
-        → AnswersRow (answer_to function text.now ps) result }
+    ensures value { (ps : List ℕ) → IsReadBy (function_of wanted) ps (matcher_pattern matcher.old)
+        → first ≡ first_group (function_of wanted) ps
+        → AnswersRow (answer_for wanted text.now ps number) result }
 {
-    asked(function, matcher, text)
+    match wanted {
+        Wanted::Function(function) => asked(function, matcher, text, first),
+        Wanted::Group => asked(PatternFunction::Part, matcher, text, number),
+    }
 }

@@ -1,14 +1,16 @@
 //! Compiled patterns.
-ghost use Rattle.std.specs.Prelude.{◌≡◌, None, string_bytes};
-ghost use Rattle.regex.specs.Strings.{regex_pattern};
+ghost use Rattle.std.specs.Prelude.{◌≡◌, None, IfOk, length, string_bytes};
+ghost use Rattle.regex.specs.Strings.{regex_names, regex_pattern};
 ghost use Rattle.vortex_errors.specs.Answers.{Answers, AnswersUnlessMemory};
 ghost use Rattle.vortex_errors.specs.declared.error.VortexError.TheVariants.{Custom};
 ghost use Rattle.vortex_sql_rows.specs.declared.faults.RowFault.TheVariants.{NoPattern};
 ghost use Rattle.vortex_sql_rows.specs.Faults.{fault_number};
-ghost use Rattle.vortex_sql_patterns.specs.Patterns.{pattern_in, IsPatternOf};
-ghost use Rattle.vortex_sql_patterns.specs.PatternFunctions.{in_any_case, read_by, IsReadBy};
+ghost use Rattle.vortex_sql_patterns.specs.Patterns.{groups_in, pattern_in, IsPatternOf};
+ghost use Rattle.vortex_sql_patterns.specs.PatternFunctions.{first_of, in_any_case, read_by, IsReadBy};
+ghost use Rattle.vortex_sql_patterns.specs.Wanted.{function_of};
 
 use crate::functions::PatternFunction;
+use crate::wanted::Wanted;
 use regex::{Error, Regex};
 use std::alloc::Global;
 use vortex_columns::{VortexError, VortexResult};
@@ -17,8 +19,9 @@ use vortex_sql_rows::faults::RowFault;
 /// Compiles a pattern; E10 where the text is no pattern. One that would take more than 10 MiB is
 /// want of memory, since no definition says how large a pattern is compiled.
 pub(crate) fn compile(alloc: Global, pattern: &str) -> VortexResult<Regex>
-    ensures { Answers result (λ r. IsPatternOf pattern.now (regex_pattern r))
+    ensures value { Answers result (λ r. IsPatternOf pattern.now (regex_pattern r))
         (λ e. (pattern_in pattern.now ≡ None) × (e ≡ Custom (fault_number NoPattern))) }
+    ensures groups { IfOk result (λ r. length (regex_names r) ≡ groups_in pattern.now) }
 {
     match Regex::new(alloc, pattern) {
         Ok(regex) => Ok(regex),
@@ -42,9 +45,11 @@ pub(crate) fn compile_by(
     function: PatternFunction,
     pattern: &str,
 ) -> VortexResult<Regex>
-    ensures { Answers result (λ r. IsReadBy function pattern.now (regex_pattern r))
+    ensures value { Answers result (λ r. IsReadBy function pattern.now (regex_pattern r))
         (λ e. (pattern_in (read_by function pattern.now) ≡ None)
         × (e ≡ Custom (fault_number NoPattern))) }
+    ensures groups { IfOk result (λ r. length (regex_names r)
+        ≡ groups_in (read_by function pattern.now)) }
 {
     match function {
         PatternFunction::AnyCase | PatternFunction::NotAnyCase => {
@@ -53,4 +58,26 @@ pub(crate) fn compile_by(
         }
         _ => compile(alloc, pattern),
     }
+}
+
+/// Compiles the pattern of rows that ask for this; E10 where there is none.
+pub(crate) fn compile_for(alloc: Global, wanted: Wanted, pattern: &str) -> VortexResult<Regex>
+    ensures value { Answers result
+        (λ r. IsReadBy (function_of wanted) pattern.now (regex_pattern r))
+        (λ e. (pattern_in (read_by (function_of wanted) pattern.now) ≡ None)
+        × (e ≡ Custom (fault_number NoPattern))) }
+    ensures groups { IfOk result (λ r. length (regex_names r)
+        ≡ groups_in (read_by (function_of wanted) pattern.now)) }
+{
+    match wanted {
+        Wanted::Function(function) => compile_by(alloc, function, pattern),
+        Wanted::Group => compile(alloc, pattern),
+    }
+}
+
+/// The first group of a pattern, or group 0, which is the match, where it has no other.
+pub(crate) fn first_group(regex: &Regex) -> i128
+    ensures { result ≡ first_of (length (regex_names regex.now)) }
+{
+    if regex.captures_len() > 1 { 1 } else { 0 }
 }

@@ -10,6 +10,7 @@ ghost use Rattle.vortex_sql_rows.specs.Signatures.{Describes};
 ghost use Rattle.vortex_sql_patterns.specs.PatternFunctions.{gives_of, nulls_of, pattern_row};
 
 use crate::matched::matched_cells;
+use crate::wanted::Wanted;
 use std::alloc::Global;
 use vortex_columns::{Arity, Column, DType, ExecutionCtx, PType, VortexResult};
 use vortex_interface::ExecutionArgs;
@@ -36,6 +37,10 @@ pub enum PatternFunction {
     NotLike,
     /// `a !~* b`: whether no part matches where case does not count.
     NotAnyCase,
+    /// `textregexsubstr(a, b)`, SQL's `substring(a from b)`: what the first group of the pattern
+    /// takes in the first match, or the first part that matches where the pattern has no group.
+    /// Null where none does, and where the group takes no part.
+    Part,
 }
 
 impl PatternFunction {
@@ -49,6 +54,7 @@ impl PatternFunction {
             PatternFunction::NotLike => Gives::Truth,
             PatternFunction::NotAnyCase => Gives::Truth,
             PatternFunction::Substr => Gives::Text,
+            PatternFunction::Part => Gives::Text,
             PatternFunction::Instr => Gives::Integer(PType::I64),
             PatternFunction::Count => Gives::Integer(PType::I64),
         }
@@ -60,6 +66,7 @@ impl PatternFunction {
     {
         match self {
             PatternFunction::Substr => Nulls::Always,
+            PatternFunction::Part => Nulls::Always,
             PatternFunction::Like => Nulls::WhereAny,
             PatternFunction::Instr => Nulls::WhereAny,
             PatternFunction::Count => Nulls::WhereAny,
@@ -81,6 +88,7 @@ impl PatternFunction {
             PatternFunction::AnyCase => "sql.texticregexeq",
             PatternFunction::NotLike => "sql.textregexne",
             PatternFunction::NotAnyCase => "sql.texticregexne",
+            PatternFunction::Part => "sql.textregexsubstr",
         };
         Signature {
             id,
@@ -126,7 +134,7 @@ impl PatternFunction {
         typed_inputs(args)?;
         let types = input_types(alloc, args)?;
         let dtype = self.return_dtype(alloc, &types)?;
-        let rows = matched_cells(alloc, *self, args)?;
+        let rows = matched_cells(alloc, Wanted::Function(*self), args)?;
         column_of(alloc, &dtype, &rows)
     }
 }

@@ -3,6 +3,7 @@
 
 mod answers;
 mod compiled;
+pub mod extract;
 pub mod functions;
 mod matched;
 pub mod replace;
@@ -11,3 +12,4 @@ mod replacements;
 mod replacing;
 mod requests;
 mod searches;
+mod wanted;

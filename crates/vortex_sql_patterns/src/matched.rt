@@ -1,95 +1,82 @@
-//! The results of a function, row by row.
-ghost use Rattle.std.specs.Prelude.{◌≡◌, ◌<◌, ◌≤◌, Some, length, map, option_map, IfOk, IfSome};
+//! The results of a call, row by row.
+ghost use Rattle.std.specs.Prelude.{◌≡◌, ◌<◌, ◌≤◌, Some, length, map, IfOk, IfSome};
 ghost use Rattle.regex.specs.Strings.{matcher_pattern};
 ghost use Rattle.vortex_errors.specs.Answers.{Answers};
 ghost use Rattle.vortex_columns.specs.Cells.{cell_value};
 ghost use Rattle.vortex_interface.specs.Outcomes.{values_at, IsCallFault};
 ghost use Rattle.vortex_sql_calls.specs.Calls.{AnsweredRows};
 ghost use Rattle.vortex_sql_rows.specs.AnsweredRows.{AnswersRow};
-ghost use Rattle.vortex_sql_rows.specs.Shapes.{both_texts};
-ghost use Rattle.vortex_sql_patterns.specs.PatternFunctions.{outcome_of, IsReadBy};
+ghost use Rattle.vortex_sql_patterns.specs.PatternFunctions.{first_group, IsReadBy};
+ghost use Rattle.vortex_sql_patterns.specs.Wanted.{function_of, wanted_in, wanted_of};
 
 use crate::answers::answer;
-use crate::compiled::compile_by;
-use crate::functions::PatternFunction;
+use crate::compiled::{compile_for, first_group};
+use crate::wanted::{Wanted, wanted_in};
 use regex::Matcher;
 use std::alloc::Global;
 use vortex_columns::{Cell, VortexResult};
 use vortex_interface::ExecutionArgs;
 use vortex_sql_calls::call::read_cells;
-use vortex_sql_rows::cells::text_in;
-
-/// The texts of a row of two cells.
-fn both_texts<'a>(cells: &[Cell<'a>]) -> Option<(&'a str, &'a str)>
-    ensures { option_map (λ x. (x.0.now, x.1.now)) result
-        ≡ both_texts (map cell_value cells.now) }
-{
-    let [a, b] = cells else {
-        return None;
-    };
-    match (text_in(a), text_in(b)) {
-        (Some(a), Some(b)) => Some((a, b)),
-        (Some(_), None) => None,
-        (None, _) => None,
-    }
-}
 
 /// The result of a row by a compiled pattern; none where the row has another pattern.
 fn answer_by<'a>(
-    function: PatternFunction,
+    wanted: Wanted,
+    first: i128,
     matcher: &mut Matcher<'_>,
     pattern: &str,
     cells: &[Cell<'a>],
 ) -> Option<VortexResult<Cell<'a>>>
-    requires { IsReadBy function pattern.now (matcher_pattern matcher.old) }
+    requires compiled { IsReadBy (function_of wanted) pattern.now (matcher_pattern matcher.old) }
+    requires first { first ≡ first_group (function_of wanted) pattern.now }
     ensures same { matcher_pattern matcher.new ≡ matcher_pattern matcher.old }
     ensures value { IfSome result
-        (AnswersRow (outcome_of function (map cell_value cells.now))) }
+        (AnswersRow (wanted_of wanted (map cell_value cells.now))) }
 {
-    let Some((text, other)) = both_texts(cells) else {
+    let Some((text, other, number)) = wanted_in(wanted, cells) else {
         return Some(Ok(Cell::Null));
     };
     if pattern == other {
-        Some(answer(function, matcher, text))
+        Some(answer(wanted, first, matcher, text, number))
     } else {
         None
     }
 }
 
-/// Appends the result of the next row, whose text and pattern these are, and those of the rows
-/// behind it up to one with another pattern. The pattern is compiled once.
+/// Appends the result of the next row, whose text, pattern and number these are, and those of the
+/// rows behind it up to one with another pattern. The pattern is compiled once.
 fn push_run<'a, A: ExecutionArgs>(
     alloc: Global,
-    function: PatternFunction,
+    wanted: Wanted,
     args: &'a A,
-    text: &'a str,
-    pattern: &str,
+    row: (&'a str, &'a str, i128),
     rows: &mut Vec<Cell<'a>>,
 ) -> VortexResult<()>
     requires below { length rows.old.items < A.rows args.now }
-    requires next { both_texts (values_at (A.inputs args.now) (length rows.old.items))
-        ≡ Some (text.now, pattern.now) }
-    requires answered { AnsweredRows (outcome_of function) (A.inputs args.now)
+    requires next { wanted_in wanted (values_at (A.inputs args.now) (length rows.old.items))
+        ≡ Some (row.0.now, row.1.now, row.2) }
+    requires answered { AnsweredRows (wanted_of wanted) (A.inputs args.now)
         (length rows.old.items) rows.old.items }
     ensures answered { Answers result
-        (λ _. AnsweredRows (outcome_of function) (A.inputs args.now) (length rows.new.items)
+        (λ _. AnsweredRows (wanted_of wanted) (A.inputs args.now) (length rows.new.items)
         rows.new.items)
-        (IsCallFault (λ ts. outcome_of function) (A.inputs args.now) (A.rows args.now)) }
+        (IsCallFault (λ ts. wanted_of wanted) (A.inputs args.now) (A.rows args.now)) }
     ensures more { IfOk result (λ _. length rows.old.items < length rows.new.items) }
     ensures most { IfOk result (λ _. length rows.new.items ≤ A.rows args.now) }
 {
-    let regex = compile_by(alloc, function, pattern)?;
+    let (text, pattern, number) = row;
+    let regex = compile_for(alloc, wanted, pattern)?;
+    let first = first_group(&regex);
     let mut matcher = regex.matcher(alloc)?;
     let mut cells = Vec::new(alloc);
-    let first = answer(function, &mut matcher, text)?;
-    rows.push(first)?;
+    let made = answer(wanted, first, &mut matcher, text, number)?;
+    rows.push(made)?;
     for i in rows.len()..args.row_count() {
         read_cells(args, i, &mut cells)?;
-        let Some(next) = answer_by(function, &mut matcher, pattern, &cells) else {
+        let Some(next) = answer_by(wanted, first, &mut matcher, pattern, &cells) else {
             return Ok(());
         };
-        let made = next?;
-        rows.push(made)?;
+        let cell = next?;
+        rows.push(cell)?;
     }
     Ok(())
 }
@@ -97,20 +84,20 @@ fn push_run<'a, A: ExecutionArgs>(
 /// The result of each row.
 pub(crate) fn matched_cells<'a, A: ExecutionArgs>(
     alloc: Global,
-    function: PatternFunction,
+    wanted: Wanted,
     args: &'a A,
 ) -> VortexResult<Vec<Cell<'a>>>
     ensures { Answers result
-        (λ rows. AnsweredRows (outcome_of function) (A.inputs args.now) (A.rows args.now)
+        (λ rows. AnsweredRows (wanted_of wanted) (A.inputs args.now) (A.rows args.now)
         rows.items)
-        (IsCallFault (λ ts. outcome_of function) (A.inputs args.now) (A.rows args.now)) }
+        (IsCallFault (λ ts. wanted_of wanted) (A.inputs args.now) (A.rows args.now)) }
 {
     let mut rows = Vec::new(alloc);
     let mut cells = Vec::new(alloc);
     'rows: while rows.len() < args.row_count() {
         read_cells(args, rows.len(), &mut cells)?;
-        match both_texts(&cells) {
-            Some((text, pattern)) => push_run(alloc, function, args, text, pattern, &mut rows)?,
+        match wanted_in(wanted, &cells) {
+            Some(row) => push_run(alloc, wanted, args, row, &mut rows)?,
             None => rows.push(Cell::Null)?,
         }
     }

@@ -246,6 +246,7 @@ first standard.Reverse = refl
 first standard.ConcatAll = refl
 first standard.Initcap = refl
 first standard.RegexpReplace = refl
+first standard.RegexpExtract = refl
 first standard.ConcatWs = refl
 first standard.Ascii = refl
 first standard.Chr = refl
@@ -331,6 +332,7 @@ first (standard.PatternFunction pattern.Count) = refl
 first (standard.PatternFunction pattern.AnyCase) = refl
 first (standard.PatternFunction pattern.NotLike) = refl
 first (standard.PatternFunction pattern.NotAnyCase) = refl
+first (standard.PatternFunction pattern.Part) = refl
 
 -- a function's name names that function
 pub named_back : (f : Standard) → standard_named (name_of f) ≡ Some f

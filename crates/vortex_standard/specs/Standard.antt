@@ -24,6 +24,7 @@ use Rattle.vortex_sql_numbers.specs.Remainder.{remainder_row, remainder_lawful}
 use Rattle.vortex_sql_rows.specs.Row.{Row, LawfulRow, row_type, row_means}
 use Rattle.vortex_sql_numbers.specs.Sign.{sign_row, sign_lawful}
 use Rattle.vortex_sql_patterns.specs.PatternFunctions.{pattern_row, pattern_lawful}
+use Rattle.vortex_sql_patterns.specs.RegexpExtract.{regexp_extract_lawful, regexp_extract_row}
 use Rattle.vortex_sql_patterns.specs.RegexpReplace.{regexp_replace_lawful, regexp_replace_row}
 use Rattle.vortex_sql_date_formats.specs.TimesByFormats as times_by
 use Rattle.vortex_sql_date_formats.specs.TextsByFormats as texts_by
@@ -95,6 +96,7 @@ row_of standard.Reverse = reverse_row
 row_of standard.ConcatAll = concat_all_row
 row_of standard.Initcap = initcap_row
 row_of standard.RegexpReplace = regexp_replace_row
+row_of standard.RegexpExtract = regexp_extract_row
 row_of standard.ConcatWs = concat_ws_row
 row_of standard.Ascii = ascii_row
 row_of standard.Chr = chr_row
@@ -179,6 +181,7 @@ lawful_of standard.Reverse = reverse_lawful
 lawful_of standard.ConcatAll = concat_all_lawful
 lawful_of standard.Initcap = initcap_lawful
 lawful_of standard.RegexpReplace = regexp_replace_lawful
+lawful_of standard.RegexpExtract = regexp_extract_lawful
 lawful_of standard.ConcatWs = concat_ws_lawful
 lawful_of standard.Ascii = ascii_lawful
 lawful_of standard.Chr = chr_lawful

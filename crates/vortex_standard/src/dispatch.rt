@@ -261,6 +261,10 @@ macro_rules! with_row {
                 let $f = &vortex_sql_patterns::replace::RegexpReplace;
                 $patterns
             }
+            Standard::RegexpExtract => {
+                let $f = &vortex_sql_patterns::extract::RegexpExtract;
+                $patterns
+            }
         }
     };
 }

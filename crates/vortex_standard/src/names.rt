@@ -22,7 +22,7 @@ use vortex_sql_texts::texts::Measure;
 use vortex_sql_texts::trims::Trim;
 
 /// The functions that texts are written with, each once.
-pub const FUNCTIONS: [Standard; 109] = [
+pub const FUNCTIONS: [Standard; 111] = [
     Standard::Coalesce,
     Standard::NullIf,
     Standard::Case,
@@ -47,6 +47,7 @@ pub const FUNCTIONS: [Standard; 109] = [
     Standard::ConcatAll,
     Standard::Initcap,
     Standard::RegexpReplace,
+    Standard::RegexpExtract,
     Standard::ConcatWs,
     Standard::Ascii,
     Standard::Chr,
@@ -132,6 +133,7 @@ pub const FUNCTIONS: [Standard; 109] = [
     Standard::PatternFunction(PatternFunction::AnyCase),
     Standard::PatternFunction(PatternFunction::NotLike),
     Standard::PatternFunction(PatternFunction::NotAnyCase),
+    Standard::PatternFunction(PatternFunction::Part),
 ];
 
 fn is_same_word(word: &[u8], other: &[u8]) -> bool

@@ -73,6 +73,7 @@ pub enum Standard {
     ConcatAll,
     Initcap,
     RegexpReplace,
+    RegexpExtract,
     ConcatWs,
     Ascii,
     Chr,
