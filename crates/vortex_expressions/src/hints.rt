@@ -68,9 +68,9 @@ const BEFORE: [(&str, &[u8], &str); 7] = [
 
 /// Functions that other languages have.
 <<<<<<< HEAD
-const FUNCTIONS: [(&str, &str); 81] = [
+const FUNCTIONS: [(&str, &str); 79] = [
 =======
-const FUNCTIONS: [(&str, &str); 71] = [
+const FUNCTIONS: [(&str, &str); 79] = [
 >>>>>>> 778f7060ac761f7215015b450d50818a55138e38
     ("sum", AGGREGATES),
     ("count", AGGREGATES),
@@ -133,12 +133,10 @@ const FUNCTIONS: [(&str, &str); 71] = [
     ("format", FORMATTED),
     ("printf", FORMATTED),
     ("sprintf", FORMATTED),
-    ("len", "write length(s)"),
     ("charindex", "write strpos(s, t)"),
     ("contains", "write strpos(s, t) > 0"),
     ("ends_with", "write right(s, 2) = 'ab'"),
     ("endswith", "write right(s, 2) = 'ab'"),
-    ("startswith", "write starts_with(s, t)"),
     ("weekday", "write dow(d), from 0 for Sunday"),
     ("dayofweek", "write dow(d), from 0 for Sunday"),
     ("split", "write split_part(s, ',', 1)"),

@@ -41,6 +41,8 @@ alias_of w =
     else if same_word w (codes "trim") then Some (standard.Trim Both)
     else if same_word w (codes "char_length") then Some (standard.Measure Characters)
     else if same_word w (codes "character_length") then Some (standard.Measure Characters)
+    else if same_word w (codes "len") then Some (standard.Measure Characters)
+    else if same_word w (codes "startswith") then Some standard.StartsWith
     else if same_word w (codes "mid") then Some standard.Substr
     else if same_word w (codes "bitand") then Some (standard.BitOperator bits.And)
     else if same_word w (codes "bitor") then Some (standard.BitOperator bits.Or)

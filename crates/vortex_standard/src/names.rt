@@ -170,6 +170,10 @@ fn alias_of(word: &[u8]) -> Option<Standard>
         Some(Standard::Measure(Measure::Characters))
     } else if is_same_word(word, b"character_length") {
         Some(Standard::Measure(Measure::Characters))
+    } else if is_same_word(word, b"len") {
+        Some(Standard::Measure(Measure::Characters))
+    } else if is_same_word(word, b"startswith") {
+        Some(Standard::StartsWith)
     } else if is_same_word(word, b"mid") {
         Some(Standard::Substr)
     } else if is_same_word(word, b"bitand") {
