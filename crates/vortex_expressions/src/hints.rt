@@ -67,11 +67,7 @@ const BEFORE: [(&str, &[u8], &str); 7] = [
 ];
 
 /// Functions that other languages have.
-<<<<<<< HEAD
 const FUNCTIONS: [(&str, &str); 79] = [
-=======
-const FUNCTIONS: [(&str, &str); 79] = [
->>>>>>> 778f7060ac761f7215015b450d50818a55138e38
     ("sum", AGGREGATES),
     ("count", AGGREGATES),
     ("avg", AGGREGATES),
