@@ -67,7 +67,7 @@ const BEFORE: [(&str, &[u8], &str); 7] = [
 ];
 
 /// Functions that other languages have.
-const FUNCTIONS: [(&str, &str); 79] = [
+const FUNCTIONS: [(&str, &str); 77] = [
     ("sum", AGGREGATES),
     ("count", AGGREGATES),
     ("avg", AGGREGATES),
@@ -109,8 +109,6 @@ const FUNCTIONS: [(&str, &str); 79] = [
     ("datediff", DISTANCES),
     ("date_diff", DISTANCES),
     ("timestampdiff", DISTANCES),
-    ("monthname", "it is of a date or a timestamp"),
-    ("dayname", "it is of a date or a timestamp"),
     (
         "make_timestamp",
         "write to_timestamp(s, 'YYYY-MM-DD HH24:MI:SS')",
