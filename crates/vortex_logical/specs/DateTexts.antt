@@ -1,7 +1,8 @@
--- Days since 1970-01-01, as they are written: YYYY-MM-DD, in the years 0000 to 9999.
+-- Days since 1970-01-01, as they are written: YYYY-MM-DD, in the years 0000 to 9999. They are read
+-- with slashes, too: YYYY/MM/DD.
 use Rattle.std.specs.Prelude.{◌≡◌, ◌+◌, ◌-◌, ◌*◌, ◌/◌, ◌%◌, ℕ, ℤ, pos, List, [], ◌∷◌, Option, Some}
 use Rattle.std.specs.Prelude.{None}
-use Rattle.std.specs.Prelude.{if◌then◌else◌, ◌==◌, ◌&&◌, nat_le, Bool, neg_ℤ, ◌≤ℤ◌, ◌↔◌}
+use Rattle.std.specs.Prelude.{if◌then◌else◌, ◌==◌, ◌&&◌, ◌||◌, nat_le, Bool, neg_ℤ, ◌≤ℤ◌, ◌↔◌}
 use Rattle.std.specs.Char.{is_ascii_digit}
 use Rattle.jiff_core.specs.Calendar.{days_from_civil, days_in_month, IsCivilDate}
 
@@ -21,10 +22,14 @@ day_number (Some c) (Some y) (Some m) (Some d) =
     if is_civil (c * 100 + y) m d then Some (days_from_civil (pos (c * 100 + y)) m d) else None
 day_number c y m d = None
 
+-- two hyphens or two slashes
+abbrev pub are_signs : ℕ → ℕ → Bool
+are_signs p q = ((p == 45) && (q == 45)) || ((p == 47) && (q == 47))
+
 -- the day that a text names
 abbrev pub date_of_text : List ℕ → Option ℤ
 date_of_text (c ∷ d ∷ y ∷ z ∷ p ∷ m ∷ n ∷ q ∷ e ∷ f ∷ []) =
-    if (p == 45) && (q == 45)
+    if are_signs p q
     then day_number (two_digits c d) (two_digits y z) (two_digits m n) (two_digits e f) else None
 date_of_text bs = None
 

@@ -3,7 +3,8 @@ ghost use Rattle.std.specs.Prelude.{◌≡◌, ◌≤◌, ◌+◌, ◌*◌, [], 
 ghost use Rattle.std.specs.Bool.{MatchBool};
 ghost use Rattle.jiff_core.specs.Calendar.{IsCivilDate, IsEpochDay};
 ghost use Rattle.vortex_logical.specs.Written.{Appends};
-ghost use Rattle.vortex_logical.specs.DateTexts.{two_digits, day_number, date_of_text, padded};
+ghost use Rattle.vortex_logical.specs.DateTexts.{are_signs, two_digits, day_number, date_of_text};
+ghost use Rattle.vortex_logical.specs.DateTexts.{padded};
 ghost use Rattle.vortex_logical.specs.DateTexts.{date_text, IsDated, IsDateText};
 ghost use Rattle.vortex_logical.specs.DateTexts.{DatesAreReadBack, DatedDays};
 
@@ -49,14 +50,22 @@ fn civil_day(century: u8, year: u8, month: u8, day: u8) -> Option<i32>
     }
 }
 
-/// The day of a text `YYYY-MM-DD`; none of any other text, and of a day that the calendar has not.
+/// Whether the signs between the parts of a date are two hyphens or two slashes.
+fn are_signs(first: u8, second: u8) -> bool
+    ensures { result ≡ are_signs first second }
+{
+    (first == b'-' && second == b'-') || (first == b'/' && second == b'/')
+}
+
+/// The day of a text `YYYY-MM-DD` or `YYYY/MM/DD`; none of any other text, and of a day that the
+/// calendar has not.
 pub fn read_date(text: &[u8]) -> Option<i32>
     ensures value { result ≡ date_of_text text.now }
     ensures range { IfSome result IsEpochDay }
     ensures dated { IfSome result IsDated }
 {
     match text {
-        [c, d, y, z, b'-', m, n, b'-', e, f] => civil_day(
+        [c, d, y, z, p, m, n, q, e, f] if are_signs(*p, *q) => civil_day(
             two_digits(*c, *d)?,
             two_digits(*y, *z)?,
             two_digits(*m, *n)?,
