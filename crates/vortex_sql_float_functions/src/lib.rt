@@ -5,3 +5,5 @@ pub mod functions;
 mod keys;
 pub mod places;
 pub mod rows;
+#[cfg(test)]
+mod tests;
