@@ -1,6 +1,6 @@
 -- A product in two parts, and its last bits.
 use Rattle.std.proofs.Common.{◌≡◌, ◌≤◌, ◌<◌, ◌+◌, ◌-◌, ◌*◌, ◌/◌, ◌%◌, ◌^◌, ◌∙◌, ℕ, ap, arith, sym}
-use Rattle.std.proofs.Math.Nat.{div-div-eq-div-mul}
+use Rattle.std.proofs.Math.Nat.{div-div-eq-div-mul, div-lt_iff_lt-mul, le_refl, mul-le-mul}
 use Rattle.std.proofs.Math.Arith.{mod-mul}
 use lib.Pow.{pow-add}
 use Rattle.vortex_float_texts.proofs.Powers.{two_positive}
@@ -29,3 +29,9 @@ pub rest_is : (v s : ℕ) → 64 ≤ s
 rest_is v s h =
     ap (λ n. v % n) (sym (power s h))
     ∙ mod-mul v {m = 2 ^ (s - 64)} {c = 18446744073709551616} (two_positive (s - 64)) (omega arith)
+
+pub front_small : (high unit : ℕ) → high < 340282366920938463463374607431768211456
+    → 70368744177664 ≤ unit → high / unit < 4835703278458516698824704
+front_small high unit h k =
+    (div-lt_iff_lt-mul {k = unit} {x = high} {y = 4835703278458516698824704} (omega (arith, k))).1
+    (omega (arith, h, mul-le-mul (le_refl 4835703278458516698824704) k))

@@ -1,3 +1,4 @@
+mod Fifteen
 mod Firsts
 mod Halves
 mod Powers

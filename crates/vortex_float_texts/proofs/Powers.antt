@@ -7,7 +7,7 @@ pub ten_positive : (k : ℕ) → 1 ≤ 10 ^ k
 ten_positive zero = omega arith
 ten_positive (suc k) = omega (arith, ten_positive k, pow-add 10 k 1)
 
-ten_more : (k j : ℕ) → 10 ^ k ≤ 10 ^ (k + j)
+pub ten_more : (k j : ℕ) → 10 ^ k ≤ 10 ^ (k + j)
 ten_more k j = omega (arith, pow-add 10 k j, mul-le-mul (le_refl (10 ^ k)) (ten_positive j))
 
 pub ten_bound : (k : ℕ) → k ≤ 18 → 10 ^ k ≤ 1000000000000000000
@@ -29,6 +29,8 @@ two_bound k h = omega (arith, two_more k (126 - k), ap (λ n. 2 ^ n) (split k h)
     split : (k : ℕ) → k ≤ 126 → k + (126 - k) ≡ 126
     split k h = omega arith
 
-pub two_some : (k : ℕ) → 1 ≤ k → 2 ≤ 2 ^ k
-two_some zero h = absurd (omega (arith, h))
-two_some (suc k) h = omega (arith, two_positive k, pow-add 2 k 1)
+pub two_least : (k : ℕ) → 46 ≤ k → 70368744177664 ≤ 2 ^ k
+two_least k h = omega (arith, two_more 46 (k - 46), ap (λ n. 2 ^ n) (split k h))
+  where
+    split : (k : ℕ) → 46 ≤ k → 46 + (k - 46) ≡ k
+    split k h = omega arith

@@ -55,24 +55,34 @@ fn product(row: u128, by: u64) -> (u128, u64)
     )
 }
 
-#[tactic(auto, using(crate::proofs::Powers::two_bound, crate::proofs::Powers::two_some))]
+#[tactic(auto, using(crate::proofs::Powers::two_bound, crate::proofs::Powers::two_least))]
 fn two_to(power: u32) -> u128
-    requires { (1 ≤ power) × (power ≤ 126) }
+    requires { (46 ≤ power) × (power ≤ 126) }
     ensures value { result ≡ 2 ^ power }
-    ensures some { 2 ≤ result }
+    ensures least { 70368744177664 ≤ result }
 {
     2u128.pow(power)
+}
+
+#[tactic(auto, using(crate::proofs::Halves::front_small))]
+fn over(high: u128, unit: u128) -> u128
+    requires { 70368744177664 ≤ unit }
+    ensures value { result ≡ high / unit }
+    ensures small { result < 4835703278458516698824704 }
+{
+    high / unit
 }
 
 /// Twice the product without its last bits, and one more where these are not all 0.
 #[tactic(auto, using(crate::proofs::Halves::front_is, crate::proofs::Halves::rest_is))]
 fn halves(row: u128, by: u64, bits: u64) -> u128
-    requires { (65 ≤ bits) × (bits ≤ 190) }
-    ensures { result ≡ specs.halves (row * by) bits }
+    requires { (110 ≤ bits) × (bits ≤ 190) }
+    ensures value { result ≡ specs.halves (row * by) bits }
+    ensures small { result < 9671406556917033397649408 }
 {
     let (high, low) = product(row, by);
     let unit = two_to((bits - 64) as u32);
-    let front = high / unit;
+    let front = over(high, unit);
     if low == 0 && high % unit == 0 {
         2 * front
     } else {
@@ -83,7 +93,7 @@ fn halves(row: u128, by: u64, bits: u64) -> u128
 fn bits_at(exponent: u64) -> u64
     requires { exponent ≤ 2045 }
     ensures value { result ≡ specs.bits_at exponent }
-    ensures range { (65 ≤ result) × (result ≤ 190) }
+    ensures range { (110 ≤ result) × (result ≤ 190) }
 {
     let index = 742 - power_at(exponent);
     2340 - exponent - ((index * 217_706 + 58_980) / 65_536 + 2)
@@ -92,7 +102,8 @@ fn bits_at(exponent: u64) -> u64
 /// Twice a float over the power of ten, and one more where that is not whole.
 pub(crate) fn halves_at(significand: u64, exponent: u64) -> u128
     requires { exponent ≤ 2045 }
-    ensures { result ≡ specs.halves_at significand exponent }
+    ensures value { result ≡ specs.halves_at significand exponent }
+    ensures small { result < 9671406556917033397649408 }
 {
     let row = row_at(742 - power_at(exponent));
     halves(row, significand, bits_at(exponent))

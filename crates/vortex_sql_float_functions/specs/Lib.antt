@@ -1,4 +1,5 @@
 pub mod FloatFunctions
 pub mod FloatRows
 pub mod FunctionFits
+pub mod PlaceRows
 pub mod RootFaults

@@ -48,7 +48,7 @@ small_fits : (z : ℤ) → unsigned_abs z < 1000000000000000000 → FitsPType I6
 small_fits (pos n) h = (omega (arith, ints, h), omega (arith, ints, h))
 small_fits (negsuc n) h = (omega (arith, ints, h), omega (arith, ints, h))
 
-digits_fit : (p : ℕ) (z : ℤ) → p ≤ 18
+pub digits_fit : (p : ℕ) (z : ℤ) → p ≤ 18
     → GivesType (integer_type I64 false) (int_or_fault fault.DecimalDigits (within_digits p z))
 digits_fit p z h = by (nat_lt (unsigned_abs z) (10 ^ p)) refl
   where

@@ -1,5 +1,6 @@
 pub mod DecimalRounding
 pub mod DecimalScales
+pub mod FloatDecimals
 pub mod FloatTexts
 pub mod KindTexts
 pub mod StoredKinds

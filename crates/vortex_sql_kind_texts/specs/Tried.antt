@@ -6,6 +6,7 @@ use Rattle.vortex_sql_kind_texts.specs.declared.kinds.StoredKind.{StoredKind}
 use Rattle.vortex_sql_kind_texts.specs.declared.kinds.StoredKind.TheVariants.{Date, Timestamp, F64}
 use Rattle.vortex_sql_kind_texts.specs.declared.kinds.StoredKind.TheVariants.{F32}
 use Rattle.vortex_sql_kind_texts.specs.DecimalScales.{scaled_row, scaled_lawful}
+use Rattle.vortex_sql_kind_texts.specs.FloatDecimals.{float_decimal_row, float_decimal_lawful}
 use Rattle.vortex_sql_kind_texts.specs.TextKinds.{text_row, text_lawful, decimal_row, decimal_lawful}
 
 -- of a text: null where it is none of the kind
@@ -55,3 +56,16 @@ may_try_scaled = record { named = refl; single = λ t. refl }
 
 pub try_scaled_lawful : LawfulRow try_scaled_row
 try_scaled_lawful = tried_lawful try_scaled_id scaled_row may_try_scaled scaled_lawful
+
+-- of a float: null where the decimal does not have it
+abbrev pub try_float_id : List ℕ
+try_float_id = codes "sql.try_float_to_decimal"
+
+abbrev pub try_float_row : Row
+try_float_row = tried_row try_float_id float_decimal_row
+
+pub may_try_float : MayTry try_float_id float_decimal_row
+may_try_float = record { named = refl; single = λ t. refl }
+
+pub try_float_lawful : LawfulRow try_float_row
+try_float_lawful = tried_lawful try_float_id float_decimal_row may_try_float float_decimal_lawful

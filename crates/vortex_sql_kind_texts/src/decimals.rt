@@ -34,7 +34,7 @@ pub struct DecimalRound {
     pub rounding: Rounding,
 }
 
-fn with_sign(number: i64, size: u64) -> i128
+pub(crate) fn with_sign(number: i64, size: u64) -> i128
     ensures { result ≡ specs.with_sign number size }
 {
     if number < 0 {

@@ -4,6 +4,7 @@
 
 mod cells;
 pub mod decimals;
+pub mod float_decimals;
 pub mod float_texts;
 pub mod from_texts;
 pub mod kinds;

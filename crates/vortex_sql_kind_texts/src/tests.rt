@@ -1,6 +1,7 @@
 //! Rows beside what Python's `datetime`, `struct` and `decimal` made of them on 29 November 2026.
 
 use crate::decimals::{DecimalRound, Rounding};
+use crate::float_decimals::FloatToDecimal;
 use crate::float_texts::FloatToText;
 use crate::from_texts::{TextToDecimal, TextToKind};
 use crate::kinds::{StoredKind, WrittenKind};
@@ -272,5 +273,45 @@ fn numbers_are_scaled(rt: HostRuntime) {
     for (number, places, precision) in faults {
         let cells = [Cell::Int(number), Cell::Int(places), Cell::Int(precision)];
         assert!(rt; DecimalScaled.answer(PType::I64, &cells).is_err());
+    }
+}
+
+#[test]
+fn floats_are_decimals(rt: HostRuntime) {
+    // 0.125, 2.675, -1.005, 0.30000000000000004, 1e15, 5e-324, 0, 0.29, 1e17
+    let rows: [(i128, i128, i128, i128); 9] = [
+        (4593671619917905920, 2, 18, 13),
+        (4613205983301625446, 2, 3, 268),
+        (-4607204936798154260, 2, 3, -101),
+        (4599075939470750516, 17, 18, 30000000000000000),
+        (4831355200913801216, 2, 18, 100000000000000000),
+        (1, 18, 18, 0),
+        (0, 2, 5, 0),
+        (4598895795485655695, 1, 1, 3),
+        (4861130398305394688, 0, 18, 100000000000000000),
+    ];
+    for (number, scale, precision, expected) in rows {
+        let cells = [Cell::Int(number), Cell::Int(scale), Cell::Int(precision)];
+        assert!(rt; is_number(FloatToDecimal.answer(PType::I64, &cells), expected));
+    }
+    // 1e15, 0.95, 1e300, infinity, a NaN; then scales and precisions that no decimal has, and an
+    // integer that stands for no float
+    let faults: [(i128, i128, i128); 8] = [
+        (4831355200913801216, 3, 18),
+        (4606732058837280358, 1, 1),
+        (9094988921128908188, 0, 18),
+        (-9218868437227405312, 0, 18),
+        (9221120237041090560, 0, 18),
+        (4593671619917905920, 2, 1),
+        (4593671619917905920, 0, 19),
+        (9218868437227405313, 0, 18),
+    ];
+    for (number, scale, precision) in faults {
+        let cells = [Cell::Int(number), Cell::Int(scale), Cell::Int(precision)];
+        assert!(rt; FloatToDecimal.answer(PType::I64, &cells).is_err());
+        let tried = Try {
+            function: &FloatToDecimal,
+        };
+        assert!(rt; is_null(tried.answer(PType::I64, &cells)));
     }
 }

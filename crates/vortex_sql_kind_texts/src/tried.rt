@@ -2,6 +2,7 @@
 ghost use Rattle.std.specs.Prelude.{◌≡◌};
 ghost use Rattle.vortex_sql_kind_texts.specs.Tried as specs;
 
+use crate::float_decimals::FloatToDecimal;
 use crate::from_texts::{TextToDecimal, TextToKind};
 use crate::kinds::StoredKind;
 use crate::scales::DecimalScaled;
@@ -50,4 +51,15 @@ impl Tried for DecimalScaled {
     }
 
     ghost may_try = { λ f. specs.may_try_scaled };
+}
+
+/// Null where the decimal does not have the float, and of a NaN and an infinity.
+impl Tried for FloatToDecimal {
+    ghost tried_id = { λ f. specs.try_float_id };
+
+    fn tried_id(&self) -> ScalarFnId {
+        "sql.try_float_to_decimal"
+    }
+
+    ghost may_try = { λ f. specs.may_try_float };
 }

@@ -17,6 +17,7 @@ use Rattle.vortex_standard.specs.declared.standard.Standard.{Standard}
 use Rattle.vortex_standard.specs.declared.standard.Standard.TheVariants as standard
 use Rattle.vortex_sql_texts.specs.declared.texts.Measure.TheVariants.{Characters, Bytes}
 use Rattle.vortex_sql_float_functions.specs.declared.functions.FloatFunction.TheVariants as function
+use Rattle.vortex_sql_float_functions.specs.declared.places.FloatPlaces.TheVariants as places
 use Rattle.vortex_sql_floats.specs.declared.floats.FloatOperator.TheVariants as float
 use Rattle.vortex_sql_dates.specs.declared.parts.Part.{Part}
 use Rattle.vortex_sql_dates.specs.declared.parts.Part.TheVariants as part
@@ -275,6 +276,8 @@ first standard.TryTextToDecimal = refl
 first standard.DecimalToText = refl
 first standard.DecimalScaled = refl
 first standard.TryDecimalScaled = refl
+first standard.FloatToDecimal = refl
+first standard.TryFloatToDecimal = refl
 first (standard.Extreme Greatest) = refl
 first (standard.Extreme Least) = refl
 first (standard.TruthTest IsTrue) = refl
@@ -316,6 +319,8 @@ first (standard.FloatFunction function.Trunc) = refl
 first (standard.FloatFunction function.Sqrt) = refl
 first (standard.FloatFunction function.Abs) = refl
 first (standard.FloatFunction function.Sign) = refl
+first (standard.FloatPlaces places.Round) = refl
+first (standard.FloatPlaces places.Trunc) = refl
 first (standard.DatePart f) = first_date_part f.part
 first (standard.TimestampPart f) = first_timestamp_part f.part
 first (standard.DateTrunc f) = first_date_trunc f.unit

@@ -51,6 +51,7 @@ use Rattle.vortex_sql_try_casts.specs.TryCasts.{try_text_lawful, try_truth_row, 
 use Rattle.vortex_sql_try_casts.specs.TryCasts.{try_float_row, try_float_lawful}
 use Rattle.vortex_sql_texts.specs.Texts.{begins_row, begins_lawful, measure_row, measure_lawful}
 use Rattle.vortex_sql_float_functions.specs.FloatRows as float_functions
+use Rattle.vortex_sql_float_functions.specs.PlaceRows.{places_row, places_lawful}
 use Rattle.vortex_sql_dates.specs.Casts as date_casts
 use Rattle.vortex_sql_dates.specs.MadeDates.{make_date_row, make_date_lawful}
 use Rattle.vortex_sql_dates.specs.Parts.{date_part_row, timestamp_part_row}
@@ -60,6 +61,7 @@ use Rattle.vortex_sql_dates.specs.Truncations.{timestamp_trunc_row, timestamp_tr
 use Rattle.vortex_sql_dates.specs.Months as months
 use Rattle.vortex_sql_kind_texts.specs.DecimalRounding.{round_row, round_lawful}
 use Rattle.vortex_sql_kind_texts.specs.DecimalScales.{scaled_row, scaled_lawful}
+use Rattle.vortex_sql_kind_texts.specs.FloatDecimals.{float_decimal_row, float_decimal_lawful}
 use Rattle.vortex_sql_kind_texts.specs.FloatTexts.{float_row, float_lawful}
 use Rattle.vortex_sql_kind_texts.specs.KindTexts as to_texts
 use Rattle.vortex_sql_kind_texts.specs.TextKinds as from_texts
@@ -125,6 +127,8 @@ row_of standard.TryTextToDecimal = tried.try_decimal_row
 row_of standard.DecimalToText = to_texts.decimal_row
 row_of standard.DecimalScaled = scaled_row
 row_of standard.TryDecimalScaled = tried.try_scaled_row
+row_of standard.FloatToDecimal = float_decimal_row
+row_of standard.TryFloatToDecimal = tried.try_float_row
 row_of (standard.Extreme x) = extreme_row x
 row_of (standard.TruthTest t) = test_row t
 row_of (standard.BitOperator o) = operator_row o
@@ -145,6 +149,7 @@ row_of (standard.DecimalToFloat s) = decimal_row (scale_number s)
 row_of (standard.FloatToInt f) = to_int_row f.ptype
 row_of (standard.TryFloatToInt f) = try_float_row f.ptype
 row_of (standard.FloatFunction f) = float_functions.function_row f
+row_of (standard.FloatPlaces f) = places_row f
 row_of (standard.DatePart f) = date_part_row f.part
 row_of (standard.TimestampPart f) = timestamp_part_row f.part
 row_of (standard.DateTrunc f) = date_trunc_row f.unit
@@ -210,6 +215,8 @@ lawful_of standard.TryTextToDecimal = tried.try_decimal_lawful
 lawful_of standard.DecimalToText = to_texts.decimal_lawful
 lawful_of standard.DecimalScaled = scaled_lawful
 lawful_of standard.TryDecimalScaled = tried.try_scaled_lawful
+lawful_of standard.FloatToDecimal = float_decimal_lawful
+lawful_of standard.TryFloatToDecimal = tried.try_float_lawful
 lawful_of (standard.Extreme x) = extreme_lawful x
 lawful_of (standard.TruthTest t) = test_lawful t
 lawful_of (standard.BitOperator o) = operator_lawful o
@@ -230,6 +237,7 @@ lawful_of (standard.DecimalToFloat s) = decimal_lawful (scale_number s)
 lawful_of (standard.FloatToInt f) = to_int_lawful f.ptype
 lawful_of (standard.TryFloatToInt f) = try_float_lawful f.ptype
 lawful_of (standard.FloatFunction f) = float_functions.function_lawful f
+lawful_of (standard.FloatPlaces f) = places_lawful f
 lawful_of (standard.DatePart f) = date_part_lawful f.part
 lawful_of (standard.TimestampPart f) = timestamp_part_lawful f.part
 lawful_of (standard.DateTrunc f) = date_trunc_lawful f.unit

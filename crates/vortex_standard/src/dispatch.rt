@@ -224,6 +224,14 @@ macro_rules! with_row {
                 let $f = &Try { function: &DecimalScaled };
                 $rows
             }
+            Standard::FloatToDecimal => {
+                let $f = &FloatToDecimal;
+                $rows
+            }
+            Standard::TryFloatToDecimal => {
+                let $f = &Try { function: &FloatToDecimal };
+                $rows
+            }
             Standard::TryFloatToInt(cast) => {
                 let $f = &Try { function: cast };
                 $rows
@@ -248,6 +256,7 @@ macro_rules! with_row {
             Standard::FloatOperator($f) => $rows,
             Standard::FloatToInt($f) => $rows,
             Standard::FloatFunction($f) => $rows,
+            Standard::FloatPlaces($f) => $rows,
             Standard::DatePart($f) => $rows,
             Standard::TimestampPart($f) => $rows,
             Standard::DateTrunc($f) => $rows,

@@ -7,6 +7,7 @@ use vortex_float_texts::width::Width;
 use vortex_sql_dates::parts::{DatePart, Part, TimestampPart};
 use vortex_sql_dates::truncations::{DateTrunc, TimestampTrunc, Unit};
 use vortex_sql_float_functions::functions::FloatFunction;
+use vortex_sql_float_functions::places::FloatPlaces;
 use vortex_sql_floats::floats::FloatOperator;
 use vortex_sql_floats::integers::FloatToInt;
 use vortex_sql_kind_texts::decimals::{DecimalRound, Rounding};
@@ -17,7 +18,7 @@ use vortex_sql_kind_texts::to_texts::KindToText;
 
 /// The functions on stored keys, each once: what arithmetic over columns of floats and parts of
 /// dates and timestamps call.
-pub const KEY_FUNCTIONS: [Standard; 125] = [
+pub const KEY_FUNCTIONS: [Standard; 129] = [
     Standard::FloatNegate,
     Standard::IntToFloat,
     Standard::WidenFloat,
@@ -67,6 +68,8 @@ pub const KEY_FUNCTIONS: [Standard; 125] = [
     Standard::FloatFunction(FloatFunction::Sqrt),
     Standard::FloatFunction(FloatFunction::Abs),
     Standard::FloatFunction(FloatFunction::Sign),
+    Standard::FloatPlaces(FloatPlaces::Round),
+    Standard::FloatPlaces(FloatPlaces::Trunc),
     Standard::DateToTimestamp,
     Standard::TimestampToDate,
     Standard::MakeDate,
@@ -155,6 +158,8 @@ pub const KEY_FUNCTIONS: [Standard; 125] = [
     Standard::DecimalToText,
     Standard::DecimalScaled,
     Standard::TryDecimalScaled,
+    Standard::FloatToDecimal,
+    Standard::TryFloatToDecimal,
     Standard::TextToKind(TextToKind {
         kind: StoredKind::Date,
     }),

@@ -19,6 +19,7 @@ pub use vortex_sql_choices::truth_tests::TruthTest;
 pub use vortex_sql_dates::parts::{DatePart, Part, TimestampPart};
 pub use vortex_sql_dates::truncations::{DateTrunc, TimestampTrunc, Unit};
 pub use vortex_sql_float_functions::functions::FloatFunction;
+pub use vortex_sql_float_functions::places::FloatPlaces;
 pub use vortex_sql_floats::floats::FloatOperator;
 pub use vortex_sql_floats::integers::FloatToInt;
 pub use vortex_sql_kind_texts::decimals::{DecimalRound, Rounding};

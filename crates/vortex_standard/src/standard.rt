@@ -23,11 +23,13 @@ use vortex_sql_dates::parts::{DatePart, TimestampPart};
 use vortex_sql_dates::truncations::{DateTrunc, TimestampTrunc};
 use vortex_sql_float_columns::execute_float_operator;
 use vortex_sql_float_functions::functions::FloatFunction;
+use vortex_sql_float_functions::places::FloatPlaces;
 use vortex_sql_floats::decimals::DecimalToFloat;
 use vortex_sql_floats::floats::FloatOperator;
 use vortex_sql_floats::integers::FloatToInt;
 use vortex_sql_in_list::execute_in_list;
 use vortex_sql_kind_texts::decimals::DecimalRound;
+use vortex_sql_kind_texts::float_decimals::FloatToDecimal;
 use vortex_sql_kind_texts::float_texts::FloatToText;
 use vortex_sql_kind_texts::from_texts::{TextToDecimal, TextToKind};
 use vortex_sql_kind_texts::scales::DecimalScaled;
@@ -102,6 +104,8 @@ pub enum Standard {
     DecimalToText,
     DecimalScaled,
     TryDecimalScaled,
+    FloatToDecimal,
+    TryFloatToDecimal,
     Extreme(Extreme),
     TruthTest(TruthTest),
     BitOperator(BitOperator),
@@ -122,6 +126,7 @@ pub enum Standard {
     FloatToInt(FloatToInt),
     TryFloatToInt(FloatToInt),
     FloatFunction(FloatFunction),
+    FloatPlaces(FloatPlaces),
     DatePart(DatePart),
     TimestampPart(TimestampPart),
     DateTrunc(DateTrunc),

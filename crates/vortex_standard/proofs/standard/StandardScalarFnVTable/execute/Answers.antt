@@ -40,6 +40,14 @@ returns-in-TryDecimalScaled g c =
     subst (λ (f : Standard). ReturnsRows (row_of f) inputs n made) (sym c.in-TryDecimalScaled.is)
     c.execute_rows-in-TryDecimalScaled.ensures
 
+pub returns-in-TryFloatToDecimal : goal.returns-in-TryFloatToDecimal
+returns-in-TryFloatToDecimal g c =
+    let inputs = g.A.ExecutionArgs.inputs c.args.args.now in
+    let n = g.A.ExecutionArgs.rows c.args.args.now in
+    let made = c.execute_rows-in-TryFloatToDecimal.result in
+    subst (λ (f : Standard). ReturnsRows (row_of f) inputs n made) (sym c.in-TryFloatToDecimal.is)
+    c.execute_rows-in-TryFloatToDecimal.ensures
+
 pub returns-in-TryTextToDateBy : goal.returns-in-TryTextToDateBy
 returns-in-TryTextToDateBy g c =
     let inputs = g.A.ExecutionArgs.inputs c.args.args.now in
