@@ -260,6 +260,11 @@ pub(crate) fn takes_only_texts(step: Option<&Step<'_>>) -> bool {
     }
 }
 
+/// Whether the step compares with a pattern of LIKE.
+fn is_like(step: Option<&Step<'_>>) -> bool {
+    matches!(step, Some(Step::Call(Call::Like(_)) | Step::Escaped(_, _)))
+}
+
 /// How a value of a kind is made a text, where the step takes texts or casts to one.
 pub(crate) fn text_hint(alloc: Global, step: Option<&Step<'_>>, kind: LogicalKind) -> &'static str {
     let is_cast = match step {
@@ -272,6 +277,9 @@ pub(crate) fn text_hint(alloc: Global, step: Option<&Step<'_>>, kind: LogicalKin
         return "; x::decimal(12,2)::text has two digits after the point";
     }
     match kind {
+        LogicalKind::Date | LogicalKind::Timestamp if is_like(step) => {
+            "; compare it with dates, as d >= '2024-02-01', or read it as text by --columns 'd utf8'"
+        }
         _ if !is_cast && !takes_texts(step) => "",
         LogicalKind::F64 | LogicalKind::F32 => {
             "; x::decimal(12,2)::text has two digits of x after the point"
