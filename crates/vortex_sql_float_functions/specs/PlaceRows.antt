@@ -43,7 +43,7 @@ placed_or z k (Some d) = gives_float (placed_float z k d)
 placed_or z k None = gives (number z)
 
 -- of a stored integer
-abbrev pub placed : FloatPlaces → ℕ → ℤ → Outcome
+unfoldable pub placed : FloatPlaces → ℕ → ℤ → Outcome
 placed f k z =
     if is_float z then placed_or z k (rounded (rounding_of f) k (unsigned_abs z))
     else faults_by OtherValues
@@ -80,6 +80,7 @@ or_fits z k None h = h
 
 placed_fits : (f : FloatPlaces) (z : ℤ) (k : ℕ) → FitsPType I64 z
     → GivesType (integer_type I64 false) (placed f k z)
+unfolding placed
 placed_fits f z k h = by (is_float z)
   where
     by : (b : Bool) → GivesType (integer_type I64 false)

@@ -45,6 +45,7 @@ fn placed_float(number: i64, places: u32, size: u64) -> f64
     fast_float::from_parts::<f64>(number < 0, size, exponent_of(places))
 }
 
+#[tactic(auto, unfolding(crate::specs::PlaceRows::placed))]
 fn placed<'a>(function: FloatPlaces, places: u32, number: i64) -> VortexResult<Cell<'a>>
     ensures { AnswersRow (specs.placed function places number) result }
 {

@@ -40,7 +40,7 @@ decimal_at z d (Some l) = within_digits d.precision (with_sign z (units_at d.sca
 decimal_at z d None = None
 
 -- of a stored float
-abbrev pub float_decimal : ℤ → Digits → Outcome
+unfoldable pub float_decimal : ℤ → Digits → Outcome
 float_decimal z d =
     if is_float z then int_or_fault fault.DecimalDigits (decimal_at z d (leading (unsigned_abs z)))
     else faults_by fault.OtherValues
@@ -70,6 +70,7 @@ at_fits z p s d e None = tt
 
 float_fits : (z p s : ℤ) (d : Digits) → digits_in p s ≡ Some d
     → GivesType (integer_type I64 false) (float_decimal z d)
+unfolding float_decimal
 float_fits z p s d e = by (is_float z)
   where
     by : (b : Bool) → GivesType (integer_type I64 false)

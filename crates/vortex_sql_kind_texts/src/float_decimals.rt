@@ -77,6 +77,7 @@ fn decimal_at(number: i64, digits: DecimalDigits, first: Option<FirstDigits>) ->
     }
 }
 
+#[tactic(auto, unfolding(crate::specs::FloatDecimals::float_decimal))]
 fn float_decimal<'a>(number: i64, digits: DecimalDigits) -> VortexResult<Cell<'a>>
     ensures { AnswersRow (specs.float_decimal number digits) result }
 {
