@@ -1,5 +1,5 @@
 //! Casts of floats of 64 bits to decimals.
-ghost use Rattle.std.specs.Prelude.{◌≡◌, ◌≤◌, ◌*◌, ◌^◌, MatchOption};
+ghost use Rattle.std.specs.Prelude.{◌≡◌, ◌≤◌, ◌+◌, ◌-◌, ◌*◌, ◌^◌, MatchOption};
 ghost use Rattle.vortex_columns.specs.Cells.{cell_value};
 ghost use Rattle.vortex_logical.specs.Decimals.{within_digits};
 ghost use Rattle.vortex_sql_rows.specs.AnsweredRows.{AnswersRow};
@@ -40,19 +40,40 @@ fn multiplied(digits: u64, by: u64) -> Option<u64>
     digits.checked_mul(power_of(by as u32))
 }
 
-/// How many units of that scale the decimal has, if that has no more than 18 digits.
+/// How many units of that scale the decimal has, where all its digits are before that.
+#[tactic(auto, using(crate::proofs::ScaledNumbers::no_product))]
+fn scaled_up(scale: u32, first: FirstDigits) -> Option<u64>
+    ensures { MatchOption result
+        (1000000000000000000 ≤ first.digits * 10 ^ (first.power + scale - 400))
+        (λ n. n ≡ first.digits * 10 ^ (first.power + scale - 400)) }
+{
+    if first.power <= 1000 {
+        let power = first.power + scale as u64;
+        return multiplied(first.digits, power.saturating_sub(400));
+    }
+    if first.digits == 0 { Some(0) } else { None }
+}
+
+fn units_or(scale: u32, first: FirstDigits, placed: Option<u64>) -> Option<u64>
+    ensures { MatchOption result (1000000000000000000 ≤ specs.units_or scale first placed)
+        (λ n. n ≡ specs.units_or scale first placed) }
+{
+    match placed {
+        Some(units) => Some(units),
+        None => scaled_up(scale, first),
+    }
+}
+
+/// How many units of that scale the decimal has, if it has no more than 18 digits there.
 fn units_at(scale: u32, first: FirstDigits) -> Option<u64>
     ensures { MatchOption result (1000000000000000000 ≤ specs.units_at scale first)
         (λ n. n ≡ specs.units_at scale first) }
 {
-    let scale = scale as u64;
-    match at_place(PlaceRounding::Half, scale, first) {
-        Some(units) => Some(units),
-        None => multiplied(
-            first.digits,
-            first.power.saturating_add(scale).saturating_sub(400),
-        ),
-    }
+    units_or(
+        scale,
+        first,
+        at_place(PlaceRounding::Half, scale as u64, first),
+    )
 }
 
 /// The integer of that size, with the sign of the number, if a decimal has it.
