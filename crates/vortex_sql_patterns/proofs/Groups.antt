@@ -10,7 +10,7 @@ use Rattle.regex.specs.Strings.{captures_haystack, captures_span, match_span, Is
 use Rattle.regex.specs.Writes.{group_of}
 use Rattle.regex.specs.declared.string.captures.Captures.{Captures}
 use Rattle.vortex_sql_patterns.specs.Items.{captured}
-use Rattle.vortex_sql_patterns.specs.PatternFunctions.{group_span}
+use Rattle.vortex_sql_patterns.specs.PatternFunctions.{spanned}
 use Rattle.vortex_sql_patterns.specs.Replacing.{group_in, seen}
 use Rattle.vortex_sql_patterns.specs.Wanted.{span_by}
 
@@ -39,6 +39,6 @@ pub whole_span : (bs : List ℕ) (m : Match) (c : Captures) → IsCapturesOf bs 
 whole_span bs m c h = span_of bs m c h 0
 
 pub span_by_is : (bs : List ℕ) (m : Match) (c : Captures) → IsCapturesOf bs m c → (n : ℤ)
-    → span_by n c ≡ group_span n m
+    → span_by n c ≡ spanned n m
 span_by_is bs m c h (pos n) = span_of bs m c h n
 span_by_is bs m c h (negsuc n) = refl

@@ -22,7 +22,7 @@ use Rattle.vortex_types.specs.Values.{truth}
 use Rattle.vortex_interface.specs.Outcomes.{gives}
 use Rattle.vortex_sql_patterns.specs.Patterns.{groups_in, groups_read, pattern_in, shallow, IsPatternOf}
 use Rattle.vortex_sql_patterns.specs.PatternFunctions.{answered, asked, counted, group_at, IsReadBy}
-use Rattle.vortex_sql_patterns.specs.PatternFunctions.{count_in, group_span, part, place, read_by}
+use Rattle.vortex_sql_patterns.specs.PatternFunctions.{count_in, spanned, part, place, read_by}
 use Rattle.vortex_sql_patterns.specs.Replacing.{Found, seen}
 use Rattle.vortex_sql_patterns.proofs.Alike.{found_as}
 use Rattle.vortex_sql_patterns.specs.declared.functions.PatternFunction.{PatternFunction}
@@ -77,12 +77,12 @@ no_pattern ps x e is right refusal =
     refused (read default_config (chars ps)) e.kind (subst (IsRightKind default_config ps) is right)
     (refusal e is)
 
-seen_span : ℤ → Found → Option (ℕ × ℕ)
+abbrev seen_span : ℤ → Found → Option (ℕ × ℕ)
 seen_span (pos n) f = if n == 0 then Some (f.start, f.end) else f.group n
 seen_span (negsuc n) f = None
 
 through : (n : ℤ) (o : Option Match)
-    → option_and_then (group_span n) o ≡ option_and_then (seen_span n) (option_map seen o)
+    → option_and_then (spanned n) o ≡ option_and_then (seen_span n) (option_map seen o)
 through n None = refl
 through (pos n) (Some m) = refl
 through (negsuc n) (Some m) = refl

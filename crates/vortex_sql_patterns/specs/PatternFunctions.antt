@@ -39,13 +39,13 @@ part bs (Some s) = text_or_fault (slice_range bs s.0 s.1)
 
 -- what a group spans, where group 0 is the match; none where it took no part, and where there is no
 -- such group
-abbrev pub group_span : ℤ → Match → Option (ℕ × ℕ)
-group_span (pos n) m = if n == 0 then Some (span m) else group_of m n
-group_span (negsuc n) m = None
+abbrev pub spanned : ℤ → Match → Option (ℕ × ℕ)
+spanned (pos n) m = if n == 0 then Some (span m) else group_of m n
+spanned (negsuc n) m = None
 
 -- what it spans in the first match
 abbrev pub group_at : ℤ → Re → List ℕ → Option (ℕ × ℕ)
-group_at n re bs = option_and_then (group_span n) (find_str re bs 0)
+group_at n re bs = option_and_then (spanned n) (find_str re bs 0)
 
 -- the first of so many groups, or group 0 where there is no other
 abbrev pub first_of : ℕ → ℤ

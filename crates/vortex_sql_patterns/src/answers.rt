@@ -53,7 +53,7 @@ fn group_in<'h>(groups: &Captures<'_, 'h>, number: i128) -> Option<Match<'h>>
 /// The part of a text that was found; null where none was.
 fn found_part<'a>(text: &'a str, found: Option<Match<'a>>) -> VortexResult<Cell<'a>>
     requires { IfSome found (λ m. match_haystack m ≡ text.now) }
-    ensures { AnswersRow (part text.now (option_map match_span found)) result }
+    ensures { AnswersRow (part text.now (option_map match_span found.entry)) result }
 {
     let Some(found) = found else {
         return Ok(Cell::Null);
