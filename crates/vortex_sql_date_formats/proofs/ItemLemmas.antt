@@ -2,9 +2,10 @@
 use Rattle.std.proofs.Common.{◌≡◌, ◌∙◌, ◌∷◌, ◌-◌, ◌<◌, ◌≤◌, ◌==◌, ℕ, zero, suc, [], List, Bool, true, false, Some, None, ap, arith, cond, drop, get_or, length, refl, sym, take}
 use Rattle.std.specs.Prelude.{not}
 use Rattle.std.proofs.lemmas.List.{take_rest}
-use Rattle.vortex_sql_date_formats.specs.declared.formats.FormatItem.{FormatItem}
-use Rattle.vortex_sql_date_formats.specs.declared.formats.FormatItem.TheVariants as item
-use Rattle.vortex_sql_date_formats.specs.Formats.{begins_quote, first_item, items_after, items_bound, items_from, items_of, literal, quoted, word}
+use Rattle.vortex_sql_date_formats.specs.declared.items.FormatItem.{FormatItem}
+use Rattle.vortex_sql_date_formats.specs.declared.items.FormatItem.TheVariants as item
+use Rattle.vortex_sql_date_formats.specs.FormatWords.{word}
+use Rattle.vortex_sql_date_formats.specs.Formats.{begins_quote, first_item, items_after, items_bound, items_from, items_of, literal, quoted}
 
 -- what is passed over might as well not be there
 items_passed : (k : ℕ) (bs : List ℕ) → items_after k false bs ≡ items_of (drop k bs)

@@ -10,7 +10,7 @@ use Rattle.jiff_core.proofs.SignedLemmas.{signed_arith}
 use Rattle.jiff_core.specs.declared.civil.date.Date.{Date}
 use Rattle.vortex_logical.specs.DateTexts.{is_civil}
 use Rattle.vortex_sql_date_formats.specs.declared.fields.Fields.{Fields}
-use Rattle.vortex_sql_date_formats.specs.ReadInstants.{clock, day_number, day_of, instant_of, time_of}
+use Rattle.vortex_sql_date_formats.specs.ReadInstants.{clock, day_number, day_of, hour_of, instant_of, time_of}
 
 civil_is : (y m d : ℕ) → (nat_le 1 y && nat_le y 9999) ≡ true → is_civil y m d ≡ true
     → (y ≤ 9999) × (1 ≤ m) × (m ≤ 12) × (1 ≤ d) × (d ≤ days_in_month (pos y) m)
@@ -64,6 +64,12 @@ clock_range h m s u t e =
         omega (arith, same, hours, minutes, seconds, micros)
     by false f g = cc
 
+-- a time is one of a day, whatever its hour is
+time_range : (o : Option ℕ) (m s u t : ℕ) → option_and_then (λ h. clock h m s u) o ≡ Some t
+    → t < 86_400_000_000
+time_range None m s u t e = cc
+time_range (Some h) m s u t e = clock_range h m s u t e
+
 pub field_range : (f : Fields) (i : ℤ × ℕ) → instant_of f ≡ Some i
     → IsEpochDay i.0 × (i.1 < 86_400_000_000)
 field_range f i e = by (day_of f) (time_of f) refl refl e
@@ -75,8 +81,8 @@ field_range f i e = by (day_of f) (time_of f) refl refl e
         let first : z ≡ i.0 = cc in
         let second : n ≡ i.1 = cc in (
           subst IsEpochDay first (day_range (unwrap_or f.year 0) (unwrap_or f.month 1) (unwrap_or f.day 1) z a),
-          subst (λ k. k < 86_400_000_000) second (clock_range (unwrap_or f.hour 0) (unwrap_or f.minute 0) (unwrap_or f.second 0)
-              (unwrap_or f.micros 0) n b),
+          subst (λ k. k < 86_400_000_000) second (time_range (hour_of f.half_hour (unwrap_or f.half 0) (unwrap_or f.hour 0))
+              (unwrap_or f.minute 0) (unwrap_or f.second 0) (unwrap_or f.micros 0) n b),
         )
     by (Some z) None a b h = cc
     by None t a b h = cc

@@ -1,7 +1,10 @@
+pub mod CivilTimes
 pub mod Fields
 pub mod FormatFaults
+pub mod FormatWords
 pub mod Formats
 pub mod InstantRanges
+pub mod Names
 pub mod ReadDigits
 pub mod ReadFormats
 pub mod ReadInstants

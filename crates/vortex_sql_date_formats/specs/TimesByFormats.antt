@@ -1,9 +1,8 @@
 -- Dates and timestamps as the texts that they are by formats, as PostgreSQL's `to_char` has them in
 -- the years 1 to 9999.
 use Rattle.std.specs.Prelude.{◌∷◌, ◌&&◌, ℕ, ℤ, pos, neg_ℤ, [], List, codes}
-use Rattle.std.specs.Prelude.{Bool, true, false, if◌then◌else◌, int_le, refl, unsigned_abs}
+use Rattle.std.specs.Prelude.{Bool, true, false, if◌then◌else◌, int_le, refl}
 use Rattle.std.proofs.Common.{cond}
-use Rattle.jiff_core.specs.Calendar.{day_of_year}
 use Rattle.vortex_errors.specs.declared.arity.Arity.TheVariants.{Exact}
 use Rattle.vortex_types.specs.declared.dtype.PType.TheVariants.{I32, I64}
 use Rattle.vortex_types.specs.LogicalTypes.{text_type}
@@ -21,22 +20,11 @@ use Rattle.vortex_sql_rows.specs.Shapes.{both_fit, number_in, strict_lawful, str
 use Rattle.vortex_sql_rows.specs.Shapes.{with_both}
 use Rattle.vortex_sql_rows.specs.Types.{is_in}
 use Rattle.vortex_sql_texts.specs.MadeTexts.{made_fits, text_or_fault}
-use Rattle.vortex_sql_dates.specs.CountedDays.{cycle_date, year_of}
 use Rattle.vortex_sql_dates.specs.Instants.{day_of, time_of}
-use Rattle.vortex_sql_date_formats.specs.declared.written.CivilTime.{CivilTime}
+use Rattle.vortex_sql_date_formats.specs.CivilTimes.{civil_time}
 use Rattle.vortex_sql_date_formats.specs.FormatFaults.{unknown_format}
 use Rattle.vortex_sql_date_formats.specs.Formats.{items_of}
 use Rattle.vortex_sql_date_formats.specs.WrittenFormats.{format_text, is_writable}
-
--- the day with that number, and a time of that day
-abbrev pub civil_time : ℤ → ℕ → CivilTime
-civil_time z t = record {
-  year = unsigned_abs (year_of z);
-  month = (cycle_date z).month;
-  day = (cycle_date z).day;
-  ordinal = day_of_year (year_of z) (cycle_date z).month (cycle_date z).day;
-  time = t;
-}
 
 -- from 0001-01-01 to 9999-12-31
 unfoldable pub known_text : List ℕ → RowFault → ℤ → ℕ → Outcome

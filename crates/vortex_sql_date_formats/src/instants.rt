@@ -60,6 +60,41 @@ fn clock(hour: u32, minute: u32, second: u32, micros: u32) -> Option<u64>
     }
 }
 
+/// The hour of the day, of an hour from 1 to 12 and a half: 12 is the first of its half.
+fn day_hour(hour: u32, half: u32) -> Option<u32>
+    ensures { result ≡ specs.day_hour hour half }
+{
+    if 1 <= hour && hour <= 12 {
+        Some(hour % 12 + if half == 0 { 0 } else { 12 })
+    } else {
+        None
+    }
+}
+
+/// The hour of the day, by its half if the hour is one of that.
+fn hour_of(half_hour: Option<u32>, half: u32, hour: u32) -> Option<u32>
+    ensures { result ≡ specs.hour_of half_hour half hour }
+{
+    match half_hour {
+        Some(number) => day_hour(number, half),
+        None => Some(hour),
+    }
+}
+
+/// The microseconds since midnight, if a day has the time.
+fn time_of(fields: Fields) -> Option<u64>
+    ensures { result ≡ specs.time_of fields }
+{
+    let half = fields.half.unwrap_or(0);
+    let hour = hour_of(fields.half_hour, half, fields.hour.unwrap_or(0))?;
+    clock(
+        hour,
+        fields.minute.unwrap_or(0),
+        fields.second.unwrap_or(0),
+        fields.micros.unwrap_or(0),
+    )
+}
+
 /// The day and the time of that day, where both are: the first of the year, of the month, of the
 /// day, .. for what is not read.
 pub(crate) fn instant_of(fields: Fields) -> Option<(i32, u64)>
@@ -70,11 +105,6 @@ pub(crate) fn instant_of(fields: Fields) -> Option<(i32, u64)>
         fields.month.unwrap_or(1),
         fields.day.unwrap_or(1),
     )?;
-    let time = clock(
-        fields.hour.unwrap_or(0),
-        fields.minute.unwrap_or(0),
-        fields.second.unwrap_or(0),
-        fields.micros.unwrap_or(0),
-    )?;
+    let time = time_of(fields)?;
     Some((day, time))
 }

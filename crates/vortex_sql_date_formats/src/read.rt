@@ -7,21 +7,19 @@ ghost use Rattle.vortex_sql_date_formats.specs.ReadFormats as specs;
 
 use crate::digits::{fraction_of, number_of};
 use crate::fields::{Fields, filled, no_fields};
-use crate::formats::{FormatItem, next_item};
+use crate::formats::next_item;
+use crate::items::{FormatItem, FormatPart};
+use crate::names::month_name;
 
 /// Whether an item is a number, or a digit that stands for itself.
 fn is_number(item: FormatItem) -> bool
     ensures { result ≡ specs.is_number item }
 {
     match item {
+        FormatItem::Part(_) => true,
+        FormatItem::BarePart(_) => true,
         FormatItem::Literal(byte) => byte.is_ascii_digit(),
-        _ => !matches!(
-            item,
-            FormatItem::MonthName
-                | FormatItem::UpperMonthName
-                | FormatItem::LowerMonthName
-                | FormatItem::Unknown
-        ),
+        _ => false,
     }
 }
 
@@ -117,6 +115,53 @@ fn named_month(text: &[u8]) -> Option<(u32, &[u8])>
     }
 }
 
+/// The text after letters that it has to begin with, of any case.
+fn after_letters<'a>(letters: &[u8], text: &'a [u8]) -> Option<&'a [u8]>
+    ensures { option_map (λ t. t.now) result ≡ specs.after_letters letters.now text.now }
+{
+    match letters {
+        [] => Some(text),
+        [letter, more @ ..] => match text {
+            [byte, rest @ ..] if byte.eq_ignore_ascii_case(letter) => after_letters(more, rest),
+            _ => None,
+        },
+    }
+}
+
+/// The month whose whole name a text begins with, of any case, and the text after it.
+fn whole_month(text: &[u8]) -> Option<(u32, &[u8])>
+    ensures { option_map (λ p. (p.0, p.1.now)) result ≡ specs.whole_month text.now }
+{
+    let (month, rest) = named_month(text)?;
+    let unread = after_letters(&month_name(month).as_bytes()[3..], rest)?;
+    Some((month, unread))
+}
+
+/// The half of the day whose first letter this is, of any case.
+fn half_of(letter: u8) -> Option<u32>
+    ensures { result ≡ specs.half_of letter }
+{
+    if letter.eq_ignore_ascii_case(&b'a') {
+        Some(0)
+    } else if letter.eq_ignore_ascii_case(&b'p') {
+        Some(1)
+    } else {
+        None
+    }
+}
+
+/// The half of the day that a text begins with, and the text after it.
+fn half_day(text: &[u8]) -> Option<(u32, &[u8])>
+    ensures { option_map (λ p. (p.0, p.1.now)) result ≡ specs.half_day text.now }
+{
+    match text {
+        [first, second, rest @ ..] if second.eq_ignore_ascii_case(&b'm') => {
+            Some((half_of(*first)?, rest))
+        }
+        _ => None,
+    }
+}
+
 /// The year nearest to 2020 with these last two digits, the earlier one of two.
 fn near_year(digits: u32) -> u32
     requires { digits ≤ 1000000 }
@@ -137,28 +182,39 @@ fn short_year(text: &[u8]) -> Option<(u32, &[u8])>
     Some((near_year(digits), rest))
 }
 
-/// The number that a text has for an item, and the text after it.
+/// The number that a text has for a part, and the text after it.
+fn read_part(part: FormatPart, is_full: bool, text: &[u8]) -> Option<(u32, &[u8])>
+    ensures { option_map (λ p. (p.0, p.1.now)) result
+        ≡ specs.read_part part is_full text.now }
+{
+    match part {
+        FormatPart::Year => number_of(4, 4, text),
+        FormatPart::ShortYear => short_year(text),
+        FormatPart::Month => number_of(least(is_full, 2), 2, text),
+        FormatPart::Day => number_of(least(is_full, 2), 2, text),
+        FormatPart::Hour => number_of(least(is_full, 2), 2, text),
+        FormatPart::HalfDayHour => number_of(least(is_full, 2), 2, text),
+        FormatPart::Minute => number_of(least(is_full, 2), 2, text),
+        FormatPart::Second => number_of(least(is_full, 2), 2, text),
+        FormatPart::Millisecond => fraction_of(least(is_full, 3), 3, 1000, text),
+        FormatPart::Microsecond => fraction_of(least(is_full, 6), 6, 1, text),
+        _ => None,
+    }
+}
+
+/// The same for an item.
 fn item_number(item: FormatItem, is_full: bool, text: &[u8]) -> Option<(u32, &[u8])>
     ensures { option_map (λ p. (p.0, p.1.now)) result
         ≡ specs.item_number item is_full text.now }
 {
     match item {
-        FormatItem::Year => number_of(4, 4, text),
-        FormatItem::ShortYear => short_year(text),
-        FormatItem::Month => number_of(least(is_full, 2), 2, text),
-        FormatItem::Day => number_of(least(is_full, 2), 2, text),
-        FormatItem::Hour => number_of(least(is_full, 2), 2, text),
-        FormatItem::Minute => number_of(least(is_full, 2), 2, text),
-        FormatItem::Second => number_of(least(is_full, 2), 2, text),
-        FormatItem::Millisecond => fraction_of(least(is_full, 3), 3, 1000, text),
-        FormatItem::Microsecond => fraction_of(least(is_full, 6), 6, 1, text),
+        FormatItem::Part(part) => read_part(part, is_full, text),
+        FormatItem::Month(_) => whole_month(text),
+        FormatItem::BareMonth(_) => whole_month(text),
+        FormatItem::ShortMonth(_) => named_month(text),
+        FormatItem::HalfDay(_) => half_day(text),
         FormatItem::Literal(byte) => after_byte(byte, text),
-        FormatItem::MonthName => named_month(text),
-        FormatItem::UpperMonthName => named_month(text),
-        FormatItem::LowerMonthName => named_month(text),
-        FormatItem::DayOfYear => None,
-        FormatItem::Quarter => None,
-        FormatItem::Unknown => None,
+        _ => None,
     }
 }
 

@@ -79,14 +79,82 @@ fn timestamps_have_these_texts(rt: HostRuntime) {
 }
 
 #[test]
+fn names_and_numbers_have_these_texts(rt: HostRuntime) {
+    let rows: [(i128, &str, &str); 22] = [
+        (
+            19782,
+            "Month|MONTH|month|",
+            "February |FEBRUARY |february |",
+        ),
+        (
+            19782,
+            "FMMonth|fmMONTH|FMmonth|FMMon",
+            "February|FEBRUARY|february|Feb",
+        ),
+        (-1, "Month;Month DD", "December ;December  31"),
+        (12314, "DD Month YYYY", "19 September 2003"),
+        (19782, "Day|DAY|day|", "Thursday |THURSDAY |thursday |"),
+        (19782, "FMDay|fmDAY|FMday", "Thursday|THURSDAY|thursday"),
+        (19782, "Dy DY dy FMDy", "Thu THU thu Thu"),
+        (-719162, "FMDay, Dy", "Monday, Mon"),
+        (19783, "DyDayDDDDDD", "FriFriday   061061"),
+        (19784, "Dy Day", "Sat Saturday "),
+        (19785, "FMDay Dy", "Sunday Sun"),
+        (19787, "Dy", "Tue"),
+        (19788, "Dy day", "Wed wednesday"),
+        (12314, "FMDD/FMMM/FMYYYY", "19/9/2003"),
+        (-719162, "FMDD FMMM FMYYYY FMDDD FMYY FMQ", "1 1 1 1 1 1"),
+        (19782, "IYYY-\"W\"IW-ID D", "2024-W09-4 5"),
+        (12053, "IYYY-\"W\"IW-ID D", "2003-W01-3 4"),
+        (-719162, "IYYY FMIYYY IW FMIW ID D", "0001 1 01 1 1 2"),
+        (2932896, "IYYY IW ID D", "9999 52 5 6"),
+        (19723, "iyyyiwidd", "20240112"),
+        (19722, "IYYY IW ID D YYYY", "2023 52 7 1 2023"),
+        (19782, "IYYYYYYY", "20242024"),
+    ];
+    for (day, format, text) in rows {
+        let cells = [Cell::Int(day), Cell::Text(format)];
+        assert!(rt; is_text(DateToChar.make(rt.alloc(), PType::I32, &cells), text));
+    }
+}
+
+#[test]
+fn halves_of_days_have_these_texts(rt: HostRuntime) {
+    let rows: [(i128, &str, &str); 8] = [
+        (1709210096789012, "HH:MI AM", "12:34 PM"),
+        (1709210096789012, "HH12 pm hh12 PM am", "12 pm 12 PM pm"),
+        (0, "HH AM HH12 HH24", "12 AM 12 00"),
+        (-1, "FMHH:MI PM", "11:59 PM"),
+        (
+            1709168523040000,
+            "FMHH12:FMMI:FMSS FMHH24 FMMS FMUS am",
+            "1:2:3 1 040 040000 am",
+        ),
+        (43199999999, "HH am", "11 am"),
+        (43200000000, "HH am", "12 pm"),
+        (46800000000, "HH12HHHH24 PM", "010113 PM"),
+    ];
+    for (micros, format, text) in rows {
+        let cells = [Cell::Int(micros), Cell::Text(format)];
+        assert!(rt; is_text(TimestampToChar.make(rt.alloc(), PType::I64, &cells), text));
+    }
+}
+
+#[test]
 fn formats_that_are_not_taken_are_faults(rt: HostRuntime) {
-    let formats: [&str; 11] = [
+    let formats: [&str; 17] = [
         "",
         "YYY",
         "Yyyy",
         "SSSS",
-        "Month",
-        "FMDD",
+        "MOnth",
+        "Dday",
+        "FM",
+        "FM-DD",
+        "FMFMDD",
+        "FmDD",
+        "IDDD",
+        "Am",
         "DDth",
         "YYYY \"at",
         "YYYY \"",
@@ -97,7 +165,7 @@ fn formats_that_are_not_taken_are_faults(rt: HostRuntime) {
         let cells = [Cell::Int(0), Cell::Text(format)];
         assert!(rt; DateToChar.make(rt.alloc(), PType::I32, &cells).is_err());
     }
-    let readings: [&str; 8] = [
+    let readings: [&str; 19] = [
         "YYYY YY",
         "DD/MM",
         "YYYY DDD",
@@ -105,7 +173,18 @@ fn formats_that_are_not_taken_are_faults(rt: HostRuntime) {
         "YYYY MM Mon",
         "YYYY-MM-DD YYYY",
         "YYYY MS US",
-        "YYYY HH12",
+        "YYYY AM",
+        "YYYY HH24 AM",
+        "YYYY HH24 HH12",
+        "YYYY HH12 HH AM",
+        "YYYY HH12 AM PM",
+        "YYYY Month MM",
+        "YYYY Day",
+        "YYYY Dy",
+        "YYYY FMDD",
+        "YYYY FMMS",
+        "IYYY",
+        "YYYY ID",
     ];
     for format in readings {
         let cells = [Cell::Text("2024"), Cell::Text(format)];
@@ -116,7 +195,12 @@ fn formats_that_are_not_taken_are_faults(rt: HostRuntime) {
 
 #[test]
 fn texts_are_dates(rt: HostRuntime) {
-    let rows: [(&str, &str, i128); 16] = [
+    let rows: [(&str, &str, i128); 21] = [
+        ("1 March 2024", "DD Month YYYY", 19783),
+        ("29FEBRUARY2024", "DDMONTHYYYY", 19782),
+        ("may 5, 1969", "FMMonth DD, YYYY", -241),
+        ("September-2003", "month-YYYY", 12296),
+        ("2024 12 AM", "YYYY HH12 AM", 19723),
         ("19-Sep-03", "DD-Mon-YY", 12314),
         ("690101", "YYMMDD", 36160),
         ("12/31/70", "MM/DD/YY", 364),
@@ -142,7 +226,26 @@ fn texts_are_dates(rt: HostRuntime) {
 
 #[test]
 fn texts_are_timestamps(rt: HostRuntime) {
-    let rows: [(&str, &str, i128); 6] = [
+    let rows: [(&str, &str, i128); 13] = [
+        (
+            "2024-02-29 12:34 PM",
+            "YYYY-MM-DD HH12:MI AM",
+            1709210040000000,
+        ),
+        (
+            "2024-02-29 12:34 am",
+            "YYYY-MM-DD HH:MI PM",
+            1709166840000000,
+        ),
+        ("2024-02-29 1:02pM", "YYYY-MM-DD HH:MIam", 1709211720000000),
+        ("2024-02-29 11 AM", "YYYY-MM-DD HH12 pm", 1709204400000000),
+        ("2024-02-29 12", "YYYY-MM-DD HH12", 1709164800000000),
+        ("2024-02-29 07", "YYYY-MM-DD HH", 1709190000000000),
+        (
+            "PM 03 December 31 1969",
+            "AM HH12 Month DD YYYY",
+            -32400000000,
+        ),
         (
             "2024-02-29T12:34:56Z",
             "YYYY-MM-DD\"T\"HH24:MI:SS\"Z\"",
@@ -175,7 +278,16 @@ fn texts_are_timestamps(rt: HostRuntime) {
 
 #[test]
 fn other_texts_are_faults(rt: HostRuntime) {
-    let rows: [(&str, &str); 16] = [
+    let rows: [(&str, &str); 25] = [
+        ("2024 13 AM", "YYYY HH12 AM"),
+        ("2024 0 PM", "YYYY HH12 AM"),
+        ("2024 13", "YYYY HH12"),
+        ("2024 00", "YYYY HH"),
+        ("2024 12 XM", "YYYY HH12 AM"),
+        ("2024 12 A", "YYYY HH12 AM"),
+        ("Mar 2024", "Month YYYY"),
+        ("Marcx 2024", "Month YYYY"),
+        ("March 2024", "Mon YYYY"),
         ("3-01-01", "YY-MM-DD"),
         ("2003-01-01", "YY-MM-DD"),
         ("2024 P1", "YYYY \"Q1\""),

@@ -1,5 +1,5 @@
 //! Dates and timestamps as the texts that they are by formats.
-ghost use Rattle.std.specs.Prelude.{◌≡◌, ◌<◌, ◌≤ℤ◌, IsUtf8, MatchOption, neg_ℤ, pos, string_bytes};
+ghost use Rattle.std.specs.Prelude.{◌≡◌, IsUtf8, MatchOption, string_bytes};
 ghost use Rattle.vortex_columns.specs.Cells.{cell_value};
 ghost use Rattle.vortex_interface.specs.Outcomes.{custom, faults};
 ghost use Rattle.vortex_types.specs.declared.dtype.PType.TheVariants.{I32, I64};
@@ -12,9 +12,9 @@ ghost use Rattle.vortex_sql_dates.specs.Instants as instants;
 ghost use Rattle.vortex_sql_date_formats.specs.FormatFaults.{unknown_format};
 ghost use Rattle.vortex_sql_date_formats.specs.TimesByFormats as specs;
 
+use crate::civil::civil_time;
 use crate::faults::UNKNOWN_FORMAT;
-use crate::written::{CivilTime, is_writable, push_format};
-use jiff_core::civil::Date;
+use crate::written::{is_writable, push_format};
 use std::alloc::Global;
 use vortex_columns::{Cell, PType, VortexError, VortexResult};
 use vortex_sql_rows::cells::{int_in, text_in};
@@ -65,21 +65,6 @@ fn bytes_or_fault(bytes: Vec<u8>) -> VortexResult<Option<String>>
     match utf8_text(bytes) {
         Some(text) => text_or_fault(text),
         None => no_text(RowFault::TextTooLong),
-    }
-}
-
-/// The day of the calendar with that number, and a time of that day.
-fn civil_time(day: i64, time: u64) -> CivilTime
-    requires { (neg_ℤ (pos 719162) ≤ℤ day) × (day ≤ℤ pos 2932896) }
-    ensures { result ≡ specs.civil_time day time }
-{
-    let date = Date::from_days_since_min((day + 4_371_587) as u32);
-    CivilTime {
-        year: date.year.unsigned_abs(),
-        month: date.month,
-        day: date.day,
-        ordinal: date.day_of_year(),
-        time,
     }
 }
 
