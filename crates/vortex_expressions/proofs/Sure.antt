@@ -89,7 +89,7 @@ use Rattle.vortex_syntax.specs.declared.step.BetweenKind.{BetweenKind}
 use Rattle.vortex_types.specs.TypeEquality.{alike_types}
 use Rattle.vortex_expressions.specs.Binding.{with_item, item_by, item_of, items_by, branches_by}
 use Rattle.vortex_expressions.specs.Binding.{tree_of, logical_of, ended, LogicalTree}
-use Rattle.vortex_logical.specs.declared.kind.Kind.TheVariants.{Plain, F64}
+use Rattle.vortex_logical.specs.declared.kind.Kind.TheVariants.{Plain, Date, F64}
 use Rattle.vortex_syntax.specs.Postfix.{has_operand, test_of}
 use Rattle.vortex_expressions.specs.Literals as literals
 use Rattle.vortex_expressions.specs.Answers.{name_of, written_name, answer_of, answers_of}

@@ -34,6 +34,7 @@ use Rattle.vortex_expressions.specs.Items.{Item, bound, kinded, fraction, interv
 use Rattle.vortex_expressions.specs.Kinded.{is_kinded, is_interval, first_kind, value_item}
 use Rattle.vortex_expressions.specs.Kinded.{kinded_operator, within_bounds, span_operand}
 use Rattle.vortex_expressions.specs.KindWords.{kind_word}
+use Rattle.vortex_expressions.specs.Functions.{meant_by}
 use Rattle.vortex_expressions.specs.Calls.{Names, names_in, negated_if, negated_item, conditions_of}
 use Rattle.vortex_expressions.specs.Binding.{LogicalTree, item_by, items_by, branches_by, with_item}
 use Rattle.vortex_expressions.specs.Binding.{ended, logical_of}
