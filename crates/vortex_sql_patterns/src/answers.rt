@@ -9,7 +9,7 @@ ghost use Rattle.vortex_sql_patterns.specs.Wanted.{answer_for, function_of, span
 
 use crate::functions::PatternFunction;
 use crate::searches::{count_matches, place};
-use crate::wanted::Wanted;
+use crate::wanted::{GroupNumber, Wanted};
 use regex::{Captures, Match, Matcher};
 use vortex_columns::{Cell, PType, VortexError, VortexResult};
 use vortex_sql_rows::cells::int_or_fault;
@@ -40,14 +40,14 @@ fn part<'a>(matcher: &mut Matcher<'_>, text: &'a str) -> VortexResult<Cell<'a>>
 }
 
 /// What a group takes, where group 0 is the match.
-fn group_in<'h>(groups: &Captures<'_, 'h>, number: i128) -> Option<Match<'h>>
+fn group_in<'h>(groups: &Captures<'_, 'h>, group: GroupNumber) -> Option<Match<'h>>
     ensures within { IfSome result (λ m. match_haystack m ≡ captures_haystack groups.now) }
-    ensures found { option_map match_span result ≡ span_by number groups.now }
+    ensures found { option_map match_span result ≡ span_by group.number groups.now }
 {
-    if number < 0 || number >= groups.len() as i128 {
+    if group.number < 0 || group.number >= groups.len() as i128 {
         return None;
     }
-    groups.get(number as usize)
+    groups.get(group.number as usize)
 }
 
 /// The part of a text that was found; null where none was.
@@ -62,15 +62,19 @@ fn found_part<'a>(text: &'a str, found: Option<Match<'a>>) -> VortexResult<Cell<
 }
 
 /// What a group takes in the first match; null where it takes no part.
-fn group_part<'a>(matcher: &mut Matcher<'_>, text: &'a str, number: i128) -> VortexResult<Cell<'a>>
+fn group_part<'a>(
+    matcher: &mut Matcher<'_>,
+    text: &'a str,
+    group: GroupNumber,
+) -> VortexResult<Cell<'a>>
     ensures same { matcher_pattern matcher.new ≡ matcher_pattern matcher.old }
     ensures value { AnswersRow (part text.now
-        (group_at number (matcher_pattern matcher.old) text.now)) result }
+        (group_at group.number (matcher_pattern matcher.old) text.now)) result }
 {
     let Some(groups) = matcher.captures(text) else {
         return Ok(Cell::Null);
     };
-    found_part(text, group_in(&groups, number))
+    found_part(text, group_in(&groups, group))
 }
 
 /// What is asked of a text, by the pattern as it was compiled, and by the number of a group.
@@ -78,10 +82,10 @@ fn asked<'a>(
     function: PatternFunction,
     matcher: &mut Matcher<'_>,
     text: &'a str,
-    number: i128,
+    group: GroupNumber,
 ) -> VortexResult<Cell<'a>>
     ensures same { matcher_pattern matcher.new ≡ matcher_pattern matcher.old }
-    ensures value { AnswersRow (asked function number text.now (matcher_pattern matcher.old))
+    ensures value { AnswersRow (asked function group.number text.now (matcher_pattern matcher.old))
         result }
 {
     let count = match function {
@@ -92,7 +96,7 @@ fn asked<'a>(
             return Ok(Cell::Bool(!matcher.is_match(text)));
         }
         PatternFunction::Substr => return part(matcher, text),
-        PatternFunction::Part => return group_part(matcher, text, number),
+        PatternFunction::Part => return group_part(matcher, text, group),
         PatternFunction::Instr => place(matcher, text),
         PatternFunction::Count => count_matches(matcher, text) as i128,
     };
@@ -103,15 +107,15 @@ fn asked<'a>(
 /// of the row.
 pub(crate) fn answer<'a>(
     wanted: Wanted,
-    first: i128,
+    first: GroupNumber,
     matcher: &mut Matcher<'_>,
     text: &'a str,
-    number: i128,
+    number: GroupNumber,
 ) -> VortexResult<Cell<'a>>
     ensures same { matcher_pattern matcher.new ≡ matcher_pattern matcher.old }
     ensures value { (ps : List ℕ) → IsReadBy (function_of wanted) ps (matcher_pattern matcher.old)
-        → first ≡ first_group (function_of wanted) ps
-        → AnswersRow (answer_for wanted text.now ps number) result }
+        → first.number ≡ first_group (function_of wanted) ps
+        → AnswersRow (answer_for wanted text.now ps number.number) result }
 {
     match wanted {
         Wanted::Function(function) => asked(function, matcher, text, first),

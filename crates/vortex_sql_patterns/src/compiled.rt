@@ -10,7 +10,7 @@ ghost use Rattle.vortex_sql_patterns.specs.PatternFunctions.{first_of, in_any_ca
 ghost use Rattle.vortex_sql_patterns.specs.Wanted.{function_of};
 
 use crate::functions::PatternFunction;
-use crate::wanted::Wanted;
+use crate::wanted::{GroupNumber, Wanted};
 use regex::{Error, Regex};
 use std::alloc::Global;
 use vortex_columns::{VortexError, VortexResult};
@@ -76,8 +76,10 @@ pub(crate) fn compile_for(alloc: Global, wanted: Wanted, pattern: &str) -> Vorte
 }
 
 /// The first group of a pattern, or group 0, which is the match, where it has no other.
-pub(crate) fn first_group(regex: &Regex) -> i128
-    ensures { result ≡ first_of (length (regex_names regex.now)) }
+pub(crate) fn first_group(regex: &Regex) -> GroupNumber
+    ensures { result.number ≡ first_of (length (regex_names regex.now)) }
 {
-    if regex.captures_len() > 1 { 1 } else { 0 }
+    GroupNumber {
+        number: if regex.captures_len() > 1 { 1 } else { 0 },
+    }
 }

@@ -11,7 +11,7 @@ ghost use Rattle.vortex_sql_patterns.specs.Wanted.{function_of, wanted_in, wante
 
 use crate::answers::answer;
 use crate::compiled::{compile_for, first_group};
-use crate::wanted::{Wanted, wanted_in};
+use crate::wanted::{GroupNumber, Wanted, wanted_in};
 use regex::Matcher;
 use std::alloc::Global;
 use vortex_columns::{Cell, VortexResult};
@@ -21,13 +21,13 @@ use vortex_sql_calls::call::read_cells;
 /// The result of a row by a compiled pattern; none where the row has another pattern.
 fn answer_by<'a>(
     wanted: Wanted,
-    first: i128,
+    first: GroupNumber,
     matcher: &mut Matcher<'_>,
     pattern: &str,
     cells: &[Cell<'a>],
 ) -> Option<VortexResult<Cell<'a>>>
     requires compiled { IsReadBy (function_of wanted) pattern.now (matcher_pattern matcher.old) }
-    requires first { first ≡ first_group (function_of wanted) pattern.now }
+    requires first { first.number ≡ first_group (function_of wanted) pattern.now }
     ensures same { matcher_pattern matcher.new ≡ matcher_pattern matcher.old }
     ensures value { IfSome result
         (AnswersRow (wanted_of wanted (map cell_value cells.now))) }
@@ -48,12 +48,12 @@ fn push_run<'a, A: ExecutionArgs>(
     alloc: Global,
     wanted: Wanted,
     args: &'a A,
-    row: (&'a str, &'a str, i128),
+    row: (&'a str, &'a str, GroupNumber),
     rows: &mut Vec<Cell<'a>>,
 ) -> VortexResult<()>
     requires below { length rows.old.items < A.rows args.now }
     requires next { wanted_in wanted (values_at (A.inputs args.now) (length rows.old.items))
-        ≡ Some (row.0.now, row.1.now, row.2) }
+        ≡ Some (row.0.now, row.1.now, row.2.number) }
     requires answered { AnsweredRows (wanted_of wanted) (A.inputs args.now)
         (length rows.old.items) rows.old.items }
     ensures answered { Answers result

@@ -18,6 +18,12 @@ pub(crate) enum Wanted {
     Group,
 }
 
+/// The number of a group.
+#[derive(Clone, Copy)]
+pub(crate) struct GroupNumber {
+    pub(crate) number: i128,
+}
+
 /// The texts of a row of two cells.
 fn both_texts<'a>(cells: &[Cell<'a>]) -> Option<(&'a str, &'a str)>
     ensures { option_map (λ x. (x.0.now, x.1.now)) result
@@ -38,8 +44,8 @@ fn all_three<'a>(
     text: &Cell<'a>,
     pattern: &Cell<'a>,
     number: &Cell<'_>,
-) -> Option<(&'a str, &'a str, i128)>
-    ensures { option_map (λ x. (x.0.now, x.1.now, x.2)) result
+) -> Option<(&'a str, &'a str, GroupNumber)>
+    ensures { option_map (λ x. (x.0.now, x.1.now, x.2.number)) result
         ≡ all_three (shapes.text_in (cell_value text.now))
         (shapes.text_in (cell_value pattern.now)) (shapes.number_in (cell_value number.now)) }
 {
@@ -52,12 +58,12 @@ fn all_three<'a>(
     let Some(number) = int_in(number) else {
         return None;
     };
-    Some((text, pattern, number))
+    Some((text, pattern, GroupNumber { number }))
 }
 
 /// The texts and the number of a row of three cells.
-fn three_in<'a>(cells: &[Cell<'a>]) -> Option<(&'a str, &'a str, i128)>
-    ensures { option_map (λ x. (x.0.now, x.1.now, x.2)) result
+fn three_in<'a>(cells: &[Cell<'a>]) -> Option<(&'a str, &'a str, GroupNumber)>
+    ensures { option_map (λ x. (x.0.now, x.1.now, x.2.number)) result
         ≡ extract_asks (map cell_value cells.now) }
 {
     match cells {
@@ -70,13 +76,16 @@ fn three_in<'a>(cells: &[Cell<'a>]) -> Option<(&'a str, &'a str, i128)>
 }
 
 /// The text, the pattern and the number of a row, which is 0 where it has none.
-pub(crate) fn wanted_in<'a>(wanted: Wanted, cells: &[Cell<'a>]) -> Option<(&'a str, &'a str, i128)>
-    ensures { option_map (λ x. (x.0.now, x.1.now, x.2)) result
+pub(crate) fn wanted_in<'a>(
+    wanted: Wanted,
+    cells: &[Cell<'a>],
+) -> Option<(&'a str, &'a str, GroupNumber)>
+    ensures { option_map (λ x. (x.0.now, x.1.now, x.2.number)) result
         ≡ wanted_in wanted (map cell_value cells.now) }
 {
     match wanted {
         Wanted::Function(_) => match both_texts(cells) {
-            Some((text, pattern)) => Some((text, pattern, 0)),
+            Some((text, pattern)) => Some((text, pattern, GroupNumber { number: 0 })),
             None => None,
         },
         Wanted::Group => three_in(cells),

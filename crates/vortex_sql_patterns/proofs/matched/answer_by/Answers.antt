@@ -13,7 +13,7 @@ pub returns-then-eq-clause-value : goal.returns-then-eq-clause-value
 returns-then-eq-clause-value c =
     let w = c.args.wanted in
     let bs = c.in-Some.text.now in
-    let n = c.in-Some.number in
+    let n = c.in-Some.number.number in
     let other = c.in-Some.other.now in
     let same = same_bytes c.args.pattern.now other c.eq.result c.eq.ensures c.if-eq.true in
     let row = of_asked w (map cell_value c.args.cells.now) bs other n (sym c.in-Some.ensures)

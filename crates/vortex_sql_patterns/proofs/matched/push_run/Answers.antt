@@ -21,9 +21,9 @@ loop-i-init g c =
     let ps = c.args.row.1.now in
     let compiled : IsReadBy (function_of w) ps (matcher_pattern c.in_ok-matcher.matcher) =
     subst (IsReadBy (function_of w) ps) (sym c.in_ok-matcher.ensures.pattern) c.in_ok-regex.ensures.value in
-    let first : c.first_group-first.result ≡ first_group (function_of w) ps =
+    let first : c.first_group-first.result.number ≡ first_group (function_of w) ps =
     c.first_group-first.ensures ∙ ap first_of c.in_ok-regex.ensures.groups in
-    let row = of_asked w (values_at cs (length before)) bs ps c.args.row.2 c.requires.next
+    let row = of_asked w (values_at cs (length before)) bs ps c.args.row.2.number c.requires.next
     ∙ c.in_ok-made.ensures.value ps compiled first in
     let end : c.len-i.result ≡ length before + 1 =
     omega (arith, c.len-i.ensures, c.in_ok-push.ensures.len, c.args.rows.now.ok.0) in
@@ -46,7 +46,7 @@ returns-in_err-regex-clause-answered g c =
     passed_on made.result _ (IsCallFault (λ ts. wanted_of w) cs n) e made.ensures.0
     made.ensures.1
     (no_pattern_at w cs n (length c.args.rows.now.items) c.args.row.0.now c.args.row.1.now
-    c.args.row.2 e c.requires.below c.requires.next c.in_err-regex.ensures.value)
+    c.args.row.2.number e c.requires.below c.requires.next c.in_err-regex.ensures.value)
 
 pub returns-in_err-made-clause-answered : goal.returns-in_err-made-clause-answered
 returns-in_err-made-clause-answered g c =
@@ -55,9 +55,9 @@ returns-in_err-made-clause-answered g c =
     let n = g.A.ExecutionArgs.rows c.args.args.now in
     let bs = c.args.row.0.now in
     let ps = c.args.row.1.now in
-    let k = c.args.row.2 in
+    let k = c.args.row.2.number in
     let i = length c.args.rows.now.items in
-    let first : c.first_group-first.result ≡ first_group (function_of w) ps =
+    let first : c.first_group-first.result.number ≡ first_group (function_of w) ps =
     c.first_group-first.ensures ∙ ap first_of c.in_ok-regex.ensures.groups in
     let compiled : IsReadBy (function_of w) ps (matcher_pattern c.in_ok-matcher.matcher) =
     subst (IsReadBy (function_of w) ps) (sym c.in_ok-matcher.ensures.pattern) c.in_ok-regex.ensures.value in
@@ -113,3 +113,18 @@ loop-i-preserved g c =
           c.in_ok-push-2.ensures.items
           (ap (wanted_of w) same ∙ subst (AnswersRow row) c.in_ok-cell.was c.in-Some.ensures.value);
     }
+
+pub returns-clause-most : goal.returns-clause-most
+returns-clause-most g c =
+    omega (
+      arith,
+      c.loop-i.invariant.answered.count,
+      c.loop-i-test.false,
+      c.row_count-i-end.ensures,
+      c.loop-i.auto.i,
+      c.loop-i.auto.i-end,
+      c.len-i.ensures,
+      c.in_ok-push.ensures.len,
+      c.args.rows.now.ok.0,
+      c.requires.below,
+    )
