@@ -80,7 +80,7 @@ fn timestamps_have_these_texts(rt: HostRuntime) {
 
 #[test]
 fn names_and_numbers_have_these_texts(rt: HostRuntime) {
-    let rows: [(i128, &str, &str); 22] = [
+    let rows: [(i128, &str, &str); 23] = [
         (
             19782,
             "Month|MONTH|month|",
@@ -97,6 +97,7 @@ fn names_and_numbers_have_these_texts(rt: HostRuntime) {
         (19782, "FMDay|fmDAY|FMday", "Thursday|THURSDAY|thursday"),
         (19782, "Dy DY dy FMDy", "Thu THU thu Thu"),
         (-719162, "FMDay, Dy", "Monday, Mon"),
+        (19782, "Dday|", "5thursday |"),
         (19783, "DyDayDDDDDD", "FriFriday   061061"),
         (19784, "Dy Day", "Sat Saturday "),
         (19785, "FMDay Dy", "Sunday Sun"),
@@ -148,7 +149,7 @@ fn formats_that_are_not_taken_are_faults(rt: HostRuntime) {
         "Yyyy",
         "SSSS",
         "MOnth",
-        "Dday",
+        "DAy",
         "FM",
         "FM-DD",
         "FMFMDD",
