@@ -18,9 +18,11 @@ use Rattle.vortex_sql_rows.specs.Faults.{fault_number}
 use Rattle.vortex_sql_rows.specs.Row.{RefusesRow}
 use Rattle.vortex_sql_rows.specs.Shapes.{both_texts, on_one}
 use Rattle.vortex_sql_patterns.specs.Patterns.{pattern_in}
-use Rattle.vortex_sql_patterns.specs.PatternFunctions.{answered, answer_to, first_group, read_by}
-use Rattle.vortex_sql_patterns.specs.RegexpExtract.{extract}
+use Rattle.vortex_sql_patterns.specs.PatternFunctions.{answered, answer_to, first_group, outcome_of}
+use Rattle.vortex_sql_patterns.specs.PatternFunctions.{read_by}
+use Rattle.vortex_sql_patterns.specs.RegexpExtract.{extract, extract_asks, extract_of}
 use Rattle.vortex_sql_patterns.specs.Wanted.{answer_for, function_of, group_for, wanted_in, wanted_of}
+use Rattle.vortex_sql_patterns.specs.declared.functions.PatternFunction.{PatternFunction}
 use Rattle.vortex_sql_patterns.specs.declared.wanted.Wanted.{Wanted}
 use Rattle.vortex_sql_patterns.specs.declared.wanted.Wanted.TheVariants.{Function, Group}
 

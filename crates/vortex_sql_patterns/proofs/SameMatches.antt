@@ -1,5 +1,5 @@
 -- What a compiled pattern matches.
-use Rattle.std.proofs.Common.{◌≡◌, ◌≢◌, ◌≤◌, ◌<◌, ◌⊎◌, inl, inr, ℕ, ℤ, pos, negsuc, true, List, Option, Some, None}
+use Rattle.std.proofs.Common.{◌≡◌, ◌≢◌, ◌≤◌, ◌<◌, ◌⊎◌, inl, inr, ℕ, zero, suc, ℤ, pos, negsuc, true, List, Option, Some, None}
 use Rattle.std.proofs.Common.{IsSomeAnd, length, get_or, refl, ap, sym, ◌∙◌, cond, subst}
 use Rattle.std.specs.Prelude.{chars, not, option_and_then, option_map, IfSome, ◌==◌, if◌then◌else◌}
 use mathlib.Core.Path.{fun_ext}

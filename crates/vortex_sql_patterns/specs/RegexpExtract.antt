@@ -11,6 +11,7 @@ use Rattle.vortex_sql_rows.specs.declared.types.Nulls.TheVariants.{Always}
 use Rattle.vortex_sql_rows.specs.declared.types.Takes.TheVariants.{Each}
 use Rattle.vortex_sql_rows.specs.Row.{Row, LawfulRow, row_gives}
 use Rattle.vortex_sql_rows.specs.Shapes.{number_in, on_one, text_in}
+use Rattle.vortex_sql_rows.specs.Types.{ptype_in}
 use Rattle.vortex_sql_patterns.specs.Patterns.{pattern_in}
 use Rattle.vortex_sql_patterns.specs.PatternFunctions.{answered, group_typed, may_be_null}
 use Rattle.vortex_sql_patterns.specs.declared.functions.PatternFunction.TheVariants.{Part}

@@ -1,5 +1,5 @@
 -- What the rows of a call ask for: a function of a text and a pattern, or a group of it.
-use Rattle.std.specs.Prelude.{ℕ, ℤ, pos, negsuc, List, Option, None, option_map}
+use Rattle.std.specs.Prelude.{ℕ, ℤ, pos, negsuc, List, Option, Some, None, option_map}
 use Rattle.regex.specs.Strings.{captures_span}
 use Rattle.regex.specs.declared.string.captures.Captures.{Captures}
 use Rattle.vortex_types.specs.Values.{Value}
