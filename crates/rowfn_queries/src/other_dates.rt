@@ -162,26 +162,28 @@ fn item_of(part: Part, form: DateForm, place: usize) -> &'static str {
     }
 }
 
-/// Appends the format of a date.
-fn push_date(out: &mut String, date: &str, form: DateForm) -> Result<(), AllocError> {
-    let mut rest = date.as_bytes();
-    let mut place = 0usize;
-    while let [first, behind @ ..] = rest {
-        if is_separator(*first) {
-            out.push(char::from(*first))?;
-            rest = behind;
+/// Appends the format of a date of these parts.
+fn push_date(
+    out: &mut String,
+    date: &str,
+    parts: &[Part],
+    form: DateForm,
+) -> Result<(), AllocError> {
+    let (mut place, mut is_within) = (0usize, false);
+    for byte in date.bytes() {
+        if is_separator(byte) {
+            out.push(char::from(byte))?;
+            is_within = false;
             continue;
         }
-        let length = rest
-            .iter()
-            .position(|byte| is_separator(*byte))
-            .unwrap_or(rest.len());
-        let (word, behind) = rest.split_at_checked(length).unwrap_or((rest, &[]));
-        if let Some(part) = part_of(word) {
-            out.push_str(item_of(part, form, place))?;
+        if is_within {
+            continue;
+        }
+        is_within = true;
+        if let Some(part) = parts.get(place) {
+            out.push_str(item_of(*part, form, place))?;
         }
         place = place.saturating_add(1);
-        rest = behind;
     }
     Ok(())
 }
@@ -198,7 +200,9 @@ fn reading_of(alloc: Global, name: &str, text: &str, form: DateForm) -> Result<S
     out.push_str("(")?;
     out.push_str(name)?;
     out.push_str(", '")?;
-    push_date(&mut out, date, form)?;
+    if let Some(parts) = parts_of(alloc, date)? {
+        push_date(&mut out, date, &parts, form)?;
+    }
     match time.bytes().filter(|byte| *byte == b':').count() {
         0 => {}
         1 => out.push_str(" HH24:MI")?,

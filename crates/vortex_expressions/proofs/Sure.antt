@@ -59,7 +59,7 @@ use Rattle.vortex_expressions.specs.Functions.{trim_word}
 use Rattle.vortex_syntax.specs.Postfix.{side_of}
 use Rattle.vortex_expressions.specs.Functions.{takes_whole, whole_item, kinds_item, kinded_item}
 use Rattle.vortex_expressions.specs.Functions.{by_pattern, joined_call, joining_item, is_locate, located, format_word, read_by}
-use Rattle.vortex_expressions.specs.Functions.{is_iso, read_text, read_as, form_word, contained}
+use Rattle.vortex_expressions.specs.Functions.{form_word, contained}
 use Rattle.vortex_expressions.specs.Functions.{ended_by, last_day, days_between, formed, formed_item}
 use Rattle.vortex_expressions.specs.declared.written_forms.Form.{Form}
 use Rattle.vortex_expressions.specs.declared.written_forms.Form.TheVariants as form
@@ -100,7 +100,7 @@ use Rattle.vortex_expressions.proofs.SureCalls.{sure_null, sure_called, sure_ite
 use Rattle.vortex_expressions.proofs.SureCalls.{sure_text, sure_quoted, sure_column, sure_named}
 use Rattle.vortex_expressions.proofs.SureKinds.{sure_kinded_joined, sure_kinded_between, sure_stored}
 use Rattle.vortex_expressions.proofs.SureKinds.{Any, sure_met, sure_aligned_arguments, result_is}
-use Rattle.vortex_expressions.proofs.SureKinds.{sure_kind_cast, sure_kind_item, sure_cast_to_kind, sure_numeric_cast}
+use Rattle.vortex_expressions.proofs.SureKinds.{sure_kind_item, sure_cast_to_kind, sure_numeric_cast}
 use Rattle.vortex_expressions.proofs.SureKinds.{sure_stored_cast, sure_fraction_cast}
 use Rattle.vortex_expressions.proofs.SureKinds.{sure_text_literal}
 use Rattle.vortex_expressions.specs.KindCasts.{is_interval_name}
@@ -647,22 +647,11 @@ module _ (columns : Names) (sure_columns : (w : List ℕ) → Sure IsItem (colum
   sure_located (i ∷ j ∷ []) h = sure_item_call standard.StrPos (j ∷ i ∷ []) (h.1.0, (h.0, tt))
   sure_located (i ∷ j ∷ k ∷ is) h = sure_item_call standard.StrPos (i ∷ j ∷ k ∷ is) h
 
-  sure_read_text : (k : Kind) (f : Standard) (is : List Item) → AllItems is
-      → Sure IsItem (read_text k f is)
-  sure_read_text k f is h =
-      sure_then IsTyped IsItem (function_call f is) _ (sure_call_on f is h) (λ t l. l)
-
-  sure_read_as : (k : Kind) (f : Standard) (is : List Item) → AllItems is
-      → Sure IsItem (read_as k f is)
-  sure_read_as k f (kinded j t ∷ literal (literals.text bs) ∷ []) h =
-      sure_if IsItem (is_iso bs) _ _ (sure_kind_cast false k j t h.0)
-      (sure_read_text k f (kinded j t ∷ literal (literals.text bs) ∷ []) h)
-  sure_read_as k f is h = sure_read_text k f is h
-
   sure_read_by : (o : Option (Kind × Standard)) (is : List Item) → AllItems is
       → Sure IsItem (read_by o is)
   sure_read_by None is h = tt
-  sure_read_by (Some x) is h = sure_read_as x.0 x.1 is h
+  sure_read_by (Some x) is h =
+      sure_then IsTyped IsItem (function_call x.1 is) _ (sure_call_on x.1 is h) (λ t k. k)
 
   sure_contained : (is : List Item) → AllItems is → Sure IsItem (contained is)
   sure_contained is h =

@@ -1,7 +1,7 @@
 -- Calls of functions on items. Of values of kinds some functions take those that meet in a kind: each becomes the
 -- integer that stores it in that kind.
 use Rattle.std.specs.Prelude.{ℕ, List, [], ◌∷◌, Bool, true, false, ◌||◌, if◌then◌else◌}
-use Rattle.std.specs.Prelude.{Option, Some, None, codes, length, take, nat_lt}
+use Rattle.std.specs.Prelude.{Option, Some, None, codes}
 use Rattle.vortex_logical.specs.declared.kind.Kind.{Kind}
 use Rattle.vortex_logical.specs.declared.kind.Kind.TheVariants.{Date, Timestamp, Plain}
 use Rattle.vortex_logical.specs.declared.operand.Operand.{Operand}
@@ -28,7 +28,7 @@ use Rattle.vortex_expressions.specs.Applied.{values_of, function_call}
 use Rattle.vortex_expressions.specs.Kinded.{told, first_kind, is_plain, item_operand, value_item}
 use Rattle.vortex_expressions.specs.Kinded.{kinded_joined}
 use Rattle.vortex_expressions.specs.KindWords.{kind_word}
-use Rattle.vortex_expressions.specs.KindCasts.{is_text_type, kind_cast, cast_to_kind}
+use Rattle.vortex_expressions.specs.KindCasts.{is_text_type, cast_to_kind}
 use Rattle.vortex_expressions.specs.Literals.{text, number}
 use Rattle.vortex_interface.specs.Functions.{ours}
 use Rattle.vortex_interface.specs.Shipped.{Binary}
@@ -180,24 +180,9 @@ format_word w =
     else (if same_word w (codes "try_to_timestamp")
     then Some (Timestamp, standard.TryTextToTimestampBy) else None)))
 
--- a format that begins as dates are written
-abbrev pub is_iso : List ℕ → Bool
-is_iso bs =
-    if nat_lt (length bs) 10 then false
-    else same_word (take 10 bs) (codes "YYYY-MM-DD") || same_word (take 10 bs) (codes "YYYY/MM/DD")
-
-abbrev pub read_text : Kind → Standard → List Item → Outcome Item
-read_text k f is = and_then (function_call f is) (λ t. answers (kinded k t))
-
--- a value that was read as its format says is cast
-abbrev pub read_as : Kind → Standard → List Item → Outcome Item
-read_as k f (kinded j t ∷ literal (text bs) ∷ []) =
-    if is_iso bs then kind_cast false k j t else read_text k f (kinded j t ∷ literal (text bs) ∷ [])
-read_as k f is = read_text k f is
-
 abbrev pub read_by : Option (Kind × Standard) → List Item → Outcome Item
 read_by None is = refuses NoFunction
-read_by (Some x) is = read_as x.0 x.1 is
+read_by (Some x) is = and_then (function_call x.1 is) (λ t. answers (kinded x.0 t))
 
 -- the forms that are written out in other functions, by name
 abbrev pub form_word : List ℕ → Option Form

@@ -3,7 +3,9 @@ ghost use Rattle.std.specs.Prelude.{◌≡◌, Some};
 ghost use Rattle.vortex_logical.specs.declared.kind.Kind.TheVariants.{Decimal};
 ghost use Rattle.vortex_logical.specs.Digits.{digits_of};
 ghost use Rattle.vortex_expressions.specs.KindCasts as specs;
-ghost use Rattle.vortex_expressions.specs.Items.{item_in};
+ghost use Rattle.vortex_expressions.specs.Items.{item_in, bound as bound_item};
+ghost use Rattle.vortex_expressions.specs.Items.{kinded as kinded_item, literal as literal_item};
+ghost use Rattle.vortex_expressions.specs.Literals.{literal_in};
 ghost use Rattle.vortex_expressions.specs.Answering.{Gives};
 
 use crate::item::Item;
@@ -71,23 +73,81 @@ fn longest_whole() -> Option<Kind>
     Some(Kind::Decimal(DecimalDigits::try_new(18, 0)?))
 }
 
-/// The kind of `numeric` without digits, of a whole number decimals, else floats.
-fn whole_kind(operand: &Operand) -> Option<Kind>
-    ensures { result ≡ Some (specs.whole_kind operand.now) }
+/// A whole number as a decimal, another value as a float.
+fn whole_cast(
+    alloc: Global,
+    is_tried: bool,
+    tree: BoundExpression<Standard>,
+) -> Result<Item, BindStop>
+    ensures { Gives item_in result (specs.numeric_cast is_tried (bound_item tree)) }
 {
-    match operand {
-        Operand::Whole(_) => longest_whole(),
-        Operand::Of(_) => Some(Kind::F64),
+    match plain_operand(tree.dtype()) {
+        Operand::Whole(_) => match longest_whole() {
+            Some(kind) => cast_to_kind(alloc, is_tried, kind, Item::Bound(tree)),
+            None => Err(BindStop::Missing),
+        },
+        Operand::Of(_) => cast_to_kind(alloc, is_tried, Kind::F64, Item::Bound(tree)),
     }
 }
 
-fn numeric_kind(item: &Item) -> Option<Kind>
-    ensures { result ≡ Some (specs.numeric_kind (item_in item.now)) }
+fn literal_numeric(alloc: Global, is_tried: bool, literal: Literal) -> Result<Item, BindStop>
+    ensures { Gives item_in result
+        (specs.numeric_cast is_tried (literal_item (literal_in literal))) }
 {
-    match item {
-        Item::Bound(tree) => whole_kind(&plain_operand(tree.dtype())),
-        Item::Literal(Literal::Number(_)) => longest_whole(),
-        _ => Some(Kind::F64),
+    match literal {
+        Literal::Number(number) => match longest_whole() {
+            Some(kind) => {
+                cast_to_kind(
+                    alloc,
+                    is_tried,
+                    kind,
+                    Item::Literal(Literal::Number(number)),
+                )
+            }
+            None => Err(BindStop::Missing),
+        },
+        Literal::Text(text) => {
+            cast_to_kind(
+                alloc,
+                is_tried,
+                Kind::F64,
+                Item::Literal(Literal::Text(text)),
+            )
+        }
+        Literal::Truth(truth) => {
+            cast_to_kind(
+                alloc,
+                is_tried,
+                Kind::F64,
+                Item::Literal(Literal::Truth(truth)),
+            )
+        }
+        Literal::Null => cast_to_kind(alloc, is_tried, Kind::F64, Item::Literal(Literal::Null)),
+    }
+}
+
+fn kinded_numeric(
+    alloc: Global,
+    is_tried: bool,
+    kind: Kind,
+    tree: BoundExpression<Standard>,
+) -> Result<Item, BindStop>
+    ensures { Gives item_in result (specs.numeric_cast is_tried (kinded_item kind tree)) }
+{
+    match kind {
+        Kind::Decimal(digits) => Ok(Item::Kinded(Kind::Decimal(digits), tree)),
+        Kind::Plain => cast_to_kind(alloc, is_tried, Kind::F64, Item::Kinded(Kind::Plain, tree)),
+        Kind::Date => cast_to_kind(alloc, is_tried, Kind::F64, Item::Kinded(Kind::Date, tree)),
+        Kind::Timestamp => {
+            cast_to_kind(
+                alloc,
+                is_tried,
+                Kind::F64,
+                Item::Kinded(Kind::Timestamp, tree),
+            )
+        }
+        Kind::F64 => cast_to_kind(alloc, is_tried, Kind::F64, Item::Kinded(Kind::F64, tree)),
+        Kind::F32 => cast_to_kind(alloc, is_tried, Kind::F64, Item::Kinded(Kind::F32, tree)),
     }
 }
 
@@ -95,11 +155,11 @@ fn numeric_kind(item: &Item) -> Option<Kind>
 pub(crate) fn numeric_cast(alloc: Global, is_tried: bool, item: Item) -> Result<Item, BindStop>
     ensures { Gives item_in result (specs.numeric_cast is_tried (item_in item)) }
 {
-    if matches!(item, Item::Fraction(_) | Item::Kinded(Kind::Decimal(_), _)) {
-        return Ok(item);
-    }
-    match numeric_kind(&item) {
-        Some(kind) => cast_to_kind(alloc, is_tried, kind, item),
-        None => Err(BindStop::Missing),
+    match item {
+        Item::Fraction(number) => Ok(Item::Fraction(number)),
+        Item::Kinded(kind, tree) => kinded_numeric(alloc, is_tried, kind, tree),
+        Item::Bound(tree) => whole_cast(alloc, is_tried, tree),
+        Item::Literal(literal) => literal_numeric(alloc, is_tried, literal),
+        Item::Interval(span) => { cast_to_kind(alloc, is_tried, Kind::F64, Item::Interval(span)) }
     }
 }

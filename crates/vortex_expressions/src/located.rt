@@ -7,9 +7,7 @@ ghost use Rattle.vortex_expressions.specs.Answering.{Gives};
 use crate::applied::function_call;
 use crate::functions::function_item;
 use crate::item::Item;
-use crate::kind_casts::kind_cast;
 use crate::kind_words::is_word;
-use crate::literal::Literal;
 use crate::refusal::{BindStop, Refusal};
 use crate::written_forms::{Form, form_word, formed};
 use std::alloc::Global;
@@ -70,58 +68,16 @@ pub(crate) fn meant_function(name: &[u8]) -> Option<Standard> {
     Some(function)
 }
 
-/// Whether a format begins as dates are written.
-fn is_iso(format: &[u8]) -> bool
-    ensures { result ≡ specs.is_iso format.now }
-{
-    if format.len() < 10 {
-        return false;
-    }
-    let start = &format[..10];
-    is_word(start, b"YYYY-MM-DD") || is_word(start, b"YYYY/MM/DD")
-}
-
 /// The date or the timestamp of a text by a format.
-fn read_text(
-    alloc: Global,
-    kind: Kind,
-    function: Standard,
-    items: Vec<Item>,
-) -> Result<Item, BindStop>
-    ensures { Gives item_in result (specs.read_text kind function (map item_in items.items)) }
-{
-    let tree = function_call(alloc, function, items)?;
-    Ok(Item::Kinded(kind, tree))
-}
-
-/// The same; a value that was read as its format says is cast.
-fn read_as(
-    alloc: Global,
-    kind: Kind,
-    function: Standard,
-    items: Vec<Item>,
-) -> Result<Item, BindStop>
-    ensures { Gives item_in result (specs.read_as kind function (map item_in items.items)) }
-{
-    match items.as_slice() {
-        [
-            Item::Kinded(found, tree),
-            Item::Literal(Literal::Text(format)),
-        ] if is_iso(format.as_bytes()) => {
-            kind_cast(alloc, false, kind, *found, tree.try_clone(alloc)?)
-        }
-        _ => read_text(alloc, kind, function, items),
-    }
-}
-
 fn read_by(alloc: Global, name: &[u8], items: Vec<Item>) -> Result<Item, BindStop>
     ensures { Gives item_in result
         (specs.read_by (specs.format_word name.now) (map item_in items.items)) }
 {
-    match format_word(name) {
-        Some((kind, function)) => read_as(alloc, kind, function, items),
-        None => Err(BindStop::Refused(Refusal::NoFunction)),
-    }
+    let Some((kind, function)) = format_word(name) else {
+        return Err(BindStop::Refused(Refusal::NoFunction));
+    };
+    let tree = function_call(alloc, function, items)?;
+    Ok(Item::Kinded(kind, tree))
 }
 
 /// What a name means that no function has.
