@@ -48,6 +48,7 @@ use Rattle.vortex_logical_calls.specs.Alignment.{meet_next, aligned}
 use Rattle.vortex_lowering.specs.Operands.{scale_of}
 use Rattle.vortex_logical_calls.specs.Literals.{kind_beside, literal_of}
 use Rattle.vortex_logical_calls.specs.Intervals.{moved_by, moved, shifted, elapses, elapsed}
+use Rattle.vortex_logical_calls.specs.Spans.{counted, spans_computed, instant, moved_instant}
 use Rattle.vortex_syntax.specs.declared.step.WrittenOperator as written
 use Rattle.vortex_syntax.specs.declared.step.WrittenOperator.TheVariants as signs
 use Rattle.vortex_expressions.specs.Literals.{Literal, number, text, truth, null}
@@ -62,7 +63,10 @@ use Rattle.vortex_expressions.specs.declared.kind_operators.KindedOperator.{Kind
 use Rattle.vortex_expressions.specs.declared.kind_operators.KindedOperator.TheVariants.{Compares}
 use Rattle.vortex_expressions.specs.declared.kind_operators.KindedOperator.TheVariants.{Computes}
 use Rattle.vortex_expressions.specs.declared.kind_operators.KindedOperator.TheVariants.{Neither}
-use Rattle.vortex_expressions.specs.Kinded.{operated, span_operand, spans_joined}
+use Rattle.vortex_expressions.specs.Kinded.{operated, span_operand, spans_joined, span_item}
+use Rattle.vortex_expressions.specs.Kinded.{spans_added, whole_count, literal_count, count_of}
+use Rattle.vortex_expressions.specs.Kinded.{multiplied, moved_or_added, added_items, taken_items}
+use Rattle.vortex_expressions.specs.Kinded.{multiplied_items}
 use Rattle.vortex_expressions.specs.Kinded.{kinded_operator, kinded_joined, kinded_between}
 use Rattle.vortex_expressions.specs.Kinded.{within_bounds, is_interval, shifted_item, moved_by_span, moved_items}
 use Rattle.vortex_expressions.specs.Kinded.{joined_beside, moved_item, folded_by, folded_or_joined}
@@ -284,16 +288,83 @@ sure_span (interval (Given (Micros z))) = tt
 sure_span (interval (Elapsed t)) = tt
 sure_span i = tt
 
+instant_made : (o : NumericOperator) (x : Lowered) (u : Tree) → IfMade IsValue (moved_instant o x u)
+instant_made o x u =
+    if_then IsValue (instant x) _
+    (λ a. operand_made (Of Timestamp) (spans_computed o a.tree u) (on_two_made o a.tree u))
+
 sure_moved_by : (o : NumericOperator) (k : Kind) (t : Tree) (s : Timespan)
     → Sure IsItem (moved_by_span o k t s)
 sure_moved_by o k t (Given z) = sure_moved o k t z
-sure_moved_by o k t (Elapsed u) = tt
+sure_moved_by o k t (Elapsed u) =
+    let x = lowered t (Of k) in
+    sure_then IsValue IsItem (told (moved_instant o x u)) _
+    (sure_told IsValue (moved_instant o x u) (instant_made o x u))
+    (λ y h. value_is y.operand y.tree h)
+
+sure_span_item : (o : NumericOperator) (t u : Tree)
+    → Sure IsItem (span_item (told (spans_computed o t u)))
+sure_span_item o t u =
+    sure_then IsTyped IsItem (told (spans_computed o t u)) (λ v. answers (interval (Elapsed v)))
+    (sure_told IsTyped (spans_computed o t u) (on_two_made o t u)) (λ v h. h)
+
+sure_added : (o : NumericOperator) (a b : Item) → Sure IsItem (spans_added o a b)
+sure_added o a b =
+    sure_then Any IsItem (span_operand a) _ (sure_span a)
+    (λ x h. sure_then Any IsItem (span_operand b) _ (sure_span b)
+    (λ y j. sure_span_item o x.tree y.tree))
+
+sure_whole_count : (a : Operand) (t : Tree) → Sure Any (whole_count a t)
+sure_whole_count (Whole p) t = tt
+sure_whole_count (Of k) t = tt
+
+sure_literal_count : (l : Literal) → Sure Any (literal_count l)
+sure_literal_count (number w) = sure_whole I64 (number w)
+sure_literal_count (text bs) = tt
+sure_literal_count (truth b) = tt
+sure_literal_count null = tt
+
+sure_count : (i : Item) → Sure Any (count_of i)
+sure_count (literal l) = sure_literal_count l
+sure_count (bound t) = sure_whole_count (plain_operand (tree_type meaning t)) t
+sure_count (kinded k t) = tt
+sure_count (fraction w) = tt
+sure_count (interval s) = tt
+
+sure_multiplied : (i : Item) (s : Timespan) → Sure IsItem (multiplied i s)
+sure_multiplied i s =
+    sure_then Any IsItem (count_of i) _ (sure_count i)
+    (λ x h. sure_then Any IsItem (told (counted x)) _ (sure_told Any (counted x) (any_made (counted x)))
+    (λ n g. sure_then Any IsItem (span_operand (interval s)) _ (sure_span (interval s))
+    (λ y j. sure_span_item numeric.Mul n.tree y.tree)))
+
+sure_moved_or_added : (o : NumericOperator) (i : Item) (s : Timespan)
+    → Sure IsItem (moved_or_added o i s)
+sure_moved_or_added o (kinded k t) s = sure_moved_by o k t s
+sure_moved_or_added o (interval r) s = sure_added o (interval r) (interval s)
+sure_moved_or_added o (literal l) s = tt
+sure_moved_or_added o (bound t) s = tt
+sure_moved_or_added o (fraction w) s = tt
+
+sure_added_items : (a b : Item) → Sure IsItem (added_items a b)
+sure_added_items a (interval s) = sure_moved_or_added numeric.Add a s
+sure_added_items (interval s) b = sure_moved_or_added numeric.Add b s
+sure_added_items a b = tt
+
+sure_taken_items : (a b : Item) → Sure IsItem (taken_items a b)
+sure_taken_items a (interval s) = sure_moved_or_added numeric.Sub a s
+sure_taken_items a b = tt
+
+sure_multiplied_items : (a b : Item) → Sure IsItem (multiplied_items a b)
+sure_multiplied_items a (interval s) = sure_multiplied a s
+sure_multiplied_items (interval s) b = sure_multiplied b s
+sure_multiplied_items a b = tt
 
 sure_moved_items : (o : NumericOperator) (a b : Item) → Sure IsItem (moved_items o a b)
-sure_moved_items numeric.Add (kinded k t) (interval s) = sure_moved_by numeric.Add k t s
-sure_moved_items numeric.Add (interval s) (kinded k t) = sure_moved_by numeric.Add k t s
-sure_moved_items numeric.Sub (kinded k t) (interval s) = sure_moved_by numeric.Sub k t s
-sure_moved_items o a b = tt
+sure_moved_items numeric.Add a b = sure_added_items a b
+sure_moved_items numeric.Sub a b = sure_taken_items a b
+sure_moved_items numeric.Mul a b = sure_multiplied_items a b
+sure_moved_items numeric.Div a b = tt
 
 sure_spans : (o : KindedOperator) (a b : Item) → Sure IsItem (spans_joined o a b)
 sure_spans (Compares op) a b =

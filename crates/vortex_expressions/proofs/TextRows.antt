@@ -17,8 +17,11 @@ use Rattle.vortex_logical_calls.specs.Computation.{computed}
 use Rattle.vortex_logical_calls.specs.Bounds as bounds
 use Rattle.vortex_logical_calls.specs.RowLaws.{ComparisonsGoByOrder, BoundsGoByOrder}
 use Rattle.vortex_logical_calls.specs.RowLaws.{ComputationsAreExact, ValuesAreAligned, KindsMeet}
-use Rattle.vortex_logical_calls.specs.RowLaws.{IntervalsMove, InstantsElapse, is_sum}
+use Rattle.vortex_logical_calls.specs.RowLaws.{IntervalsMove, InstantsElapse, is_sum, is_quotient}
+use Rattle.vortex_logical_calls.specs.RowLaws.{SpansCompute, InstantsMove}
 use Rattle.vortex_logical_calls.specs.Intervals.{shifted, elapses, elapsed}
+use Rattle.vortex_logical_calls.specs.Spans.{counted, spans_computed, moved_instant}
+use Rattle.vortex_logical_calls.specs.Outcomes as calls
 use Rattle.vortex_logical_calls.specs.Calls.{Lowered}
 use Rattle.vortex_logical.specs.declared.operand.Operand.{Operand}
 use Rattle.vortex_logical.specs.declared.operand.Operand.TheVariants.{Whole, Of}
@@ -39,7 +42,8 @@ use Rattle.vortex_expressions.specs.declared.kind_operators.KindedOperator.{Kind
 use Rattle.vortex_expressions.specs.declared.kind_operators.KindedOperator.TheVariants.{Compares}
 use Rattle.vortex_expressions.specs.declared.kind_operators.KindedOperator.TheVariants.{Computes}
 use Rattle.vortex_expressions.specs.Kinded.{value_item, kinded_operator, operated, joined_beside}
-use Rattle.vortex_expressions.specs.Kinded.{span_operand, spans_compared}
+use Rattle.vortex_expressions.specs.Kinded.{span_operand, count_of, multiplied, multiplied_items}
+use Rattle.vortex_expressions.specs.Kinded.{moved_items, spans_added, span_item}
 use Rattle.vortex_expressions.specs.Kinded.{spans_joined, computed_item}
 use Rattle.vortex_expressions.specs.Kinded.{values_joined, folded_or_joined, fraction_of}
 use Rattle.vortex_expressions.specs.declared.folding.Exact.{Exact}
@@ -65,6 +69,8 @@ use Rattle.vortex_expressions.specs.RowLaws.{EitherBoundsItems, EitherBoundsBoun
 use Rattle.vortex_expressions.specs.RowLaws.{ComparisonsCompare, ArithmeticComputes, BoundsBound}
 use Rattle.vortex_expressions.specs.RowLaws.{NumbersFold, TimestampsElapse, IntervalsCompare}
 use Rattle.vortex_expressions.specs.RowLaws.{ElapsesItem, ComparesSpans}
+use Rattle.vortex_expressions.specs.RowLaws.{Multiple, multiple, multiple_of, SpansMultiply, SpansAdd}
+use Rattle.vortex_expressions.specs.RowLaws.{Move, move, move_of, SpansMove}
 use Rattle.vortex_expressions.specs.RowLaws.{ListsCall, DistinctCalls, NamesCall, CasesCall}
 use Rattle.vortex_expressions.specs.RowLaws.{ElseCasesCall, TextsMeanTheirRows}
 use Rattle.vortex_expressions.proofs.LiteralsOver.{Then, then_is, answers_is, text_read}
@@ -113,10 +119,10 @@ beside_of : (op : NumericOperator) (i j r : Item) → folded op i j ≡ None
     → joined_beside (first_kind (i ∷ j ∷ [])) (Computes op) i j ≡ answers r
 beside_of op i j r h e = ap (λ f. folded_or_joined f (Computes op) i j) (sym h) ∙ e
 
-spans_made : (o : WrittenOperator) (op : CompareOperator) (i j r : Item)
-    → kinded_operator o ≡ Compares op → (is_interval i || is_interval j) ≡ true
-    → kinded_joined o i j ≡ answers r → spans_compared op i j ≡ answers r
-spans_made o op i j r c h e =
+spans_made : (o : WrittenOperator) (q : KindedOperator) (i j r : Item) → kinded_operator o ≡ q
+    → (is_interval i || is_interval j) ≡ true → kinded_joined o i j ≡ answers r
+    → spans_joined q i j ≡ answers r
+spans_made o q i j r c h e =
     ap (λ p. spans_joined p i j) (sym c)
     ∙ ap (λ b. cond b (spans_joined (kinded_operator o) i j)
     (values_joined (kinded_operator o) i j)) (sym h) ∙ e
@@ -216,6 +222,77 @@ shift_made written.Sub (kinded k t) (interval (Given (Micros z))) s r e f =
     (ap (λ u. is_sum u.operator) same, ap moved_by_shift same ∙ f)
 shift_made o i j s r e f = cc
 
+multiple_is : (m n : Multiple) → Some m ≡ Some n → m ≡ n
+multiple_is m n e = cc
+
+or_true : (b : Bool) → (b || true) ≡ true
+or_true true = refl
+or_true false = refl
+
+product_made : (i j r : Item) → (is_interval i || is_interval j) ≡ true
+    → joined_item written.Mul i j ≡ answers r → multiplied_items i j ≡ answers r
+product_made i j r h e =
+    spans_made written.Mul (Computes numeric.Mul) i j r refl h
+    (joined_kinded written.Mul i j r refl (interval_kinded i j h) e)
+
+-- so many times an interval
+abbrev multiplied_by : Multiple → Outcome Item
+multiplied_by m = multiplied m.count m.timespan
+
+multiple_made : (i j : Item) (m : Multiple) (r : Item) → multiple_of i j ≡ Some m
+    → joined_item written.Mul i j ≡ answers r → multiplied_by m ≡ answers r
+multiple_made i (interval s) m r e f =
+    ap multiplied_by (sym (multiple_is (multiple i s) m e))
+    ∙ product_made i (interval s) r (or_true (is_interval i)) f
+multiple_made (interval s) j m r e f =
+    ap multiplied_by (sym (multiple_is (multiple j s) m e)) ∙ product_made (interval s) j r refl f
+multiple_made i j m r e f = cc
+
+-- the sum of two intervals, and the difference
+sum_made : (op : NumericOperator) (p q : Timespan) (r : Item) → is_sum op ≡ true
+    → moved_items op (interval p) (interval q) ≡ answers r
+    → spans_added op (interval p) (interval q) ≡ answers r
+sum_made numeric.Add p q r h e = e
+sum_made numeric.Sub p q r h e = e
+sum_made numeric.Mul p q r h e = cc
+sum_made numeric.Div p q r h e = cc
+
+no_quotient : (op : NumericOperator) → is_sum op ≡ true → is_quotient op ≡ false
+no_quotient numeric.Add h = refl
+no_quotient numeric.Sub h = refl
+no_quotient numeric.Mul h = cc
+no_quotient numeric.Div h = cc
+
+-- the microseconds of two as one
+span_made : (o : calls.Outcome Tree) (t : Tree) → span_item (told o) ≡ answers (interval (Elapsed t))
+    → o ≡ calls.made t
+span_made o t e =
+    let u = then_is (told o) (λ v. answers (interval (Elapsed v))) (interval (Elapsed t)) e in
+    let same : answers (interval (Elapsed u.a)) ≡ answers (interval (Elapsed t)) = u.second in
+    let is : u.a ≡ t = cc in made_told o t (u.first ∙ ap (λ v. answers v) is)
+
+move_is : (m n : Move) → Some m ≡ Some n → m ≡ n
+move_is m n e = cc
+
+-- a value that microseconds move
+abbrev moved_by_move : Move → Outcome Item
+moved_by_move m =
+    and_then (told (moved_instant m.operator m.value m.micros))
+    (λ x. answers (value_item x.operand x.tree))
+
+move_made : (o : WrittenOperator) (i j : Item) (m : Move) (r : Item) → move_of o i j ≡ Some m
+    → joined_item o i j ≡ answers r → (is_sum m.operator ≡ true) × (moved_by_move m ≡ answers r)
+move_made written.Add (kinded k t) (interval (Elapsed u)) m r e f =
+    let same = sym (move_is (move numeric.Add k t u) m e) in
+    (ap (λ n. is_sum n.operator) same, ap moved_by_move same ∙ f)
+move_made written.Add (interval (Elapsed u)) (kinded k t) m r e f =
+    let same = sym (move_is (move numeric.Add k t u) m e) in
+    (ap (λ n. is_sum n.operator) same, ap moved_by_move same ∙ f)
+move_made written.Sub (kinded k t) (interval (Elapsed u)) m r e f =
+    let same = sym (move_is (move numeric.Sub k t u) m e) in
+    (ap (λ n. is_sum n.operator) same, ap moved_by_move same ∙ f)
+move_made o i j m r e f = cc
+
 module _ (scope : Fields) (kinds : List Kind) where
   abbrev names : Names
   names = names_in scope kinds
@@ -283,7 +360,7 @@ module _ (scope : Fields) (kinds : List Kind) where
       let r = whole.a in
       let one = parts_are (item_by names a) (item_by names b) (joined_item o) i j r h k whole.first in
       let kinded = joined_kinded o i j r (compares_apart o op c) (interval_kinded i j g) one in
-      let spans = spans_made o op i j r c g kinded in
+      let spans = spans_made o (Compares op) i j r c g kinded in
       let left = then_is (span_operand i) _ r spans in
       let right = then_is (span_operand j) _ r left.second in
       let done = item_told (told (compared op left.a right.a)) r right.second in
@@ -410,6 +487,62 @@ module _ (scope : Fields) (kinds : List Kind) where
             (made_told (shifted s.operator s.value s.micros) w done.first);
       }
 
+  -- so many times an interval
+  multiples : SpansCompute → SpansMultiply scope kinds
+  multiples law a b i j m t h k e f =
+      let r = interval (Elapsed t) in
+      let one = parts_are (item_by names a) (item_by names b) (joined_item written.Mul) i j r h k f in
+      let x = then_is (count_of m.count) _ r (multiple_made i j m r e one) in
+      let n = then_is (told (counted x.a)) _ r x.second in
+      let y = then_is (span_operand (interval m.timespan)) _ r n.second in
+      let product = spans_computed numeric.Mul n.a.tree y.a.tree in
+      record {
+        x = x.a;
+        n = n.a;
+        y = y.a;
+        count = x.first;
+        whole = made_told (counted x.a) n.a n.first;
+        micros = y.first;
+        rows = law numeric.Mul n.a.tree y.a.tree t refl (span_made product t y.second);
+      }
+
+  -- the sum of two, and the difference
+  sums_of_spans : SpansCompute → SpansAdd scope kinds
+  sums_of_spans law o op a b p q t c h k l f =
+      let r = interval (Elapsed t) in
+      let i = interval p in
+      let j = interval q in
+      let one = parts_are (item_by names a) (item_by names b) (joined_item o) i j r k l f in
+      let kinded = joined_kinded o i j r (computes_apart o op c) refl one in
+      let made = sum_made op p q r h (spans_made o (Computes op) i j r c refl kinded) in
+      let x = then_is (span_operand i) _ r made in
+      let y = then_is (span_operand j) _ r x.second in
+      let sum = spans_computed op x.a.tree y.a.tree in
+      record {
+        x = x.a;
+        y = y.a;
+        left = x.first;
+        right = y.first;
+        rows = law op x.a.tree y.a.tree t (no_quotient op h) (span_made sum t y.second);
+      }
+
+  -- a value that microseconds move
+  moves : InstantsMove → SpansMove scope kinds
+  moves law o a b i j m t h k e f =
+      let whole = then_is (and_then (item_by names a)
+      (λ x. and_then (item_by names b) (joined_item o x))) ended t f in
+      let r = whole.a in
+      let one = parts_are (item_by names a) (item_by names b) (joined_item o) i j r h k whole.first in
+      let is = move_made o i j m r e one in
+      let moved = moved_instant m.operator m.value m.micros in
+      let done = then_is (told moved) (λ x. answers (value_item x.operand x.tree)) r is.1 in
+      let w = done.a in
+      record {
+        w = w;
+        value = ap ended (answers_is (value_item w.operand w.tree) r done.second) ∙ whole.second;
+        rows = law m.operator m.value w m.micros is.0 (made_told moved w done.first);
+      }
+
   module _ (law : FunctionsCallInKind) where
     called : (f : Standard) (is : List Item) (p : Item → Outcome Item) (r : Item)
         → and_then (function_item f is) p ≡ answers r → IsCall f is p r
@@ -521,8 +654,9 @@ module _ (scope : Fields) (kinds : List Kind) where
         (λ r g. case_call (has_operand bs) (reverse us) js r k g) e
 
   pub texts : ComparisonsGoByOrder → BoundsGoByOrder → ComputationsAreExact → IntervalsMove
-      → InstantsElapse → ValuesAreAligned → KindsMeet → TextsMeanTheirRows scope kinds
-  texts c b a s d v m = record {
+      → InstantsElapse → ValuesAreAligned → KindsMeet → SpansCompute → InstantsMove
+      → TextsMeanTheirRows scope kinds
+  texts c b a s d v m p q = record {
     comparisons = comparisons c;
     bounds = all_bounds b;
     either_bounds = either b;
@@ -531,6 +665,9 @@ module _ (scope : Fields) (kinds : List Kind) where
     shifts = shifts s;
     differences = differences d;
     intervals = intervals c;
+    multiples = multiples p;
+    sums_of_spans = sums_of_spans p;
+    moves = moves q;
     lists = lists (functions v m);
     distinctions = distinctions (functions v m);
     functions = names_call (functions v m);

@@ -33,6 +33,7 @@ use Rattle.vortex_logical_calls.specs.Bounds as bounds
 use Rattle.vortex_logical_calls.specs.Computation.{computed}
 use Rattle.vortex_logical_calls.specs.Literals.{kind_beside, literal_of}
 use Rattle.vortex_logical_calls.specs.Intervals.{shifted, elapses, elapsed}
+use Rattle.vortex_logical_calls.specs.Spans.{counted, spans_computed, moved_instant}
 use Rattle.vortex_logical_calls.specs.declared.intervals.Interval.{Interval}
 use Rattle.vortex_logical_calls.specs.declared.intervals.Interval.TheVariants.{Micros, Months}
 use Rattle.vortex_sql_kind_texts.specs.TextKinds.{overflows}
@@ -211,17 +212,68 @@ abbrev pub spans_compared : CompareOperator → Item → Item → Outcome Item
 spans_compared op a b =
     and_then (span_operand a) (λ x. and_then (span_operand b) (λ y. compared_item op x y))
 
--- a value moved by an interval; not by a difference
+-- a value moved by an interval, or by microseconds that each row may have others of
 abbrev pub moved_by_span : NumericOperator → Kind → Tree → Timespan → Outcome Item
 moved_by_span o k t (Given z) = moved_item o k t z
-moved_by_span o k t (Elapsed u) = refuses NotHeld
+moved_by_span o k t (Elapsed u) =
+    and_then (told (moved_instant o (lowered t (Of k)) u))
+    (λ x. answers (value_item x.operand x.tree))
 
--- an interval is added to a value, and taken from one
+-- the microseconds of two as one
+abbrev pub span_item : Outcome Tree → Outcome Item
+span_item o = and_then o (λ t. answers (interval (Elapsed t)))
+
+abbrev pub spans_added : NumericOperator → Item → Item → Outcome Item
+spans_added o a b =
+    and_then (span_operand a) (λ x. and_then (span_operand b)
+    (λ y. span_item (told (spans_computed o x.tree y.tree))))
+
+-- a whole number, which says how many times
+abbrev pub whole_count : Operand → Tree → Outcome Lowered
+whole_count (Whole p) t = answers (lowered t (Whole p))
+whole_count a t = refuses NotHeld
+
+abbrev pub literal_count : Literal → Outcome Lowered
+literal_count (number w) = whole_literal I64 (number w)
+literal_count l = refuses NotHeld
+
+abbrev pub count_of : Item → Outcome Lowered
+count_of (literal l) = literal_count l
+count_of (bound t) = whole_count (plain_operand (tree_type meaning t)) t
+count_of i = refuses NotHeld
+
+-- so many times an interval
+abbrev pub multiplied : Item → Timespan → Outcome Item
+multiplied i s =
+    and_then (count_of i) (λ x. and_then (told (counted x)) (λ n. and_then (span_operand (interval s))
+    (λ y. span_item (told (spans_computed numeric.Mul n.tree y.tree)))))
+
+-- a value or another interval, and one that is added to it or taken from it
+abbrev pub moved_or_added : NumericOperator → Item → Timespan → Outcome Item
+moved_or_added o (kinded k t) s = moved_by_span o k t s
+moved_or_added o (interval r) s = spans_added o (interval r) (interval s)
+moved_or_added o i s = refuses NotHeld
+
+abbrev pub added_items : Item → Item → Outcome Item
+added_items a (interval s) = moved_or_added numeric.Add a s
+added_items (interval s) b = moved_or_added numeric.Add b s
+added_items a b = refuses NotHeld
+
+abbrev pub taken_items : Item → Item → Outcome Item
+taken_items a (interval s) = moved_or_added numeric.Sub a s
+taken_items a b = refuses NotHeld
+
+abbrev pub multiplied_items : Item → Item → Outcome Item
+multiplied_items a (interval s) = multiplied a s
+multiplied_items (interval s) b = multiplied b s
+multiplied_items a b = refuses NotHeld
+
+-- an operator of arithmetic, one of whose operands is an interval
 abbrev pub moved_items : NumericOperator → Item → Item → Outcome Item
-moved_items numeric.Add (kinded k t) (interval s) = moved_by_span numeric.Add k t s
-moved_items numeric.Add (interval s) (kinded k t) = moved_by_span numeric.Add k t s
-moved_items numeric.Sub (kinded k t) (interval s) = moved_by_span numeric.Sub k t s
-moved_items o a b = refuses NotHeld
+moved_items numeric.Add a b = added_items a b
+moved_items numeric.Sub a b = taken_items a b
+moved_items numeric.Mul a b = multiplied_items a b
+moved_items numeric.Div a b = refuses NotHeld
 
 -- an operator, one of whose operands is an interval
 abbrev pub spans_joined : KindedOperator → Item → Item → Outcome Item

@@ -3,7 +3,7 @@ use Rattle.std.specs.Prelude.{◌≡◌, ◌||◌, ℕ, ℤ, Bool, true, false, 
 use Rattle.std.specs.Prelude.{reverse, codes}
 use Rattle.vortex_types.specs.LogicalTypes.{Fields}
 use Rattle.vortex_errors.specs.declared.error.NumericOperator.{NumericOperator}
-use Rattle.vortex_errors.specs.declared.error.NumericOperator.TheVariants.{Add, Sub}
+use Rattle.vortex_errors.specs.declared.error.NumericOperator.TheVariants.{Add, Sub, Mul}
 use Rattle.vortex_operators.specs.declared.operators.CompareOperator.{CompareOperator}
 use Rattle.vortex_operators.specs.declared.operators.Operator.TheVariants as operator
 use Rattle.vortex_interface.specs.Shipped.{Binary}
@@ -18,13 +18,17 @@ use Rattle.vortex_logical.specs.declared.kind.Kind.{Kind}
 use Rattle.vortex_logical.specs.declared.operand.Operand.TheVariants.{Of}
 use Rattle.vortex_lowering.specs.Rows.{lowered}
 use Rattle.vortex_logical_calls.specs.declared.intervals.Interval.TheVariants.{Micros}
+use Rattle.vortex_logical_calls.specs.Outcomes.{made}
 use Rattle.vortex_logical_calls.specs.Calls.{Lowered}
 use Rattle.vortex_logical_calls.specs.Computation.{goes_by_floats}
 use Rattle.vortex_logical_calls.specs.RowLaws.{ComparedRows, BoundedRows, ComputedRows}
-use Rattle.vortex_logical_calls.specs.RowLaws.{ShiftedRows, ElapsedRows}
+use Rattle.vortex_logical_calls.specs.RowLaws.{ShiftedRows, ElapsedRows, SpanRows, is_sum}
+use Rattle.vortex_logical_calls.specs.RowLaws.{MovedInstantRows}
+use Rattle.vortex_logical_calls.specs.Spans.{counted}
 use Rattle.vortex_standard.specs.declared.standard.Standard.{Standard}
 use Rattle.vortex_standard.specs.declared.standard.Standard.TheVariants as standard
 use Rattle.vortex_standard.specs.Names.{standard_named}
+use Rattle.vortex_expressions.specs.declared.item.Timespan.{Timespan}
 use Rattle.vortex_expressions.specs.declared.item.Timespan.TheVariants.{Given, Elapsed}
 use Rattle.vortex_expressions.specs.declared.kind_operators.KindedOperator.TheVariants.{Compares}
 use Rattle.vortex_expressions.specs.declared.kind_operators.KindedOperator.TheVariants.{Computes}
@@ -32,7 +36,7 @@ use Rattle.vortex_expressions.specs.Outcomes.{Outcome, answers}
 use Rattle.vortex_expressions.specs.Folding.{folded}
 use Rattle.vortex_expressions.specs.Items.{Item, bound, kinded, fraction, interval, Tree, called}
 use Rattle.vortex_expressions.specs.Kinded.{is_kinded, is_interval, first_kind, value_item}
-use Rattle.vortex_expressions.specs.Kinded.{kinded_operator, within_bounds, span_operand}
+use Rattle.vortex_expressions.specs.Kinded.{kinded_operator, within_bounds, span_operand, count_of}
 use Rattle.vortex_expressions.specs.KindWords.{kind_word}
 use Rattle.vortex_expressions.specs.Functions.{meant_by}
 use Rattle.vortex_expressions.specs.Calls.{Names, names_in, negated_if, negated_item, conditions_of}
@@ -114,6 +118,57 @@ pub record MovesItem (s : Shift) (t : LogicalTree) : Type 0 where
   pub value : ended (value_item w.operand w.tree) ≡ answers t
   pub rows : ShiftedRows s.operator s.value s.micros w
 
+-- so many times an interval, or a difference of timestamps
+pub record Multiple : Type 0 where
+  pub count : Item
+  pub timespan : Timespan
+
+abbrev pub multiple : Item → Timespan → Multiple
+multiple i s = record { count = i; timespan = s }
+
+abbrev pub multiple_of : Item → Item → Option Multiple
+multiple_of i (interval s) = Some (multiple i s)
+multiple_of (interval s) j = Some (multiple j s)
+multiple_of i j = None
+
+-- the product of the count, a whole number, and the microseconds
+pub record MultipliesSpan (m : Multiple) (t : Tree) : Type 0 where
+  pub x : Lowered
+  pub n : Lowered
+  pub y : Lowered
+  pub count : count_of m.count ≡ answers x
+  pub whole : counted x ≡ made n
+  pub micros : span_operand (interval m.timespan) ≡ answers y
+  pub rows : SpanRows Mul n.tree y.tree t
+
+-- two intervals or differences, and whether the second is added
+pub record AddsSpans (o : NumericOperator) (i j : Item) (t : Tree) : Type 0 where
+  pub x : Lowered
+  pub y : Lowered
+  pub left : span_operand i ≡ answers x
+  pub right : span_operand j ≡ answers y
+  pub rows : SpanRows o x.tree y.tree t
+
+-- a value, and the microseconds of each row that move it
+pub record Move : Type 0 where
+  pub operator : NumericOperator
+  pub value : Lowered
+  pub micros : Tree
+
+abbrev pub move : NumericOperator → Kind → Tree → Tree → Move
+move o k t u = record { operator = o; value = lowered t (Of k); micros = u }
+
+abbrev pub move_of : WrittenOperator → Item → Item → Option Move
+move_of written.Add (kinded k t) (interval (Elapsed u)) = Some (move Add k t u)
+move_of written.Add (interval (Elapsed u)) (kinded k t) = Some (move Add k t u)
+move_of written.Sub (kinded k t) (interval (Elapsed u)) = Some (move Sub k t u)
+move_of o i j = None
+
+pub record MovesInstant (m : Move) (t : LogicalTree) : Type 0 where
+  pub w : Lowered
+  pub value : ended (value_item w.operand w.tree) ≡ answers t
+  pub rows : MovedInstantRows m.operator m.value m.micros w
+
 module _ (scope : Fields) (kinds : List Kind) where
   abbrev names : Names
   names = names_in scope kinds
@@ -186,6 +241,27 @@ module _ (scope : Fields) (kinds : List Kind) where
       → Is a i → Is b j → shift_of o i j ≡ Some s
       → logical_of scope kinds (joined o a b) ≡ answers t → MovesItem s t
 
+  -- so many times an interval
+  abbrev pub SpansMultiply : Type 0
+  SpansMultiply =
+      (a b : Syntax) (i j : Item) (m : Multiple) (t : Tree) → Is a i → Is b j
+      → multiple_of i j ≡ Some m → Is (joined written.Mul a b) (interval (Elapsed t))
+      → MultipliesSpan m t
+
+  -- the sum and the difference of two
+  abbrev pub SpansAdd : Type 0
+  SpansAdd =
+      (o : WrittenOperator) (op : NumericOperator) (a b : Syntax) (r s : Timespan) (t : Tree)
+      → kinded_operator o ≡ Computes op → is_sum op ≡ true → Is a (interval r) → Is b (interval s)
+      → Is (joined o a b) (interval (Elapsed t)) → AddsSpans op (interval r) (interval s) t
+
+  -- a date or a timestamp that microseconds move
+  abbrev pub SpansMove : Type 0
+  SpansMove =
+      (o : WrittenOperator) (a b : Syntax) (i j : Item) (m : Move) (t : LogicalTree)
+      → Is a i → Is b j → move_of o i j ≡ Some m
+      → logical_of scope kinds (joined o a b) ≡ answers t → MovesInstant m t
+
   -- what follows from the items of a part, the last of which is first: it is the call on them
   abbrev IsEnded : Standard → List Item → (Item → Outcome Item) → LogicalTree → Type 0
   IsEnded f is p t = (r : Item) × IsCall f is p r × (ended r ≡ answers t)
@@ -232,8 +308,8 @@ module _ (scope : Fields) (kinds : List Kind) where
 
 -- each comparison, BETWEEN and operator of arithmetic between values of kinds in a text means what
 -- its operands do, two literal numbers are one, an interval moves them, intervals and differences of
--- timestamps compare by their microseconds, and each call of a function on them is that on what
--- stores them in one kind: IN, IS DISTINCT FROM, a function's name, and CASE
+-- timestamps compare, add up and are multiplied by their microseconds, and each call of a function on
+-- them is that on what stores them in one kind: IN, IS DISTINCT FROM, a function's name, and CASE
 pub record TextsMeanTheirRows (scope : Fields) (kinds : List Kind) : Type 0 where
   pub comparisons : ComparisonsCompare scope kinds
   pub bounds : BoundsBound scope kinds
@@ -243,6 +319,9 @@ pub record TextsMeanTheirRows (scope : Fields) (kinds : List Kind) : Type 0 wher
   pub shifts : IntervalsShift scope kinds
   pub differences : TimestampsElapse scope kinds
   pub intervals : IntervalsCompare scope kinds
+  pub multiples : SpansMultiply scope kinds
+  pub sums_of_spans : SpansAdd scope kinds
+  pub moves : SpansMove scope kinds
   pub lists : ListsCall scope kinds
   pub distinctions : DistinctCalls scope kinds
   pub functions : NamesCall scope kinds

@@ -7,11 +7,11 @@ ghost use Rattle.vortex_expressions.specs.Items.{item_in};
 ghost use Rattle.vortex_expressions.specs.Answering.{Gives};
 
 use crate::folding::folded;
-use crate::intervals::spans_joined;
 use crate::item::{Item, Timespan};
 use crate::kinded::{is_interval, item_operand, kind_or, value_item};
 use crate::quotes::text_of;
 use crate::refusal::{BindStop, Refusal};
+use crate::spans::spans_joined;
 use std::alloc::Global;
 use vortex_columns::VortexResult;
 use vortex_logical::kind::Kind;

@@ -121,7 +121,8 @@ fn whole_ptype(kind: &Kind) -> PType
     }
 }
 
-fn whole_literal(
+/// A number without a point in an integer type.
+pub(crate) fn whole_literal(
     alloc: Global,
     ptype: PType,
     literal: &Literal,

@@ -9,7 +9,7 @@ ghost use Rattle.vortex_expressions.specs.RowLaws.{TextsMeanTheirRows};
 
 use vortex_logical_calls::laws::{
     bounds_go_by_order, comparisons_go_by_order, computations_are_exact, instants_elapse,
-    intervals_move, kinds_meet, values_are_aligned,
+    instants_move, intervals_move, kinds_meet, spans_compute, values_are_aligned,
 };
 
 /// The text of a tree over the columns of a scope means that tree.
@@ -35,9 +35,9 @@ pub fn text_is_read_back()
 /// means in each row what its operands mean there: dates, timestamps, decimals and floats in their
 /// order, and exact sums, differences and products. Operands are as they become next to each other: a
 /// whole number next to a float is the nearest float. An interval moves a date or a timestamp by its
-/// days or its microseconds, and the difference of two timestamps is that of their microseconds. Two
-/// literal numbers, one of them with a point, are one number. A function that chooses among values or compares
-/// them, as IN, CASE, `coalesce` and `greatest`, is called on integers, each of which stores in the
+/// days or its microseconds, and the difference of two timestamps is that of their microseconds; so
+/// are sums of such, and whole numbers times them. Two literal numbers, one of them with a point, are
+/// one number. A function that chooses among values or compares them, as IN, CASE, `coalesce` and `greatest`, is called on integers, each of which stores in the
 /// kind in which the values meet what its value means; what is chosen has that kind.
 pub fn texts_mean_their_rows()
     ensures { (scope : Fields) (kinds : List Kind) → TextsMeanTheirRows scope kinds }
@@ -49,4 +49,6 @@ pub fn texts_mean_their_rows()
     instants_elapse();
     values_are_aligned();
     kinds_meet();
+    spans_compute();
+    instants_move();
 }

@@ -40,6 +40,7 @@ mod predicates;
 pub mod quotes;
 pub mod read;
 pub mod refusal;
+mod spans;
 mod spelled;
 mod syntax_texts;
 mod tasks;

@@ -42,7 +42,8 @@ const INTERVAL_TEXTS: &str =
 /// Where an interval may be.
 pub(crate) const INTERVAL_PLACES: &str =
     "an interval is added to a timestamp or taken from one, or from a date if it has whole days; a \
-     difference of timestamps is compared with one, and extract(epoch from a - b) are its seconds";
+     whole number times one is one, too, but of months (add_months(day, n)); a difference of \
+     timestamps is compared with one, and extract(epoch from a - b) are its seconds";
 
 /// The literal that has no value in the type after it.
 pub(crate) fn push_untyped(out: &mut String, name: &[u8], items: &[Item]) -> VortexResult<()> {

@@ -28,7 +28,10 @@ use Rattle.vortex_logical_calls.specs.Outcomes.{Outcome, made, refused, untyped,
 use Rattle.vortex_logical_calls.specs.Calls.{Tree, Lowered, meaning, typed, call_on}
 use Rattle.vortex_logical_calls.specs.Intervals.{moved, moved_by, shifted}
 use Rattle.vortex_logical_calls.specs.RowLaws.{as_whole, is_sum, ShiftedRows, IntervalsMove}
-use Rattle.vortex_logical_calls.specs.RowLaws.{InstantsElapse}
+use Rattle.vortex_logical_calls.specs.RowLaws.{InstantsElapse, is_quotient, SpansCompute}
+use Rattle.vortex_logical_calls.specs.RowLaws.{InstantsMove}
+use Rattle.vortex_logical_calls.specs.Spans.{spans_computed, instant}
+use Rattle.vortex_logical_calls.specs.Computation.{of_operand}
 use Rattle.vortex_logical_calls.specs.Conversions.{conversion_beside, converted}
 use Rattle.vortex_logical_calls.proofs.RowMeanings.{made_is, after_is, typed_made}
 
@@ -123,6 +126,49 @@ shifts o x w z h e = by x.operand refl
     by (Of Timestamp) k = moved_rows o x w z z I64 h (ap (λ b. moved_by b z) k) e
     by (Of Date) k = days (int_eq (int_rem z (pos 86_400_000_000)) (pos 0)) refl k
     by a k = none a k refl
+
+-- products, too, are of whole numbers
+exact_result : (o : NumericOperator) (p : PType) → is_quotient o ≡ false
+    → result_operand o (Whole p) (Whole p) ≡ Some (Whole p)
+exact_result numeric.Add p h = same_wholes p
+exact_result numeric.Sub p h = same_wholes p
+exact_result numeric.Mul p h = same_wholes p
+exact_result numeric.Div p h = cc
+
+exact_tree : (o : NumericOperator) (p : PType) (t u : Tree) → is_quotient o ≡ false
+    → operated (arithmetic_operator o) t u ≡ computed_tree o (as_whole p t) (as_whole p u)
+exact_tree numeric.Add p t u h = refl
+exact_tree numeric.Sub p t u h = refl
+exact_tree numeric.Mul p t u h = refl
+exact_tree numeric.Div p t u h = cc
+
+-- lengths of time, and counts of them
+pub spans : SpansCompute
+spans o t u v h e = λ k g.
+    computes meaning o (as_whole I64 t) (as_whole I64 u) (as_whole I64 v) (ptype_refl I64)
+    (exact_result o I64 h) k g (call_made o t u v e ∙ exact_tree o I64 t u h)
+
+sums_are_exact : (o : NumericOperator) → is_sum o ≡ true → is_quotient o ≡ false
+sums_are_exact numeric.Add h = refl
+sums_are_exact numeric.Sub h = refl
+sums_are_exact numeric.Mul h = cc
+sums_are_exact numeric.Div h = cc
+
+-- an instant that such a length moves
+pub instants : InstantsMove
+instants o x w t h e =
+    let from = after_is (instant x) (λ a. of_operand (Of Timestamp) (spans_computed o a.tree t)) w e in
+    let one = after_is (spans_computed o from.a.tree t) (λ u. made (lowered u (Of Timestamp))) w
+    from.then in
+    let same = made_is (lowered one.a (Of Timestamp)) w one.then in
+    let tree : one.a ≡ w.tree = ap (λ y. y.tree) same in
+    record {
+      a = from.a;
+      value = from.first;
+      kind = ap (λ y. y.operand) (sym same);
+      rows = spans o from.a.tree t w.tree (sums_are_exact o h)
+          (one.first ∙ ap (λ u. made u) tree);
+    }
 
 -- how long it is from one to another
 pub elapses : InstantsElapse

@@ -7,4 +7,5 @@ pub mod Computation
 pub mod Literals
 pub mod Alignment
 pub mod Intervals
+pub mod Spans
 pub mod RowLaws

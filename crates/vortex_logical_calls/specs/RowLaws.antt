@@ -2,14 +2,14 @@
 -- become next to each other.
 use Rattle.std.specs.Prelude.{◌≡◌, ◌≤◌, ℤ, Some, Bool, true, false, is_some}
 use Rattle.vortex_errors.specs.declared.error.NumericOperator.{NumericOperator}
-use Rattle.vortex_errors.specs.declared.error.NumericOperator.TheVariants.{Add, Sub}
+use Rattle.vortex_errors.specs.declared.error.NumericOperator.TheVariants.{Add, Sub, Div}
 use Rattle.vortex_types.specs.declared.dtype.PType.{PType}
 use Rattle.vortex_types.specs.declared.dtype.PType.TheVariants.{I64}
 use Rattle.vortex_columns.specs.ScalarOf.{int_scalar}
 use Rattle.vortex_interface.specs.Trees.{constant}
 use Rattle.vortex_operators.specs.declared.between.BetweenOptions.{BetweenOptions}
 use Rattle.vortex_operators.specs.declared.operators.CompareOperator.{CompareOperator}
-use Rattle.vortex_logical.specs.declared.kind.Kind.TheVariants.{Decimal}
+use Rattle.vortex_logical.specs.declared.kind.Kind.TheVariants.{Decimal, Timestamp}
 use Rattle.vortex_logical.specs.declared.operand.Operand.{Operand}
 use Rattle.vortex_logical.specs.declared.operand.Operand.TheVariants.{Whole, Of}
 use Rattle.vortex_logical.specs.CommonKinds.{common_operand}
@@ -28,6 +28,7 @@ use Rattle.vortex_logical_calls.specs.Comparison.{compared}
 use Rattle.vortex_logical_calls.specs.Bounds.{between}
 use Rattle.vortex_logical_calls.specs.Computation.{computed, goes_by_floats}
 use Rattle.vortex_logical_calls.specs.Intervals.{moved_by, shifted, elapsed}
+use Rattle.vortex_logical_calls.specs.Spans.{spans_computed, instant, moved_instant}
 
 -- a is what x becomes next to y
 abbrev pub IsBeside : Lowered → Lowered → Lowered → Type 0
@@ -141,3 +142,30 @@ pub record ElapsedRows (x y : Lowered) (t : Tree) : Type 0 where
 
 abbrev pub InstantsElapse : Type 0
 InstantsElapse = (x y : Lowered) (t : Tree) → elapsed x y ≡ made t → ElapsedRows x y t
+
+abbrev pub is_quotient : NumericOperator → Bool
+is_quotient Div = true
+is_quotient o = false
+
+-- lengths in microseconds and counts, computed as whole numbers
+abbrev pub SpanRows : NumericOperator → Tree → Tree → Tree → Type 0
+SpanRows o t u v =
+    IsTyped meaning (as_whole I64 t) → IsTyped meaning (as_whole I64 u)
+    → Computes meaning o (as_whole I64 t) (as_whole I64 u) (as_whole I64 v)
+
+abbrev pub SpansCompute : Type 0
+SpansCompute =
+    (o : NumericOperator) (t u v : Tree) → is_quotient o ≡ false → spans_computed o t u ≡ made v
+    → SpanRows o t u v
+
+-- an instant moved by microseconds: the sum or the difference of those since 1970 and these
+pub record MovedInstantRows (o : NumericOperator) (x : Lowered) (t : Tree) (w : Lowered) : Type 0 where
+  pub a : Lowered
+  pub value : instant x ≡ made a
+  pub kind : w.operand ≡ Of Timestamp
+  pub rows : SpanRows o a.tree t w.tree
+
+abbrev pub InstantsMove : Type 0
+InstantsMove =
+    (o : NumericOperator) (x w : Lowered) (t : Tree) → is_sum o ≡ true
+    → moved_instant o x t ≡ made w → MovedInstantRows o x t w

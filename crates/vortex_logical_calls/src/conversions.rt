@@ -154,7 +154,7 @@ fn integer_function(operand: &Operand, to: PType) -> Option<Standard>
 }
 
 /// A whole number in that type; the fault `OutOfRange` in rows whose number the type does not have.
-fn as_integer(
+pub(crate) fn as_integer(
     alloc: Global,
     ptype: PType,
     item: Lowered<Standard>,
@@ -168,7 +168,7 @@ fn as_integer(
 
 /// A date as the instant of its midnight; the fault `IntegerOutOfRange` in rows where 64 bits do not
 /// hold its microseconds.
-fn as_instant(alloc: Global, item: Lowered<Standard>) -> Result<Lowered<Standard>, Refusal>
+pub(crate) fn as_instant(alloc: Global, item: Lowered<Standard>) -> Result<Lowered<Standard>, Refusal>
     ensures { Makes (λ x. lowered x.tree x.operand) result
         (specs.as_instant (lowered item.tree item.operand)) }
 {

@@ -129,7 +129,7 @@ fn moved_by(operand: &Operand, micros: i64) -> Option<Scalar>
     }
 }
 
-fn operator_of(operator: NumericOperator) -> Operator
+pub(crate) fn operator_of(operator: NumericOperator) -> Operator
     ensures { result ≡ arithmetic_operator operator }
 {
     match operator {

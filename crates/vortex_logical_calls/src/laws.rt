@@ -3,7 +3,7 @@
 //! call itself.
 ghost use Rattle.vortex_logical_calls.specs.RowLaws.{ComparisonsGoByOrder, BoundsGoByOrder};
 ghost use Rattle.vortex_logical_calls.specs.RowLaws.{ComputationsAreExact, IntervalsMove};
-ghost use Rattle.vortex_logical_calls.specs.RowLaws.{InstantsElapse};
+ghost use Rattle.vortex_logical_calls.specs.RowLaws.{InstantsElapse, InstantsMove, SpansCompute};
 ghost use Rattle.vortex_logical_calls.specs.RowLaws.{ValuesAreAligned, KindsMeet};
 
 use vortex_logical::decimals::rescaling_orders;
@@ -54,4 +54,18 @@ pub fn intervals_move()
 #[tactic(auto, using(crate::proofs::ShiftedMeanings::elapses))]
 pub fn instants_elapse()
     ensures { InstantsElapse }
+{}
+
+/// Sums and differences of lengths in microseconds, and the product of one and a count, are those of
+/// whole numbers.
+#[tactic(auto, using(crate::proofs::ShiftedMeanings::spans))]
+pub fn spans_compute()
+    ensures { SpansCompute }
+{}
+
+/// A timestamp moved by microseconds is the sum, or the difference, of those since 1970 and these; a
+/// date begins at its midnight.
+#[tactic(auto, using(crate::proofs::ShiftedMeanings::instants))]
+pub fn instants_move()
+    ensures { InstantsMove }
 {}
