@@ -168,7 +168,10 @@ pub(crate) fn as_integer(
 
 /// A date as the instant of its midnight; the fault `IntegerOutOfRange` in rows where 64 bits do not
 /// hold its microseconds.
-pub(crate) fn as_instant(alloc: Global, item: Lowered<Standard>) -> Result<Lowered<Standard>, Refusal>
+pub(crate) fn as_instant(
+    alloc: Global,
+    item: Lowered<Standard>,
+) -> Result<Lowered<Standard>, Refusal>
     ensures { Makes (λ x. lowered x.tree x.operand) result
         (specs.as_instant (lowered item.tree item.operand)) }
 {
