@@ -12,7 +12,7 @@ use Rattle.regex.specs.declared.string.captures.Captures.{Captures}
 use Rattle.vortex_sql_patterns.specs.Items.{captured}
 use Rattle.vortex_sql_patterns.specs.PatternFunctions.{spanned}
 use Rattle.vortex_sql_patterns.specs.Replacing.{group_in, seen}
-use Rattle.vortex_sql_patterns.specs.Wanted.{span_by}
+use Rattle.vortex_sql_patterns.specs.Lookups.{span_by}
 
 group_zero : (hay : List ℕ) (whole : ℕ × ℕ) (cells : List ℕ)
     → group_span true hay whole cells 0 ≡ Some whole

@@ -21,10 +21,10 @@ use Rattle.vortex_sql_patterns.specs.Patterns.{pattern_in}
 use Rattle.vortex_sql_patterns.specs.PatternFunctions.{answered, answer_to, first_group, outcome_of}
 use Rattle.vortex_sql_patterns.specs.PatternFunctions.{read_by}
 use Rattle.vortex_sql_patterns.specs.RegexpExtract.{extract, extract_asks, extract_of}
-use Rattle.vortex_sql_patterns.specs.Wanted.{answer_for, function_of, group_for, wanted_in, wanted_of}
+use Rattle.vortex_sql_patterns.specs.Lookups.{answer_for, function_of, group_for, lookup_in, lookup_of}
 use Rattle.vortex_sql_patterns.specs.declared.functions.PatternFunction.{PatternFunction}
-use Rattle.vortex_sql_patterns.specs.declared.wanted.Wanted.{Wanted}
-use Rattle.vortex_sql_patterns.specs.declared.wanted.Wanted.TheVariants.{Function, Group}
+use Rattle.vortex_sql_patterns.specs.declared.lookups.Lookup.{Lookup}
+use Rattle.vortex_sql_patterns.specs.declared.lookups.Lookup.TheVariants.{Function, Group}
 
 either : (b : Bool) → cond b (gives null) (gives null) ≡ gives null
 either true = refl
@@ -35,8 +35,8 @@ none_of_map g None e = refl
 none_of_map g (Some a) e = cc
 
 -- a row of a text and a pattern, and one of a text, a pattern and a number
-pub of_asked : (w : Wanted) (vs : List Value) (bs ps : List ℕ) (n : ℤ)
-    → wanted_in w vs ≡ Some (bs, ps, n) → wanted_of w vs ≡ answer_for w bs ps n
+pub of_asked : (w : Lookup) (vs : List Value) (bs ps : List ℕ) (n : ℤ)
+    → lookup_in w vs ≡ Some (bs, ps, n) → lookup_of w vs ≡ answer_for w bs ps n
 of_asked (Function f) (text bs ∷ text ps ∷ []) cs qs n e =
     ap (λ (x : List ℕ × List ℕ × ℤ). answer_to f x.0 x.1) (same_Some _ _ e)
 of_asked (Function f) (text bs ∷ w ∷ []) cs qs n e = cc
@@ -55,7 +55,7 @@ of_asked Group (v ∷ []) cs qs n e = cc
 of_asked Group [] cs qs n e = cc
 
 -- any other row
-pub of_null : (w : Wanted) (vs : List Value) → wanted_in w vs ≡ None → wanted_of w vs ≡ gives null
+pub of_null : (w : Lookup) (vs : List Value) → lookup_in w vs ≡ None → lookup_of w vs ≡ gives null
 of_null (Function f) vs e =
     ap (λ (o : Option (List ℕ × List ℕ)).
     cond (list_any is_null vs) (gives null) (on_one (λ x. answer_to f x.0 x.1) o))
@@ -66,19 +66,19 @@ of_null Group vs e =
     cond (list_any is_null vs) (gives null) (on_one (λ x. extract x.0 x.1 x.2) o)) e
     ∙ either (list_any is_null vs)
 
-module _ (w : Wanted) where
+module _ (w : Lookup) where
   -- a text that is no pattern is a fault of its row
   pub no_pattern_at : (cs : List ColumnView) (n i : ℕ) (bs ps : List ℕ) (k : ℤ) (e : VortexError)
-      → i < n → wanted_in w (values_at cs i) ≡ Some (bs, ps, k)
+      → i < n → lookup_in w (values_at cs i) ≡ Some (bs, ps, k)
       → UnlessMemory (λ x. (pattern_in (read_by (function_of w) ps) ≡ None)
       × (x ≡ Custom (fault_number NoPattern))) e
-      → UnlessMemory (IsCallFault (λ ts. wanted_of w) cs n) e
+      → UnlessMemory (IsCallFault (λ ts. lookup_of w) cs n) e
   no_pattern_at cs n i bs ps k e lt row h =
       made_fault (λ x. (pattern_in (read_by (function_of w) ps) ≡ None)
       × (x ≡ Custom (fault_number NoPattern)))
-      (IsCallFault (λ ts. wanted_of w) cs n)
+      (IsCallFault (λ ts. lookup_of w) cs n)
       (λ x no.
-      fault_at (wanted_of w) cs n i x lt (
+      fault_at (lookup_of w) cs n i x lt (
         custom (fault_number NoPattern),
         of_asked w (values_at cs i) bs ps k row
             ∙ ap (answered (function_of w)
@@ -89,10 +89,10 @@ module _ (w : Wanted) where
 
   -- a fault of a row is one of the call
   pub refused_at : (cs : List ColumnView) (n i : ℕ) (o : Outcome) (e : VortexError) → i < n
-      → wanted_of w (values_at cs i) ≡ o → RefusesRow o e
-      → UnlessMemory (IsCallFault (λ ts. wanted_of w) cs n) e
+      → lookup_of w (values_at cs i) ≡ o → RefusesRow o e
+      → UnlessMemory (IsCallFault (λ ts. lookup_of w) cs n) e
   refused_at cs n i o e lt same h =
-      fault_at (wanted_of w) cs n i e lt (subst (λ x. RefusesRow x e) (sym same) h)
+      fault_at (lookup_of w) cs n i e lt (subst (λ x. RefusesRow x e) (sym same) h)
 
 -- two texts with the same bytes
 pub same_bytes : (xs ys : List ℕ) (b : Bool) → b ≡ pointwise nat_eq xs ys → b ≡ true → xs ≡ ys

@@ -5,4 +5,4 @@ pub mod Patterns
 pub mod RegexpExtract
 pub mod RegexpReplace
 pub mod Replacing
-pub mod Wanted
+pub mod Lookups

@@ -5,11 +5,11 @@ ghost use Rattle.vortex_sql_rows.specs.AnsweredRows.{AnswersRow};
 ghost use Rattle.vortex_sql_texts.specs.MadeTexts.{text_or_fault};
 ghost use Rattle.vortex_sql_patterns.specs.PatternFunctions.{asked, first_group, group_at, part, span_at};
 ghost use Rattle.vortex_sql_patterns.specs.PatternFunctions.{IsReadBy};
-ghost use Rattle.vortex_sql_patterns.specs.Wanted.{answer_for, function_of, span_by};
+ghost use Rattle.vortex_sql_patterns.specs.Lookups.{answer_for, function_of, span_by};
 
 use crate::functions::PatternFunction;
+use crate::lookups::{GroupNumber, Lookup};
 use crate::searches::{count_matches, place};
-use crate::wanted::{GroupNumber, Wanted};
 use regex::{Captures, Match, Matcher};
 use vortex_columns::{Cell, PType, VortexError, VortexResult};
 use vortex_sql_rows::cells::int_or_fault;
@@ -106,19 +106,19 @@ fn asked<'a>(
 /// What is asked of a text, by the pattern that was compiled, by its first group, and by the number
 /// of the row.
 pub(crate) fn answer<'a>(
-    wanted: Wanted,
+    lookup: Lookup,
     first: GroupNumber,
     matcher: &mut Matcher<'_>,
     text: &'a str,
     number: GroupNumber,
 ) -> VortexResult<Cell<'a>>
     ensures same { matcher_pattern matcher.new ≡ matcher_pattern matcher.old }
-    ensures value { (ps : List ℕ) → IsReadBy (function_of wanted) ps (matcher_pattern matcher.old)
-        → first.number ≡ first_group (function_of wanted) ps
-        → AnswersRow (answer_for wanted text.now ps number.number) result }
+    ensures value { (ps : List ℕ) → IsReadBy (function_of lookup) ps (matcher_pattern matcher.old)
+        → first.number ≡ first_group (function_of lookup) ps
+        → AnswersRow (answer_for lookup text.now ps number.number) result }
 {
-    match wanted {
-        Wanted::Function(function) => asked(function, matcher, text, first),
-        Wanted::Group => asked(PatternFunction::Part, matcher, text, number),
+    match lookup {
+        Lookup::Function(function) => asked(function, matcher, text, first),
+        Lookup::Group => asked(PatternFunction::Part, matcher, text, number),
     }
 }

@@ -7,10 +7,10 @@ ghost use Rattle.vortex_sql_rows.specs.declared.faults.RowFault.TheVariants.{NoP
 ghost use Rattle.vortex_sql_rows.specs.Faults.{fault_number};
 ghost use Rattle.vortex_sql_patterns.specs.Patterns.{groups_in, pattern_in, IsPatternOf};
 ghost use Rattle.vortex_sql_patterns.specs.PatternFunctions.{first_of, in_any_case, read_by, IsReadBy};
-ghost use Rattle.vortex_sql_patterns.specs.Wanted.{function_of};
+ghost use Rattle.vortex_sql_patterns.specs.Lookups.{function_of};
 
 use crate::functions::PatternFunction;
-use crate::wanted::{GroupNumber, Wanted};
+use crate::lookups::{GroupNumber, Lookup};
 use regex::{Error, Regex};
 use std::alloc::Global;
 use vortex_columns::{VortexError, VortexResult};
@@ -61,17 +61,17 @@ pub(crate) fn compile_by(
 }
 
 /// Compiles the pattern of rows that ask for this; E10 where there is none.
-pub(crate) fn compile_for(alloc: Global, wanted: Wanted, pattern: &str) -> VortexResult<Regex>
+pub(crate) fn compile_for(alloc: Global, lookup: Lookup, pattern: &str) -> VortexResult<Regex>
     ensures value { Answers result
-        (λ r. IsReadBy (function_of wanted) pattern.now (regex_pattern r))
-        (λ e. (pattern_in (read_by (function_of wanted) pattern.now) ≡ None)
+        (λ r. IsReadBy (function_of lookup) pattern.now (regex_pattern r))
+        (λ e. (pattern_in (read_by (function_of lookup) pattern.now) ≡ None)
         × (e ≡ Custom (fault_number NoPattern))) }
     ensures groups { IfOk result (λ r. length (regex_names r)
-        ≡ groups_in (read_by (function_of wanted) pattern.now)) }
+        ≡ groups_in (read_by (function_of lookup) pattern.now)) }
 {
-    match wanted {
-        Wanted::Function(function) => compile_by(alloc, function, pattern),
-        Wanted::Group => compile(alloc, pattern),
+    match lookup {
+        Lookup::Function(function) => compile_by(alloc, function, pattern),
+        Lookup::Group => compile(alloc, pattern),
     }
 }
 

@@ -9,8 +9,8 @@ ghost use Rattle.vortex_sql_rows.specs.Row.{row_type, row_means};
 ghost use Rattle.vortex_sql_rows.specs.Signatures.{Describes};
 ghost use Rattle.vortex_sql_patterns.specs.PatternFunctions.{gives_of, nulls_of, pattern_row};
 
+use crate::lookups::Lookup;
 use crate::matched::matched_cells;
-use crate::wanted::Wanted;
 use std::alloc::Global;
 use vortex_columns::{Arity, Column, DType, ExecutionCtx, PType, VortexResult};
 use vortex_interface::ExecutionArgs;
@@ -134,7 +134,7 @@ impl PatternFunction {
         typed_inputs(args)?;
         let types = input_types(alloc, args)?;
         let dtype = self.return_dtype(alloc, &types)?;
-        let rows = matched_cells(alloc, Wanted::Function(*self), args)?;
+        let rows = matched_cells(alloc, Lookup::Function(*self), args)?;
         column_of(alloc, &dtype, &rows)
     }
 }

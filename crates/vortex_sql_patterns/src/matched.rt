@@ -7,11 +7,11 @@ ghost use Rattle.vortex_interface.specs.Outcomes.{values_at, IsCallFault};
 ghost use Rattle.vortex_sql_calls.specs.Calls.{AnsweredRows};
 ghost use Rattle.vortex_sql_rows.specs.AnsweredRows.{AnswersRow};
 ghost use Rattle.vortex_sql_patterns.specs.PatternFunctions.{first_group, IsReadBy};
-ghost use Rattle.vortex_sql_patterns.specs.Wanted.{function_of, wanted_in, wanted_of};
+ghost use Rattle.vortex_sql_patterns.specs.Lookups.{function_of, lookup_in, lookup_of};
 
 use crate::answers::answer;
 use crate::compiled::{compile_for, first_group};
-use crate::wanted::{GroupNumber, Wanted, wanted_in};
+use crate::lookups::{GroupNumber, Lookup, lookup_in};
 use regex::Matcher;
 use std::alloc::Global;
 use vortex_columns::{Cell, VortexResult};
@@ -20,23 +20,23 @@ use vortex_sql_calls::call::read_cells;
 
 /// The result of a row by a compiled pattern; none where the row has another pattern.
 fn answer_by<'a>(
-    wanted: Wanted,
+    lookup: Lookup,
     first: GroupNumber,
     matcher: &mut Matcher<'_>,
     pattern: &str,
     cells: &[Cell<'a>],
 ) -> Option<VortexResult<Cell<'a>>>
-    requires compiled { IsReadBy (function_of wanted) pattern.now (matcher_pattern matcher.old) }
-    requires first { first.number ≡ first_group (function_of wanted) pattern.now }
+    requires compiled { IsReadBy (function_of lookup) pattern.now (matcher_pattern matcher.old) }
+    requires first { first.number ≡ first_group (function_of lookup) pattern.now }
     ensures same { matcher_pattern matcher.new ≡ matcher_pattern matcher.old }
     ensures value { IfSome result
-        (AnswersRow (wanted_of wanted (map cell_value cells.now))) }
+        (AnswersRow (lookup_of lookup (map cell_value cells.now))) }
 {
-    let Some((text, other, number)) = wanted_in(wanted, cells) else {
+    let Some((text, other, number)) = lookup_in(lookup, cells) else {
         return Some(Ok(Cell::Null));
     };
     if pattern == other {
-        Some(answer(wanted, first, matcher, text, number))
+        Some(answer(lookup, first, matcher, text, number))
     } else {
         None
     }
@@ -46,33 +46,33 @@ fn answer_by<'a>(
 /// rows behind it up to one with another pattern. The pattern is compiled once.
 fn push_run<'a, A: ExecutionArgs>(
     alloc: Global,
-    wanted: Wanted,
+    lookup: Lookup,
     args: &'a A,
     row: (&'a str, &'a str, GroupNumber),
     rows: &mut Vec<Cell<'a>>,
 ) -> VortexResult<()>
     requires below { length rows.old.items < A.rows args.now }
-    requires next { wanted_in wanted (values_at (A.inputs args.now) (length rows.old.items))
+    requires next { lookup_in lookup (values_at (A.inputs args.now) (length rows.old.items))
         ≡ Some (row.0.now, row.1.now, row.2.number) }
-    requires answered { AnsweredRows (wanted_of wanted) (A.inputs args.now)
+    requires answered { AnsweredRows (lookup_of lookup) (A.inputs args.now)
         (length rows.old.items) rows.old.items }
     ensures answered { Answers result
-        (λ _. AnsweredRows (wanted_of wanted) (A.inputs args.now) (length rows.new.items)
+        (λ _. AnsweredRows (lookup_of lookup) (A.inputs args.now) (length rows.new.items)
         rows.new.items)
-        (IsCallFault (λ ts. wanted_of wanted) (A.inputs args.now) (A.rows args.now)) }
+        (IsCallFault (λ ts. lookup_of lookup) (A.inputs args.now) (A.rows args.now)) }
     ensures more { IfOk result (λ _. length rows.old.items < length rows.new.items) }
     ensures most { IfOk result (λ _. length rows.new.items ≤ A.rows args.now) }
 {
     let (text, pattern, number) = row;
-    let regex = compile_for(alloc, wanted, pattern)?;
+    let regex = compile_for(alloc, lookup, pattern)?;
     let first = first_group(&regex);
     let mut matcher = regex.matcher(alloc)?;
     let mut cells = Vec::new(alloc);
-    let made = answer(wanted, first, &mut matcher, text, number)?;
+    let made = answer(lookup, first, &mut matcher, text, number)?;
     rows.push(made)?;
     for i in rows.len()..args.row_count() {
         read_cells(args, i, &mut cells)?;
-        let Some(next) = answer_by(wanted, first, &mut matcher, pattern, &cells) else {
+        let Some(next) = answer_by(lookup, first, &mut matcher, pattern, &cells) else {
             return Ok(());
         };
         let cell = next?;
@@ -84,20 +84,20 @@ fn push_run<'a, A: ExecutionArgs>(
 /// The result of each row.
 pub(crate) fn matched_cells<'a, A: ExecutionArgs>(
     alloc: Global,
-    wanted: Wanted,
+    lookup: Lookup,
     args: &'a A,
 ) -> VortexResult<Vec<Cell<'a>>>
     ensures { Answers result
-        (λ rows. AnsweredRows (wanted_of wanted) (A.inputs args.now) (A.rows args.now)
+        (λ rows. AnsweredRows (lookup_of lookup) (A.inputs args.now) (A.rows args.now)
         rows.items)
-        (IsCallFault (λ ts. wanted_of wanted) (A.inputs args.now) (A.rows args.now)) }
+        (IsCallFault (λ ts. lookup_of lookup) (A.inputs args.now) (A.rows args.now)) }
 {
     let mut rows = Vec::new(alloc);
     let mut cells = Vec::new(alloc);
     'rows: while rows.len() < args.row_count() {
         read_cells(args, rows.len(), &mut cells)?;
-        match wanted_in(wanted, &cells) {
-            Some(row) => push_run(alloc, wanted, args, row, &mut rows)?,
+        match lookup_in(lookup, &cells) {
+            Some(row) => push_run(alloc, lookup, args, row, &mut rows)?,
             None => rows.push(Cell::Null)?,
         }
     }

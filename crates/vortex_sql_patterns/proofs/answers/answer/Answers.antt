@@ -3,7 +3,7 @@ use Rattle.regex.specs.Strings.{matcher_pattern}
 use Rattle.vortex_sql_rows.specs.AnsweredRows.{AnswersRow}
 use Rattle.vortex_sql_patterns.specs.Patterns.{pattern_in}
 use Rattle.vortex_sql_patterns.specs.PatternFunctions.{answered, first_group, read_by, IsReadBy}
-use Rattle.vortex_sql_patterns.specs.Wanted.{answer_for, function_of}
+use Rattle.vortex_sql_patterns.specs.Lookups.{answer_for, function_of}
 use Rattle.vortex_sql_patterns.specs.declared.functions.PatternFunction.TheVariants.{Part}
 use Rattle.vortex_sql_patterns.proofs.SameMatches.{same_answer}
 use Rattle.vortex_sql_patterns.proofs.answers.answer.Goals as goal

@@ -1,17 +1,17 @@
 use Rattle.std.proofs.Common.{ap, sym, ◌∙◌, map, subst}
 use Rattle.vortex_columns.specs.Cells.{cell_value}
 use Rattle.vortex_sql_rows.specs.AnsweredRows.{AnswersRow}
-use Rattle.vortex_sql_patterns.specs.Wanted.{answer_for}
+use Rattle.vortex_sql_patterns.specs.Lookups.{answer_for}
 use Rattle.vortex_sql_patterns.proofs.Rows.{of_asked, of_null, same_bytes}
 use Rattle.vortex_sql_patterns.proofs.matched.answer_by.Goals as goal
 
 pub returns-in_default-clause-value : goal.returns-in_default-clause-value
 returns-in_default-clause-value c =
-    of_null c.args.wanted (map cell_value c.args.cells.now) (sym c.in_default.ensures)
+    of_null c.args.lookup (map cell_value c.args.cells.now) (sym c.in_default.ensures)
 
 pub returns-then-eq-clause-value : goal.returns-then-eq-clause-value
 returns-then-eq-clause-value c =
-    let w = c.args.wanted in
+    let w = c.args.lookup in
     let bs = c.in-Some.text.now in
     let n = c.in-Some.number.number in
     let other = c.in-Some.other.now in

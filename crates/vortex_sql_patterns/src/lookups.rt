@@ -3,7 +3,7 @@ ghost use Rattle.std.specs.Prelude.{◌≡◌, map, option_map};
 ghost use Rattle.vortex_columns.specs.Cells.{cell_value};
 ghost use Rattle.vortex_sql_rows.specs.Shapes as shapes;
 ghost use Rattle.vortex_sql_patterns.specs.RegexpExtract.{all_three, extract_asks};
-ghost use Rattle.vortex_sql_patterns.specs.Wanted.{wanted_in};
+ghost use Rattle.vortex_sql_patterns.specs.Lookups.{lookup_in};
 
 use crate::functions::PatternFunction;
 use vortex_columns::Cell;
@@ -11,7 +11,7 @@ use vortex_sql_rows::cells::{int_in, text_in};
 
 /// What the rows of a call ask for.
 #[derive(Clone, Copy)]
-pub(crate) enum Wanted {
+pub(crate) enum Lookup {
     /// A function of a text and a pattern.
     Function(PatternFunction),
     /// What the group of a number takes, of a text and a pattern.
@@ -76,18 +76,18 @@ fn three_in<'a>(cells: &[Cell<'a>]) -> Option<(&'a str, &'a str, GroupNumber)>
 }
 
 /// The text, the pattern and the number of a row, which is 0 where it has none.
-pub(crate) fn wanted_in<'a>(
-    wanted: Wanted,
+pub(crate) fn lookup_in<'a>(
+    lookup: Lookup,
     cells: &[Cell<'a>],
 ) -> Option<(&'a str, &'a str, GroupNumber)>
     ensures { option_map (λ x. (x.0.now, x.1.now, x.2.number)) result
-        ≡ wanted_in wanted (map cell_value cells.now) }
+        ≡ lookup_in lookup (map cell_value cells.now) }
 {
-    match wanted {
-        Wanted::Function(_) => match both_texts(cells) {
+    match lookup {
+        Lookup::Function(_) => match both_texts(cells) {
             Some((text, pattern)) => Some((text, pattern, GroupNumber { number: 0 })),
             None => None,
         },
-        Wanted::Group => three_in(cells),
+        Lookup::Group => three_in(cells),
     }
 }

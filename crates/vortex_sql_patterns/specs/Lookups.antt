@@ -10,25 +10,25 @@ use Rattle.vortex_sql_patterns.specs.PatternFunctions.{answered, first_group, ou
 use Rattle.vortex_sql_patterns.specs.RegexpExtract.{extract_asks, extract_of}
 use Rattle.vortex_sql_patterns.specs.declared.functions.PatternFunction.{PatternFunction}
 use Rattle.vortex_sql_patterns.specs.declared.functions.PatternFunction.TheVariants as function
-use Rattle.vortex_sql_patterns.specs.declared.wanted.Wanted.{Wanted}
-use Rattle.vortex_sql_patterns.specs.declared.wanted.Wanted.TheVariants.{Function, Group}
+use Rattle.vortex_sql_patterns.specs.declared.lookups.Lookup.{Lookup}
+use Rattle.vortex_sql_patterns.specs.declared.lookups.Lookup.TheVariants.{Function, Group}
 
 -- the outcome of a row
-abbrev pub wanted_of : Wanted → List Value → Outcome
-wanted_of (Function f) = outcome_of f
-wanted_of Group = extract_of
+abbrev pub lookup_of : Lookup → List Value → Outcome
+lookup_of (Function f) = outcome_of f
+lookup_of Group = extract_of
 
 -- the text, the pattern and the number of a row, which is 0 where it has none
-abbrev pub wanted_in : Wanted → List Value → Option (List ℕ × List ℕ × ℤ)
-wanted_in (Function f) vs = option_map (λ x. (x.0, x.1, pos 0)) (both_texts vs)
-wanted_in Group vs = extract_asks vs
+abbrev pub lookup_in : Lookup → List Value → Option (List ℕ × List ℕ × ℤ)
+lookup_in (Function f) vs = option_map (λ x. (x.0, x.1, pos 0)) (both_texts vs)
+lookup_in Group vs = extract_asks vs
 
-abbrev pub function_of : Wanted → PatternFunction
+abbrev pub function_of : Lookup → PatternFunction
 function_of (Function f) = f
 function_of Group = function.Part
 
 -- the group that is asked for, by the first group of the pattern and the number of the row
-abbrev pub group_for : Wanted → ℤ → ℤ → ℤ
+abbrev pub group_for : Lookup → ℤ → ℤ → ℤ
 group_for (Function f) first n = first
 group_for Group first n = n
 
@@ -38,7 +38,7 @@ span_by (pos n) c = captures_span c n
 span_by (negsuc n) c = None
 
 -- by a text, a pattern and a number
-abbrev pub answer_for : Wanted → List ℕ → List ℕ → ℤ → Outcome
+abbrev pub answer_for : Lookup → List ℕ → List ℕ → ℤ → Outcome
 answer_for w bs ps n =
     answered (function_of w) (group_for w (first_group (function_of w) ps) n) bs
     (pattern_in (read_by (function_of w) ps))
