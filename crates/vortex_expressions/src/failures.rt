@@ -200,6 +200,9 @@ impl<'a> TextFailure<'a> {
         let (items, are_cases) = self.failing_items()?;
         let mut out = format!(in alloc; "E3 {name}: {found} takes {taken}, not ")?;
         self.push_given(&mut out, &items, are_cases)?;
+        if matches!(place, MismatchPlace::LikeInput) && items.iter().any(is_no_text) {
+            out.push_str("; n::text is n as a text")?;
+        }
         Ok(out)
     }
 

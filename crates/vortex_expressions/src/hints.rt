@@ -25,6 +25,9 @@ const POWERS: &str = "no powers: write a * a";
 const DISTANCES: &str =
     "write a - b for the days between dates, epoch(a) - epoch(b) for the seconds between timestamps";
 
+const COUNTED: &str =
+    "write datediff('day', a, b), or of months (year(b) - year(a)) * 12 + month(b) - month(a)";
+
 const FORMATTED: &str = "write s || t, with lpad(n::text, 3, '0') for a width";
 
 const SAFE: &str = "write try_cast(a as int)";
@@ -67,7 +70,7 @@ const BEFORE: [(&str, &[u8], &str); 7] = [
 ];
 
 /// Functions that other languages have.
-const FUNCTIONS: [(&str, &str); 77] = [
+const FUNCTIONS: [(&str, &str); 75] = [
     ("sum", AGGREGATES),
     ("count", AGGREGATES),
     ("avg", AGGREGATES),
@@ -105,10 +108,18 @@ const FUNCTIONS: [(&str, &str); 77] = [
     ("date_format", "write to_char(d, 'YYYY-MM-DD')"),
     ("str_to_date", "write to_date(s, 'DD/MM/YYYY')"),
     ("strptime", "write to_date(s, 'DD/MM/YYYY')"),
-    ("to_number", "write s::f64, or s::decimal(12,2)"),
-    ("datediff", DISTANCES),
-    ("date_diff", DISTANCES),
-    ("timestampdiff", DISTANCES),
+    (
+        "to_number",
+        "write s::f64, or replace(s, ',', '')::decimal(12,2)",
+    ),
+    ("datediff", COUNTED),
+    ("date_diff", COUNTED),
+    ("timestampdiff", COUNTED),
+    ("date_bin", "write date_trunc('hour', at)"),
+    (
+        "make_interval",
+        "write interval '10 years', or n * interval '1 day'",
+    ),
     (
         "make_timestamp",
         "write to_timestamp(s, 'YYYY-MM-DD HH24:MI:SS')",
@@ -117,10 +128,6 @@ const FUNCTIONS: [(&str, &str); 77] = [
     ("date_add", "write d + 3, or add_months(d, 3)"),
     ("date_sub", "write d - 3, or add_months(d, -3)"),
     ("dateadd", "write d + 3, or add_months(d, 3)"),
-    (
-        "last_day",
-        "write date_trunc('month', add_months(d, 1)) - 1",
-    ),
     ("regexp_matches", "write regexp_like(s, 'a+')"),
     ("regexp_match", "write regexp_substr(s, 'a+')"),
     ("safe_cast", SAFE),
@@ -128,9 +135,6 @@ const FUNCTIONS: [(&str, &str); 77] = [
     ("printf", FORMATTED),
     ("sprintf", FORMATTED),
     ("charindex", "write strpos(s, t)"),
-    ("contains", "write strpos(s, t) > 0"),
-    ("ends_with", "write right(s, 2) = 'ab'"),
-    ("endswith", "write right(s, 2) = 'ab'"),
     ("weekday", "write dow(d), from 0 for Sunday"),
     ("dayofweek", "write dow(d), from 0 for Sunday"),
     ("split", "write split_part(s, ',', 1)"),
@@ -156,7 +160,7 @@ const FUNCTIONS: [(&str, &str); 77] = [
     ("radians", "write x * 0.017453292519943295"),
     ("degrees", "write x * 57.29577951308232"),
     ("pi", "write 3.141592653589793"),
-    ("months_between", DISTANCES),
+    ("months_between", COUNTED),
 ];
 
 fn told_of(words: &[(&'static str, &'static str)], word: &[u8]) -> &'static str {
@@ -237,7 +241,7 @@ fn told_of_signs(before: &[u8], behind: &[u8]) -> &'static str {
         ([], [b'*', ..]) | ([.., b','], [b'*', ..]) | ([.., b',', b' '], [b'*', ..]) => COLUMNS,
         (_, [b'^', ..]) | ([.., b'*'], [b'*', ..]) => POWERS,
         ([.., b'='], [b'=', ..]) => "one = compares",
-        ([.., b'='], [b'>', ..]) => "is >= meant?",
+        ([.., b'='], [b'>', ..]) => "is >= meant? arguments have no names",
         ([.., b'='], [b'<', ..]) => "is <= meant?",
         _ => "",
     }
@@ -266,7 +270,11 @@ pub(crate) fn hint_at(text: &str, byte: usize) -> &'static str {
 }
 
 /// Types that other languages have, or that lack their digits.
-const TYPES: [(&str, &str); 5] = [
+const TYPES: [(&str, &str); 6] = [
+    (
+        "time",
+        "no times of day: hour(at) and minute(at) are numbers, to_char(at, 'HH24:MI') is a text",
+    ),
     ("string", "write text"),
     ("datetime", "write timestamp"),
     (
