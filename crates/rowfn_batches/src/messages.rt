@@ -1,5 +1,7 @@
 //! What messages have of errors, of fields and of texts.
 
+use rowfn_csv::other_dates::{DateReading, date_form};
+use rowfn_csv::other_numbers::{NumberReading, number_form};
 use std::fmt::{self, Write};
 use vortex_columns::VortexError;
 use vortex_standard::ErrorText;
@@ -31,6 +33,35 @@ pub(crate) fn cast_reason(error: &VortexError) -> Option<&'static str> {
     }
 }
 
+/// Writes what reads a text that is no value of a cast, if it is a date or a number in another form.
+fn write_reading<W: fmt::Write>(
+    f: &mut fmt::Formatter<W>,
+    reason: &str,
+    text: &str,
+) -> fmt::Result {
+    let written = "s";
+    if reason == "is no date" || reason == "is no timestamp" {
+        return match date_form(text) {
+            Some(form) => {
+                let reading = DateReading {
+                    written,
+                    text,
+                    form,
+                };
+                write!(f, "{reading} reads it, ")
+            }
+            None => Ok(()),
+        };
+    }
+    match number_form(text) {
+        Some(form) if !reason.ends_with(BY_FORMAT) => {
+            let reading = NumberReading { written, form };
+            write!(f, "{reading} reads it, ")
+        }
+        _ => Ok(()),
+    }
+}
+
 /// Writes the beginning of a text that a cast cannot read, and what it is not.
 pub(crate) fn write_cast<W: fmt::Write>(
     f: &mut fmt::Formatter<W>,
@@ -46,10 +77,9 @@ pub(crate) fn write_cast<W: fmt::Write>(
     } else {
         "try_cast is"
     };
-    write!(
-        f,
-        "E{number} {name}: {reported:?}{cut} {reason} ({tried} null there)"
-    )
+    write!(f, "E{number} {name}: {reported:?}{cut} {reason} (")?;
+    write_reading(f, reason, text)?;
+    write!(f, "{tried} null there)")
 }
 
 /// Writes bytes that are no UTF-8, those beyond plain ASCII by their numbers.

@@ -111,6 +111,9 @@ fn perform_on<Fs: Files + AllocGlobal, R: Read + Drop>(
     if options.action == Action::Explain {
         return Ok(print_query(console, &query)?);
     }
+    if let Some(column) = query.compared_column(files.alloc())? {
+        return Err(ProgramError::Compared(column));
+    }
     note_mixed(console, &query);
     match options.index {
         Some(name) => pass_planned::<Fs, R>(files, console, options, &query, name),

@@ -2,7 +2,7 @@
 
 use rowfn_batches::{NoRefusals, StreamError};
 use rowfn_index::IndexError;
-use rowfn_queries::QueryError;
+use rowfn_queries::{MixedColumn, QueryError};
 use std::alloc::{AllocError, AllocFailed};
 use std::{fmt, io, str};
 use vortex_columns::VortexError;
@@ -16,6 +16,8 @@ pub enum ProgramError {
     QueryOfFile(QueryError, String),
     /// The same, where the text of the answers is like the name of a file, and there is none.
     QueryOfNoFile(QueryError, String),
+    /// The words compare a column, whose fields are dates in another form, with a date in quotes.
+    Compared(MixedColumn),
     /// The rows end.
     Stream(StreamError),
     /// The rows end at a field that is none of its column's type, which the first rows gave it.
@@ -89,7 +91,7 @@ impl ProgramError {
             ProgramError::Input(_, _)
             | ProgramError::NoRefusals(_)
             | ProgramError::Reporting(_, _) => 3,
-            ProgramError::NoText(_) => 4,
+            ProgramError::NoText(_) | ProgramError::Compared(_) => 4,
             ProgramError::LeftOut(_) => 1,
             ProgramError::NoColumns => 2,
             ProgramError::Index(_, error) => error.status(),
@@ -130,6 +132,14 @@ impl fmt::Display for ProgramError {
             ProgramError::QueryOfNoFile(error, name) => {
                 let name = name.as_str();
                 write!(f, "{error}; there is no file {name}")
+            }
+            ProgramError::Compared(column) => {
+                let name = column.name.as_str();
+                write!(
+                    f,
+                    "{column}; next to a date in quotes its texts would compare by their bytes \
+                     (--columns '{name} utf8')"
+                )
             }
             ProgramError::Stream(error) => write!(f, "{error}"),
             ProgramError::Chosen(error) => { write!(f, "{error}; all parts of CASE are computed") }

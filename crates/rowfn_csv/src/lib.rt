@@ -1,4 +1,5 @@
-//! Records of CSV: read one at a time with their bytes, gathered by the batch, and written.
+//! Records of CSV: read one at a time with their bytes, gathered by the batch, and written; and the
+//! forms of their fields.
 #![tactic(auto)]
 
 pub mod batch;
@@ -7,6 +8,8 @@ mod fields;
 pub mod format;
 mod growth;
 pub mod laws;
+pub mod other_dates;
+pub mod other_numbers;
 pub mod quoting;
 mod raw;
 pub mod records;

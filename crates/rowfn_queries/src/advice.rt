@@ -65,7 +65,7 @@ fn part_at(text: &str, byte: usize) -> &str {
 
 /// The first of these columns that is among the names of a text, if an error in it may come of the
 /// column's type: it stands in the same answer or argument. Of a function that is none of these types,
-/// only a column of dates in another form.
+/// only a column that is probably not meant to be text, or of dates or numbers in another form.
 pub(crate) fn mixed_among(
     alloc: Global,
     columns: &[MixedColumn],
@@ -79,13 +79,13 @@ pub(crate) fn mixed_among(
     }
     let part = part_at(text, error.byte);
     for column in columns {
-        let is_dated = match &column.field {
-            Some(field) => field.reading.is_some(),
+        let is_other = match &column.field {
+            Some(field) => column.is_meant || field.reading.is_some(),
             None => false,
         };
         let name = column.name.as_str();
         let is_read = is_in_names(names, name) && part.contains(name);
-        if is_read && (is_dated || !is_function) {
+        if is_read && (is_other || !is_function) {
             return column.try_clone(alloc).ok();
         }
     }

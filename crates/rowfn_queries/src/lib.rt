@@ -11,7 +11,7 @@ pub mod declared;
 pub mod error;
 pub mod inference;
 pub mod mixed;
-mod other_dates;
+mod other_forms;
 mod places;
 pub mod query;
 pub mod question;

@@ -2,8 +2,12 @@
 ghost use Rattle.std.specs.Prelude.{◌≡◌, ◌<◌, ◌*◌, length};
 
 use crate::inference::is_numeric;
-use crate::other_dates::dated_column;
+use crate::other_forms::{
+    compares_dates, dated_column, is_compared, number_reading, numbered_column,
+};
+use crate::query::Words;
 use rowfn_csv::Format;
+use rowfn_csv::other_numbers::number_form;
 use std::alloc::{AllocError, Global};
 use std::{fmt, str};
 use vortex_columns::{DType, StructFields};
@@ -52,7 +56,8 @@ pub struct TextField {
     pub is_quoted_null: bool,
     /// Whether null is the empty field alone, as it is where no text for it is given.
     pub is_usual_null: bool,
-    /// The call that reads it, if it is a date or a timestamp in another form, as `29.02.2024`.
+    /// What reads the column, if it is a date, a timestamp or a number in another form, as
+    /// `29.02.2024` and `1,234.50`.
     pub reading: Option<String>,
 }
 
@@ -66,6 +71,9 @@ pub struct MixedColumn {
     /// for null, or more fields than not are of the kind, without quoted texts for null; or each is
     /// null, and rows may follow that were not looked at.
     pub is_meant: bool,
+    /// Whether its fields are dates in another form, and what is asked compares it with a date in
+    /// quotes.
+    pub is_compared: bool,
 }
 
 /// Whether a text is what other programs write for null.
@@ -98,6 +106,7 @@ impl MixedColumn {
                 None => None,
             },
             is_meant: self.is_meant,
+            is_compared: self.is_compared,
         })
     }
 }
@@ -310,6 +319,7 @@ fn mixed_column(
             name,
             field: None,
             is_meant: is_full,
+            is_compared: false,
         }));
     }
     let found = mixed_field(format, fields, width, numbers.len(), column);
@@ -318,6 +328,10 @@ fn mixed_column(
     };
     let Ok(text) = str::from_utf8(found.text) else {
         return Ok(None);
+    };
+    let reading = match (shape, number_form(text)) {
+        (Shape::Number, Some(form)) => Some(number_reading(alloc, name, form)?),
+        _ => None,
     };
     let text = reported(text);
     Ok(Some(MixedColumn {
@@ -328,15 +342,37 @@ fn mixed_column(
             text: String::from_str(alloc, text)?,
             is_quoted_null: format.is_null_text(found.text),
             is_usual_null: format.null.is_empty() && format.more_nulls.is_empty(),
-            reading: None,
+            reading,
         }),
         is_meant: found.is_mostly || is_null_text(text),
+        is_compared: false,
     }))
 }
 
+/// The column at that place, if its fields are dates or numbers in another form; a column of dates is
+/// probably not meant to be text where what is asked has a date in a text.
+fn other_column(
+    alloc: Global,
+    words: &Words<'_>,
+    name: &str,
+    fields: &[Option<&[u8]>],
+    width: usize,
+    numbers: &[usize],
+    column: usize,
+) -> Result<Option<MixedColumn>, AllocError>
+    requires column { column < width }
+    requires even { length fields.now ≡ width * length numbers.now }
+{
+    if let Some(mut found) = dated_column(alloc, name, fields, width, numbers, column)? {
+        found.is_meant = compares_dates(words);
+        found.is_compared = is_compared(alloc, words, name)?;
+        return Ok(Some(found));
+    }
+    numbered_column(alloc, name, fields, width, numbers, column)
+}
+
 /// The columns of those names that are text, and have numbers, dates or timestamps, or nulls alone:
-/// of rows with those numbers; `is_full` says that others may follow, `has_date` that what is asked has
-/// a date in a text.
+/// of rows with those numbers; `is_full` says that others may follow.
 pub(crate) fn mixed_columns(
     alloc: Global,
     format: &Format<'_>,
@@ -345,7 +381,7 @@ pub(crate) fn mixed_columns(
     fields: &[Option<&[u8]>],
     numbers: &[usize],
     is_full: bool,
-    has_date: bool,
+    words: &Words<'_>,
 ) -> Result<Vec<MixedColumn>, AllocError>
     requires { length fields.now ≡ length names.now * length numbers.now }
 {
@@ -359,8 +395,9 @@ pub(crate) fn mixed_columns(
             alloc, format, name, fields, width, numbers, is_full, column,
         )? {
             columns.push(found)?;
-        } else if let Some(mut found) = dated_column(alloc, name, fields, width, numbers, column)? {
-            found.is_meant = has_date;
+        } else if let Some(found) = other_column(
+            alloc, words, name, fields, width, numbers, column,
+        )? {
             columns.push(found)?;
         }
     }

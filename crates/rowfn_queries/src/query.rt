@@ -19,7 +19,7 @@ use crate::sample::{Sample, read_sample};
 use crate::scopes::{add_all, add_named};
 use crate::texts::Texts;
 use rowfn_csv::Format;
-use std::alloc::Global;
+use std::alloc::{AllocError, Global};
 use std::io::Read;
 use vortex_columns::{StructFields, VortexResult};
 use vortex_logical::kind::Kind;
@@ -52,6 +52,19 @@ pub struct Query {
     pub inferred_kinds: Vec<Kind>,
     /// Those of them that are text by one field, and have numbers, dates or timestamps.
     pub mixed: Vec<MixedColumn>,
+}
+
+impl Query {
+    /// The first column whose fields are dates in another form, and that is compared with a date in
+    /// quotes.
+    pub fn compared_column(&self, alloc: Global) -> Result<Option<MixedColumn>, AllocError> {
+        for column in self.mixed.iter() {
+            if column.is_compared {
+                return Ok(Some(column.try_clone(alloc)?));
+            }
+        }
+        Ok(None)
+    }
 }
 
 /// All columns that are declared, that have the types of their fields, and that a header has besides.

@@ -12,7 +12,6 @@ use crate::columns::Gathered;
 use crate::error::QueryError;
 use crate::inference::infer;
 use crate::mixed::{MixedColumn, mixed_columns};
-use crate::other_dates::compares_dates;
 use crate::query::Words;
 use crate::rows::{Rows, read_named, read_numbered, read_rows};
 use crate::scopes::typed_columns;
@@ -135,14 +134,14 @@ fn columns_of(
     typed_columns(alloc, names, &types)
 }
 
-/// The columns of rows that are text, by one field, and have numbers, or dates in another form;
-/// whether what is asked has a date.
+/// The columns of rows that are text, by one field, and have numbers, or dates or numbers in another
+/// form.
 fn mixed_of(
     alloc: Global,
     format: &Format<'_>,
     rows: &Rows,
     types: &StructFields,
-    has_date: bool,
+    words: &Words<'_>,
 ) -> Result<Vec<MixedColumn>, AllocError> {
     let fields = rows.batch.fields(alloc)?;
     let (names, numbers) = (rows.names.as_slice(), rows.numbers.as_slice());
@@ -157,7 +156,7 @@ fn mixed_of(
         &fields,
         numbers,
         rows.is_full,
-        has_date,
+        words,
     )
 }
 
@@ -188,7 +187,6 @@ pub(crate) fn read_sample<R: Read>(
         Err(RecordError::OutOfMemory) => return Err(QueryError::OutOfMemory),
     }
     sample.columns = columns_of(alloc, &rows.names, &rows.batch, format.any_truths)?;
-    let has_date = compares_dates(words);
-    sample.mixed = mixed_of(alloc, &format, &rows, &sample.columns.fields, has_date)?;
+    sample.mixed = mixed_of(alloc, &format, &rows, &sample.columns.fields, words)?;
     Ok(sample)
 }
