@@ -2,6 +2,7 @@
 
 use rowfn_batches::{NoRefusals, StreamError};
 use rowfn_index::IndexError;
+use rowfn_queries::mixed::is_word;
 use rowfn_queries::{MixedColumn, QueryError};
 use std::alloc::{AllocError, AllocFailed};
 use std::{fmt, io, str};
@@ -137,9 +138,13 @@ impl fmt::Display for ProgramError {
                 let name = column.name.as_str();
                 write!(
                     f,
-                    "{column}; next to a date in quotes its texts would compare by their bytes \
-                     (--columns '{name} utf8')"
-                )
+                    "{column}; next to a date in quotes its texts would compare by their bytes "
+                )?;
+                if is_word(name) {
+                    write!(f, "(--columns '{name} utf8')")
+                } else {
+                    write!(f, "(--columns '{name:?} utf8')")
+                }
             }
             ProgramError::Stream(error) => write!(f, "{error}"),
             ProgramError::Chosen(error) => { write!(f, "{error}; all parts of CASE are computed") }

@@ -128,6 +128,11 @@ fn parts_of(date: &str) -> Option<[Part; 3]> {
     Some([first?, second?, third?])
 }
 
+/// Whether a date is written as types are read: `2024-02-29` or `2024/02/29`.
+fn is_usual(form: DateForm, date: &str) -> bool {
+    form == DateForm::YearFirst && (date.contains('-') || date.contains('/'))
+}
+
 /// The form of a text that is a date in another form than `2024-02-29`, with a time or without.
 pub fn date_form(text: &str) -> Option<DateForm> {
     if text.len() > MOST || !text.is_ascii() || text.contains('\'') {
@@ -137,7 +142,12 @@ pub fn date_form(text: &str) -> Option<DateForm> {
     if time.bytes().any(|byte| byte.is_ascii_alphabetic()) {
         return None;
     }
-    form_of(&parts_of(date)?)
+    let form = form_of(&parts_of(date)?)?;
+    if is_usual(form, date) {
+        None
+    } else {
+        Some(form)
+    }
 }
 
 /// What a format has for a part of a date of that form.

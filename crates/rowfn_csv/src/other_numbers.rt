@@ -19,6 +19,39 @@ pub struct NumberForm {
     has_comma: bool,
 }
 
+/// What both have, or that which one of them has; none where both have others.
+fn joined(left: Option<&'static str>, right: Option<&'static str>) -> Option<Option<&'static str>> {
+    match (left, right) {
+        (Some(left), Some(right)) if left == right => Some(Some(left)),
+        (Some(_), Some(_)) => None,
+        (Some(one), None) | (None, Some(one)) => Some(Some(one)),
+        (None, None) => Some(None),
+    }
+}
+
+impl NumberForm {
+    /// The form of numbers, some of which have the one and some the other form; none where these do
+    /// not go together.
+    pub fn with(self, other: NumberForm) -> Option<NumberForm> {
+        let sign = joined(self.sign, other.sign)?;
+        let mark = joined(self.mark, other.mark)?;
+        let has_comma = self.has_comma || other.has_comma;
+        if has_comma && mark == Some(",") {
+            return None;
+        }
+        Some(NumberForm {
+            sign,
+            mark,
+            has_comma,
+        })
+    }
+
+    /// Whether points group the digits.
+    pub fn groups_by_points(&self) -> bool {
+        self.mark == Some(".")
+    }
+}
+
 /// A text without the sign at its beginning or its end, if it has one.
 fn without_sign(text: &str) -> (Option<&'static str>, &str) {
     for sign in SIGNS {

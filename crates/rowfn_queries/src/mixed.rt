@@ -124,7 +124,7 @@ fn is_declarable(shape: Shape, text: &str) -> bool {
 }
 
 /// Whether a name is written without quotes.
-pub(crate) fn is_word(name: &str) -> bool {
+pub fn is_word(name: &str) -> bool {
     let mut bytes = name.as_bytes().iter();
     bytes.all(|byte| byte.is_ascii_alphanumeric() || *byte == b'_')
 }

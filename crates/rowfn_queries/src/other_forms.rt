@@ -114,8 +114,8 @@ pub(crate) fn dated_column(
     Ok(Some(column_of(alloc, name, Shape::Date, number, text, reading)?))
 }
 
-/// The column at that place, if each of its fields is a number, and those in another form than
-/// `1234.5` have one form.
+/// The column at that place, if each of its fields is a number, those in another form than `1234.5`
+/// have forms that go together, and points are read alike in all.
 pub(crate) fn numbered_column(
     alloc: Global,
     name: &str,
@@ -128,11 +128,13 @@ pub(crate) fn numbered_column(
     requires even { length fields.now ≡ width * length numbers.now }
 {
     let mut first: Option<(usize, &str, NumberForm)> = None;
+    let mut has_point = false;
     for row in 0..numbers.len() {
         let Some(field) = fields[row * width + column] else {
             continue;
         };
         if is_numeric(Some(field)) {
+            has_point = has_point || field.contains(&b'.');
             continue;
         }
         let Ok(text) = str::from_utf8(field) else {
@@ -141,15 +143,18 @@ pub(crate) fn numbered_column(
         let Some(form) = number_form(text) else {
             return Ok(None);
         };
-        match first {
-            Some((_, _, found)) if found != form => return Ok(None),
-            Some(_) => {}
-            None => first = Some((row, text, form)),
-        }
+        let (row, text, before) = first.unwrap_or((row, text, form));
+        let Some(form) = before.with(form) else {
+            return Ok(None);
+        };
+        first = Some((row, text, form));
     }
     let Some((row, text, form)) = first else {
         return Ok(None);
     };
+    if has_point && form.groups_by_points() {
+        return Ok(None);
+    }
     let reading = number_reading(alloc, name, form)?;
     let number = numbers.get(row).copied().unwrap_or(0);
     Ok(Some(column_of(alloc, name, Shape::Number, number, text, reading)?))
