@@ -168,9 +168,10 @@ impl fmt::Display for NumberReading<'_> {
         if let Some(sign) = sign {
             write!(f, ", '{sign}', '')")?;
         }
-        if let Some(mark) = mark {
-            let mark = if mark == "'" { "''" } else { mark };
-            write!(f, ", '{mark}', '')")?;
+        match mark {
+            Some("'") => f.write_str(", '''', '')")?,
+            Some(mark) => write!(f, ", '{mark}', '')")?,
+            None => {}
         }
         f.write_str(if has_comma { ", ',', '.')" } else { "" })?;
         f.write_str("::f64")

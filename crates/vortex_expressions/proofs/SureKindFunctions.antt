@@ -37,7 +37,7 @@ use Rattle.vortex_expressions.specs.Kinded.{told, text_literal, plain_operand}
 use Rattle.vortex_expressions.specs.KindCasts.{step_on, count_of}
 use Rattle.vortex_expressions.specs.KindWords.{part_word, unit_word}
 use Rattle.vortex_expressions.specs.KindFunctions.{is_numeric, whole_float, kind_float, float_of}
-use Rattle.vortex_expressions.specs.KindFunctions.{float_on, float_by, float_call, decimal_rounded, absolute}
+use Rattle.vortex_expressions.specs.KindFunctions.{float_on, float_call, decimal_rounded, absolute}
 use Rattle.vortex_expressions.specs.KindFunctions.{rounded_or_float, decimal_call, number_call, float_placed}
 use Rattle.vortex_expressions.specs.KindFunctions.{float_places, number_places, placed}
 use Rattle.vortex_expressions.specs.KindFunctions.{places_call, part_function, part_call}
@@ -84,16 +84,11 @@ sure_float_placed (Some s) t =
     sure_then IsTyped IsItem (step_on s t) (λ u. answers (kinded F64 u)) (sure_step s t)
     (λ u l. l)
 
-sure_float_by : (f : FloatFunction) (t : Tree) → Sure IsItem (float_by f t)
-sure_float_by float.Round t = sure_float_placed (float_rounding float.Round 0) t
-sure_float_by f t =
-    sure_then IsTyped IsItem (float_on f t) (λ u. answers (kinded F64 u)) (sure_float_on f t)
-    (λ u l. l)
-
 sure_float_call : (f : FloatFunction) (i : Item) → Sure IsItem (float_call f i)
 sure_float_call f i =
     sure_then {A = Lowered} Any IsItem (float_of i) _ (sure_float_of i)
-    (λ x h. sure_float_by f x.tree)
+    (λ x h. sure_then IsTyped IsItem (float_on f x.tree) (λ u. answers (kinded F64 u))
+    (sure_float_on f x.tree) (λ u l. l))
 
 -- decimals
 sure_decimal_rounded : (d : Digits) (t : Tree) (o : Option Rounded) → IsTyped t

@@ -88,14 +88,10 @@ abbrev pub float_placed : Option Step → Tree → Outcome Item
 float_placed None t = refuses (Binding (TypeMismatch Scalars))
 float_placed (Some s) t = and_then (step_on s t) (λ u. answers (kinded F64 u))
 
--- the function of a float; `round` keeps no places
-abbrev pub float_by : FloatFunction → Tree → Outcome Item
-float_by float.Round t = float_placed (float_rounding float.Round 0) t
-float_by f t = and_then (float_on f t) (λ u. answers (kinded F64 u))
-
 -- of the nearest float
 abbrev pub float_call : FloatFunction → Item → Outcome Item
-float_call f i = and_then (float_of i) (λ x. float_by f x.tree)
+float_call f i =
+    and_then (float_of i) (λ x. and_then (float_on f x.tree) (λ u. answers (kinded F64 u)))
 
 -- decimals are rounded as decimals
 abbrev pub decimal_rounded : Digits → Tree → Option Rounded → Outcome Item

@@ -101,26 +101,12 @@ fn float_placed(
     }
 }
 
-/// The function of a float; `round` keeps no places.
-fn float_by(
-    alloc: Global,
-    function: FloatFunction,
-    tree: BoundExpression<Standard>,
-) -> Result<Item, BindStop>
-    ensures { Gives item_in result (specs.float_by function tree) }
-{
-    match function {
-        FloatFunction::Round => float_placed(alloc, float_rounding(function, 0), tree),
-        _ => Ok(Item::Kinded(Kind::F64, float_on(alloc, function, tree)?)),
-    }
-}
-
 /// The function of a number, which becomes the nearest float.
 fn float_call(alloc: Global, function: FloatFunction, item: &Item) -> Result<Item, BindStop>
     ensures { Gives item_in result (specs.float_call function (item_in item.now)) }
 {
     let float = float_of(alloc, item)?;
-    float_by(alloc, function, float.tree)
+    Ok(Item::Kinded(Kind::F64, float_on(alloc, function, float.tree)?))
 }
 
 /// A decimal after a rounding, if it has more places than are left.

@@ -1,7 +1,8 @@
 -- PostgreSQL 15's functions of one float of 64 bits (`dround`, `dfloor`, `dceil`, `dtrunc`, `dsqrt`,
--- `float8abs`, `dsign`), but that the sign of a NaN is a NaN, as of its decimals, and not 0.
+-- `float8abs`, `dsign`), but that `round` takes halves away from zero, and that the sign of a NaN is a
+-- NaN, both as of its decimals.
 use Rattle.std.specs.Prelude.{Bool, false, if◌then◌else◌}
-use Rattle.std.specs.Float.{Float, binary64, float_zero, round_ties_even, floor, ceil, trunc}
+use Rattle.std.specs.Float.{Float, binary64, float_zero, float_round, floor, ceil, trunc}
 use Rattle.std.specs.Float.{float_with_sign, float_signum}
 use lib.Ieee.{sqrt, eq, lt}
 use Rattle.vortex_sql_float_functions.specs.declared.functions.FloatFunction.{FloatFunction}
@@ -12,7 +13,7 @@ abbrev pub sign : Float → Float
 sign x = if eq x float_zero then float_zero else float_signum x
 
 abbrev pub applied : FloatFunction → Float → Float
-applied function.Round x = round_ties_even binary64 x
+applied function.Round x = float_round binary64 x
 applied function.Floor x = floor binary64 x
 applied function.Ceil x = ceil binary64 x
 applied function.Trunc x = trunc binary64 x

@@ -1,7 +1,8 @@
 -- A float of 64 bits at a place after the point: its first 15 significant digits, rounded there, as
 -- PostgreSQL rounds a float8 that is cast to numeric; and the float nearest to that decimal.
 use Rattle.std.specs.Prelude.{◌≡◌, ◌&&◌, ◌^◌, ℕ, ℤ, pos, List, Option, Some, None, Bool, true, false}
-use Rattle.std.specs.Prelude.{codes, get_or, refl, int_le, int_lt, unsigned_abs, if◌then◌else◌}
+use Rattle.std.specs.Prelude.{◌-◌, nat_le, codes, get_or, refl, int_le, int_lt, unsigned_abs}
+use Rattle.std.specs.Prelude.{if◌then◌else◌}
 use Rattle.std.specs.Float.{Float, binary64}
 use Rattle.std.proofs.Common.{cond}
 use lib.Ieee.{round}
@@ -13,7 +14,8 @@ use Rattle.vortex_types.specs.Values.{number}
 use Rattle.vortex_interface.specs.Outcomes.{Outcome, gives, GivesType}
 use Rattle.vortex_float_texts.specs.declared.places.PlaceRounding.{PlaceRounding}
 use Rattle.vortex_float_texts.specs.declared.places.PlaceRounding.TheVariants as rounding
-use Rattle.vortex_float_texts.specs.Leading.{is_float}
+use Rattle.vortex_float_texts.specs.declared.leading.FirstDigits.{FirstDigits}
+use Rattle.vortex_float_texts.specs.Leading.{is_float, leading}
 use Rattle.vortex_float_texts.specs.Places.{rounded}
 use Rattle.vortex_sql_rows.specs.declared.faults.RowFault.TheVariants.{OtherValues}
 use Rattle.vortex_sql_rows.specs.declared.types.Gives.TheVariants as answer
@@ -37,15 +39,26 @@ rounding_of function.Trunc = rounding.Trunc
 abbrev pub placed_float : ℤ → ℕ → ℕ → Float
 placed_float z k d = round binary64 (int_lt z (pos 0)) d (10 ^ k)
 
--- the float itself where none of its digits is after the place
-abbrev pub placed_or : ℤ → ℕ → Option ℕ → Outcome
-placed_or z k (Some d) = gives_float (placed_float z k d)
-placed_or z k None = gives (number z)
+-- the float nearest to all 15 digits; the float itself where the last of them is before the point
+abbrev pub digits_float : ℤ → FirstDigits → Outcome
+digits_float z l =
+    if nat_le l.power 400 then gives_float (placed_float z (400 - l.power) l.digits)
+    else gives (number z)
+
+abbrev pub leading_float : ℤ → Option FirstDigits → Outcome
+leading_float z (Some l) = digits_float z l
+leading_float z None = gives (number z)
+
+-- all digits where none of them is after the place
+abbrev pub placed_or : ℤ → ℕ → Option FirstDigits → Option ℕ → Outcome
+placed_or z k l (Some d) = gives_float (placed_float z k d)
+placed_or z k l None = leading_float z l
 
 -- of a stored integer
 unfoldable pub placed : FloatPlaces → ℕ → ℤ → Outcome
 placed f k z =
-    if is_float z then placed_or z k (rounded (rounding_of f) k (unsigned_abs z))
+    if is_float z
+    then placed_or z k (leading (unsigned_abs z)) (rounded (rounding_of f) k (unsigned_abs z))
     else faults_by OtherValues
 
 -- a number of places, from 0 to 19
@@ -72,11 +85,26 @@ places_named : (f : FloatPlaces) → get_or (places_id f) 0 0 ≡ 115
 places_named function.Round = refl
 places_named function.Trunc = refl
 
-or_fits : (z : ℤ) (k : ℕ) (o : Option ℕ) → FitsPType I64 z
-    → GivesType (integer_type I64 false) (placed_or z k o)
-or_fits z k (Some d) h =
+digits_fit : (z : ℤ) (l : FirstDigits) → FitsPType I64 z
+    → GivesType (integer_type I64 false) (digits_float z l)
+digits_fit z l h = by (nat_le l.power 400)
+  where
+    nearest : Float
+    nearest = placed_float z (400 - l.power) l.digits
+
+    by : (b : Bool)
+        → GivesType (integer_type I64 false) (cond b (gives_float nearest) (gives (number z)))
+    by true =
+        float_fits nearest
+        (round-fits binary64 (int_lt z (pos 0)) l.digits (10 ^ (400 - l.power)))
+    by false = h
+
+or_fits : (z : ℤ) (k : ℕ) (l : Option FirstDigits) (o : Option ℕ) → FitsPType I64 z
+    → GivesType (integer_type I64 false) (placed_or z k l o)
+or_fits z k l (Some d) h =
     float_fits (placed_float z k d) (round-fits binary64 (int_lt z (pos 0)) d (10 ^ k))
-or_fits z k None h = h
+or_fits z k (Some l) None h = digits_fit z l h
+or_fits z k None None h = h
 
 placed_fits : (f : FloatPlaces) (z : ℤ) (k : ℕ) → FitsPType I64 z
     → GivesType (integer_type I64 false) (placed f k z)
@@ -84,8 +112,9 @@ unfolding placed
 placed_fits f z k h = by (is_float z)
   where
     by : (b : Bool) → GivesType (integer_type I64 false)
-        (cond b (placed_or z k (rounded (rounding_of f) k (unsigned_abs z))) (faults_by OtherValues))
-    by true = or_fits z k (rounded (rounding_of f) k (unsigned_abs z)) h
+        (cond b (placed_or z k (leading (unsigned_abs z))
+        (rounded (rounding_of f) k (unsigned_abs z))) (faults_by OtherValues))
+    by true = or_fits z k (leading (unsigned_abs z)) (rounded (rounding_of f) k (unsigned_abs z)) h
     by false = tt
 
 key_fits : (f : FloatPlaces) (z k : ℤ) → FitsPType I64 z

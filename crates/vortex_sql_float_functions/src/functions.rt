@@ -8,7 +8,7 @@ ghost use Rattle.vortex_sql_float_functions.specs.RootFaults.{root_number, root_
 /// A function of one float.
 #[derive(Clone, Copy, Debug, PartialEq, Eq)]
 pub enum FloatFunction {
-    /// To the nearest whole number, from halfway to the even one.
+    /// To the nearest whole number, from halfway the one farther from zero.
     Round,
     /// To the greatest whole number that is not above it.
     Floor,
@@ -55,7 +55,7 @@ pub fn applied(function: FloatFunction, x: f64) -> f64
     ensures { result ≡ specs.applied function x }
 {
     match function {
-        FloatFunction::Round => x.round_ties_even(),
+        FloatFunction::Round => x.round(),
         FloatFunction::Floor => x.floor(),
         FloatFunction::Ceil => x.ceil(),
         FloatFunction::Trunc => x.trunc(),

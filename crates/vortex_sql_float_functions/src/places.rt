@@ -5,15 +5,16 @@ ghost use Rattle.vortex_sql_float_functions.specs.PlaceRows as specs;
 
 use crate::keys::{float_cell, key_in, other_values};
 use vortex_columns::{Cell, PType, VortexResult};
-use vortex_float_texts::leading::is_float;
+use vortex_float_texts::leading::{FirstDigits, is_float, leading};
 use vortex_float_texts::places::{PlaceRounding, rounded};
 use vortex_sql_rows::cells::both_ints;
 use vortex_sql_rows::row::{RowFn, Signature};
 use vortex_sql_rows::types::{Gives, Kind, Takes};
 
 /// A float and a number of places after the point, from 0 to 19: the float nearest to the decimal of
-/// the float's first 15 significant digits, rounded at that place; where none of these is after the
-/// place, and of a NaN and an infinity, the float itself. No result is too large.
+/// the float's first 15 significant digits, rounded at that place, or of all of them where none is
+/// after the place; the float itself where the last of them is before the point, and of a NaN and an
+/// infinity. No result is too large.
 #[derive(Clone, Copy, Debug, PartialEq, Eq)]
 pub enum FloatPlaces {
     /// To the nearest decimal, from halfway the one farther from zero.
@@ -45,6 +46,27 @@ fn placed_float(number: i64, places: u32, size: u64) -> f64
     fast_float::from_parts::<f64>(number < 0, size, exponent_of(places))
 }
 
+/// The float nearest to all 15 digits; the float itself where the last of them is before the point.
+fn digits_cell<'a>(number: i64, leading: FirstDigits) -> VortexResult<Cell<'a>>
+    ensures { AnswersRow (specs.digits_float number leading) result }
+{
+    if leading.power <= 400 {
+        let places = (400 - leading.power) as u32;
+        float_cell(placed_float(number, places, leading.digits))
+    } else {
+        Ok(Cell::Int(i128::from(number)))
+    }
+}
+
+fn leading_cell<'a>(number: i64, leading: Option<FirstDigits>) -> VortexResult<Cell<'a>>
+    ensures { AnswersRow (specs.leading_float number leading) result }
+{
+    match leading {
+        Some(leading) => digits_cell(number, leading),
+        None => Ok(Cell::Int(i128::from(number))),
+    }
+}
+
 #[tactic(auto, unfolding(crate::specs::PlaceRows::placed))]
 fn placed<'a>(function: FloatPlaces, places: u32, number: i64) -> VortexResult<Cell<'a>>
     ensures { AnswersRow (specs.placed function places number) result }
@@ -54,7 +76,7 @@ fn placed<'a>(function: FloatPlaces, places: u32, number: i64) -> VortexResult<C
     }
     match rounded(rounding_of(function), places as u64, number.unsigned_abs()) {
         Some(size) => float_cell(placed_float(number, places, size)),
-        None => Ok(Cell::Int(i128::from(number))),
+        None => leading_cell(number, leading(number.unsigned_abs())),
     }
 }
 
