@@ -28,7 +28,7 @@ ATOM = r"expected ((digits, )?a column, (a literal, )?(not, )?case, cast or \(|a
 READ_ON = {
     "`not` behind a sign": r'found "not", ' + ATOM,
     "`+` before a value": r'found "\+", ' + ATOM,
-    "an operator before a value": r'found "([|%*/&#]+|<<|>>)", ' + ATOM,
+    "an operator before a value": r'found "([|%*/&#]+|<<|>>|!|!?~\*?)", ' + ATOM,
     "`~` behind a sign": r'found "~", ' + ATOM,
     "a minus sign before a literal that is no number": r'found "(\'[^"]*|null|true|false)", ' + ATOM,
     "a minus sign before one of a number": r'found "\d+", ' + ATOM,
@@ -40,9 +40,19 @@ READ_ON = {
     "a keyword as a name": rf'found "(is|like|ilike|between|escape|in|distinct|from|isnull|notnull|when|then|else|end)", ({ATOM}|expected (the name of a type|a text in single quotes))',
     "a call, or a text behind the name of a type": r"""found "[('][^"]*", expected an operator""",
     "a comparison or `is` in the first bound of BETWEEN": r'found "(=|<>|!=|<|<=|>|>=|is)", expected an operator that binds tighter, or the and of between',
-    "an operator behind an escape": r'found "([-+*/%|&#]+|<<|>>)", expected an operator, as and a name',
+    "an operator behind an escape": r'found "([-+*/%|&#]+|<<|>>|!?~\*?)", expected an operator, as and a name',
     "a row in brackets": r'found ",", expected an operator or \)',
 }
+
+
+def has_comma_between_answers(text):
+    """Whether a comma stands outside of brackets, behind which another answer begins here."""
+    depth = 0
+    for word in re.findall(r"'[^']*'|[(),]", text):
+        depth += (word[0] == "(") - (word[0] == ")")
+        if word == "," and depth == 0:
+            return True
+    return False
 
 
 def is_at_that_word(text, told, answers):
@@ -56,7 +66,7 @@ def is_at_that_word(text, told, answers):
     # the texts end with `as`, and PostgreSQL's with END; of a text in quotes we tell the first of these
     same = ours == there or (ours, there) == ("as", "end") or ours == "'" == there[:1]
     # behind a comma another answer begins here; and PostgreSQL's grammar knows how many NULLIF and COALESCE take
-    is_behind_comma = there == "," and (ours == "as" or "a comma or the end" in found[2]) or there in ",)" and re.search("nullif|coalesce|greatest|least", text.lower())
+    is_behind_comma = there == "," and (ours == "as" or "a comma or the end" in found[2] or has_comma_between_answers(text)) or there in ",)" and re.search("nullif|coalesce|greatest|least", text.lower())
     # a `not` that none of these follows is refused there itself
     is_not = there == "not" and (found[2].startswith("between, in, like or ilike") or ours in ("between", "in", "like", "ilike"))
     return same or bool(is_behind_comma) or is_not
@@ -181,6 +191,12 @@ class Changed:
             if re.search(r"\b(ilike|lower|upper)\b", text) and any(letter > "\x7f" for letter in FOLDED.keys() & set(text + "".join(map(str, row)))):
                 self.counts["on purpose: letters past ASCII, in PostgreSQL's own ILIKE, lower and upper"] += one != other
                 continue
+            if isinstance(other, Fault) and re.search("must be type boolean, not type (integer|smallint|bigint|i16|i64)", other.told):
+                self.counts["on purpose: a number as a truth value"] += 1
+                return
+            if isinstance(other, Fault) and re.search(r"operator does not exist: \w+ \|\| \w+", other.told):
+                self.counts["on purpose: a value that is no text beside ||"] += 1
+                return
             if isinstance(other, Fault):
                 is_fault = other.name in STATES and (isinstance(one, Fault) or self.is_dropped(text, table))
                 alike = is_fault or other.name == "22025" and "like" in text

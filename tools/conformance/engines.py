@@ -14,7 +14,7 @@ import tempfile
 import time
 from dataclasses import dataclass
 
-from functions import FIELD, NEGATIVE, NO_VALUE, OVERFLOW, SHIFT, ZERO
+from functions import FIELD, NEGATIVE, NO_CHARACTER, NO_VALUE, OVERFLOW, SHIFT, ZERO
 from spelling import postgresql_domains, quoted, sql_literal, whole
 from streams import OPTIONS, read_rows, spelled, words, written
 from tables import INTEGERS
@@ -72,8 +72,13 @@ TREE = r": (.*?)\n    printed (.*?)\n    type (\S+), weight \d+\n"
 EXPLAINED = re.compile(f"  tree{TREE}(?:  optimized{TREE})?", re.DOTALL)
 
 
+# what is told behind a fault of an expression that chooses
+ADVICE = "; all parts of CASE are computed"
+
+
 def fault_of(told):
     """The fault, of one that is told with the text that a cast cannot read: `"x" is no i64 number (try_cast is null there)`."""
+    told = told.removesuffix(ADVICE)
     cast = re.fullmatch(r'".*"(?:\.\.)? is no (truth value|\w+ number) \(try_cast is null there\)', told, re.DOTALL)
     if not cast:
         return told
@@ -225,7 +230,7 @@ $body$;
 # how the refusals of PostgreSQL are told apart, by its SQLSTATE: of a domain's CHECK, of a range, of a divisor, of a text that is cast,
 # of a length; and those that functions.py raises, where faults here are none there
 STATES = {"22003": OVERFLOW, "23514": OVERFLOW, "22012": ZERO, "22P02": NO_VALUE, "22011": NEGATIVE,
-          "22023": FIELD, "YK006": SHIFT}
+          "22023": FIELD, "54000": NO_CHARACTER, "YK006": SHIFT}
 
 
 class Postgresql:

@@ -1,88 +1,9 @@
 """SQL's functions and forms, a row each: what a row takes and returns, how it is written here, in PostgreSQL and in SQLite, and which
 faults it has. The generator, the texts and the judge go by these rows, so that a new function is a new row."""
-from collections.abc import Callable
-from dataclasses import dataclass, field
-
+from forms import (AND, ATOM, BARE, COMPARED, DISTINCT, FIELD, IS, JOINED, NEGATIVE, NO_CHARACTER, NO_VALUE, NOT, OR, OVERFLOW, PREDICATE, PRODUCT, SHIFT,
+                   SIGN, SQL_NAMES, SUM, TILDE, WHOLE_IN_POSTGRESQL, ZERO, Form, Spelling, applied, behind, bits_of, call, calls, infix, is_unsigned, typed)
 from tables import INTEGERS
-
-# levels of the language, the loosest first
-OR, AND, NOT, DISTINCT, IS, COMPARED, PREDICATE, JOINED, TILDE, SUM, PRODUCT, SIGN, ATOM, BARE = range(14)
-# why a call faults
-OVERFLOW, ZERO, NO_VALUE, NEGATIVE, FIELD, SHIFT = "overflow", "zero divisor", "no such value", "negative length", "field zero", "shift count"
-WHOLE_IN_POSTGRESQL = ("i16", "i32", "i64")
-SQL_NAMES = {"bool": ["boolean"], "i16": ["smallint", "int2"], "i32": ["int", "integer", "int4"], "i64": ["bigint", "int8"],
-             "utf8": ["text", "varchar"]}
-
-
-@dataclass(frozen=True)
-class Spelling:
-    """words: tokens, where %N is the next operand, of that level or tighter; %sign the same for a sign's; %* all that are left, with
-    commas; %case conditions and values. same: whether PostgreSQL reads it alike, over the types that it has. least, most: for so many operands. is_coming:
-    whether the program does not read it yet."""
-    level: int
-    words: str
-    same: bool = False
-    least: int = 0
-    most: int = 99
-    is_coming: bool = False
-
-
-@dataclass(frozen=True)
-class Form:
-    """takes: the operands, by words (see Maker.operand): T any type, N an integer type, S a type to cast from, count, place, or a type's
-    name; one with + comes once or more often, ? may be left out. gives: a type's name, or T or N. literals: whose type literals take (see
-    spelling.literal_types). faults: the fault's name, by why. nulls: where the result is null's type (rules.is_nullable)."""
-    kind: str
-    takes: str
-    gives: str
-    spellings: tuple
-    postgresql: Callable
-    sqlite: Callable | None = None
-    faults: dict = field(default_factory=dict)
-    literals: str = "alike"
-    is_strict: bool = True
-    nulls: str = "any"
-    weight: int = 2
-    is_coming: bool = False
-    # of a call that SQLite answers by null: why
-    null_in_sqlite: str = ZERO
-
-    def has_faults(self):
-        return bool(self.faults)
-
-
-def call(name, same=False, **more):
-    return Spelling(ATOM, f"{name}( %* )", same, **more)
-
-
-def calls(*names, same=False, **more):
-    return tuple(call(name, same, **more) for name in names)
-
-
-def applied(name):
-    """A function of both engines, of that name."""
-    return lambda node, *operands: f"{name}({', '.join(operands)})"
-
-
-def typed(written):
-    """With a cast to the node's type, which PostgreSQL has as a domain."""
-    return lambda node, *operands: f"({written(node, *operands)}::{node.type})"
-
-
-def infix(word):
-    return lambda node, left, right: f"({left} {word} {right})"
-
-
-def behind(word):
-    return lambda node, operand: f"({operand} {word})"
-
-
-def is_unsigned(name):
-    return name[0] == "u"
-
-
-def bits_of(name):
-    return int(name[1:])
+from text_functions import TEXTS
 
 
 # -- choices ---------------------------------------------------------------------------------------------------------------
@@ -106,7 +27,7 @@ def in_list(word):
 
 
 CHOICES = [
-    Form("coalesce", "T T+", "T", (call("coalesce", True), call("ifnull", most=2)), typed(applied("coalesce")), applied("coalesce"),
+    Form("coalesce", "T T+", "T", (call("coalesce", True), call("ifnull", most=2), call("nvl", most=2)), typed(applied("coalesce")), applied("coalesce"),
          is_strict=False, nulls="all", weight=4),
     Form("nullif", "T T", "T", calls("nullif", same=True), typed(applied("nullif")), applied("nullif"), is_strict=False, nulls="always"),
     Form("case", "case", "T", (Spelling(ATOM, "case %case end", True), call("case_when")), typed(case), case, literals="cases", is_strict=False,
@@ -119,12 +40,15 @@ CHOICES = [
          infix("IS DISTINCT FROM"), is_strict=False, nulls="never", weight=3),
     Form("not distinct", "T T", "bool", (Spelling(DISTINCT, "%4 is not distinct from %5", True),), infix("IS NOT DISTINCT FROM"),
          infix("IS NOT DISTINCT FROM"), is_strict=False, nulls="never"),
-    Form("if", "bool T T", "T", calls("if"), typed(case), case, literals="cases", is_strict=False),
+    Form("if", "bool T T", "T", calls("if", "iif"), typed(case), case, literals="cases", is_strict=False),
     Form("case of", "case of", "T", (Spelling(ATOM, "case %0 %case end", True),), typed(case_of), case_of, literals="cases of", is_strict=False,
          nulls="cases"),
     Form("between symmetric", "T T T", "bool", (Spelling(PREDICATE, "%7 between symmetric %7 and %7", True),),
          lambda node, a, b, c: f"({a} BETWEEN SYMMETRIC {b} AND {c})",
          lambda node, a, b, c: f"(({a} BETWEEN {b} AND {c}) OR ({a} BETWEEN {c} AND {b}))", is_strict=False),
+    Form("not between symmetric", "T T T", "bool", (Spelling(PREDICATE, "%7 not between symmetric %7 and %7", True),),
+         lambda node, a, b, c: f"({a} NOT BETWEEN SYMMETRIC {b} AND {c})",
+         lambda node, a, b, c: f"(NOT (({a} BETWEEN {b} AND {c}) OR ({a} BETWEEN {c} AND {b})))", is_strict=False),
 ]
 
 
@@ -192,110 +116,6 @@ NUMBERS = [
 ]
 
 
-# -- texts -----------------------------------------------------------------------------------------------------------------
-
-def whole(place):
-    """A place for PostgreSQL's functions, which take integers: what is past these is past each text."""
-    return f"whole_place({place})"
-
-
-def counted(name):
-    return lambda node, *operands: f"({name}({', '.join(operands)})::i64)"
-
-
-def letters(name):
-    """By ICU's root locale: the database has the locale C, by which lower and upper know the letters of ASCII alone."""
-    return lambda node, operand: f'({name}({operand} COLLATE "und-x-icu") COLLATE "C")'
-
-
-def sides(name):
-    return lambda node, text, count: f"{name}({text}, {whole(count)})"
-
-
-def substr(node, text, begin, count=None):
-    return f"substr({text}, {whole(begin)})" if count is None else f"substr_of({text}, {begin}, {count})"
-
-
-def near(place):
-    """A place for SQLite's functions, which take 32 bits of one."""
-    return f"max(min({place}, 1000000000), -1000000000)"
-
-
-def substr_in_sqlite(node, text, begin, count=None):
-    if count is None:
-        return f"substr({text}, {near(f'max({begin}, 1)')})"
-    return f"(CASE WHEN {count} < 0 THEN NULL ELSE substr({text}, {near(f'max({begin}, 1)')}, {near(f'max(0, {begin} + {count} - max({begin}, 1))')}) END)"
-
-
-def left_in_sqlite(node, text, count):
-    return f"substr({text}, 1, {near(f'CASE WHEN {count} < 0 THEN max(0, length({text}) + {count}) ELSE {count} END')})"
-
-
-def right_in_sqlite(node, text, count):
-    return f"substr({text}, {near(f'CASE WHEN {count} < 0 THEN 1 - {count} ELSE max(1, length({text}) - {count} + 1) END')})"
-
-
-def joined(node, *operands):
-    return f"({' || '.join(operands)})"
-
-
-def padded(name):
-    return lambda node, text, *more: f"{name}({', '.join([text, whole(more[0]), *more[1:]])})"
-
-
-def overlaid(node, text, put, begin, count=None):
-    behind = "" if count is None else f" for {whole(count)}"
-    return f"overlay({text} placing {put} from {whole(begin)}{behind})"
-
-
-TEXTS = [
-    Form("length", "utf8", "i64", calls("length", "char_length", "character_length", same=True), counted("length"), applied("length"), weight=3),
-    Form("bit_length", "utf8", "i64", calls("bit_length", same=True), counted("bit_length"), lambda node, a: f"(8 * length(CAST({a} AS BLOB)))"),
-    Form("ascii", "utf8", "i64", calls("ascii", same=True), counted("ascii"), lambda node, a: f"(CASE WHEN {a} = '' THEN 0 ELSE unicode({a}) END)"),
-    Form("initcap", "utf8", "utf8", calls("initcap"), letters("initcap")),
-    Form("lpad", "utf8 times utf8?", "utf8", calls("lpad", same=True), padded("lpad"), literals="each"),
-    Form("rpad", "utf8 times utf8?", "utf8", calls("rpad", same=True), padded("rpad"), literals="each"),
-    Form("translate", "utf8 utf8 utf8", "utf8", calls("translate", same=True), applied("translate")),
-    Form("overlay", "utf8 utf8 begin times?", "utf8", calls("overlay"), overlaid, literals="each"),
-    Form("concat_ws", "utf8 utf8 utf8+", "utf8", calls("concat_ws", same=True), applied("concat_ws"), is_strict=False, nulls="first"),
-    Form("octet_length", "utf8", "i64", calls("octet_length", same=True), counted("octet_length"), lambda node, a: f"length(CAST({a} AS BLOB))"),
-    Form("||", "utf8 utf8", "utf8", (Spelling(JOINED, "%7 || %8", True), call("textcat", True)), joined, joined, weight=5),
-    Form("lower", "utf8", "utf8", calls("lower"), letters("lower"), weight=3),
-    Form("upper", "utf8", "utf8", calls("upper"), letters("upper"), weight=3),
-    Form("substr", "utf8 place place?", "utf8", (*calls("substr", "substring", same=True), call("mid")), substr, substr_in_sqlite,
-         {NEGATIVE: "negative length in substr"}, "each", weight=4, null_in_sqlite=NEGATIVE),
-    Form("left", "utf8 place", "utf8", calls("left", same=True), sides("left"),
-         left_in_sqlite, literals="each"),
-    Form("right", "utf8 place", "utf8", calls("right", same=True), sides("right"), right_in_sqlite, literals="each"),
-    Form("strpos", "utf8 utf8", "i64", calls("strpos", same=True), counted("strpos"), applied("instr")),
-    Form("btrim", "utf8 utf8?", "utf8", (*calls("btrim", "trim", same=True), Spelling(ATOM, "trim( both from %0 )", True, most=1)), applied("btrim"), applied("trim")),
-    Form("ltrim", "utf8 utf8?", "utf8", (call("ltrim", True), Spelling(ATOM, "trim( leading from %0 )", True, most=1)), applied("ltrim"), applied("ltrim")),
-    Form("rtrim", "utf8 utf8?", "utf8", (call("rtrim", True), Spelling(ATOM, "trim( trailing from %0 )", True, most=1)), applied("rtrim"), applied("rtrim")),
-    Form("starts_with", "utf8 utf8", "bool", calls("starts_with", same=True), applied("starts_with"),
-         lambda node, a, b: f"(substr({a}, 1, length({b})) = {b})"),
-    Form("replace", "utf8 utf8 utf8", "utf8", calls("replace", same=True), applied("replace"),
-         lambda node, a, b, c: f"(CASE WHEN {c} IS NOT NULL THEN replace({a}, {b}, {c}) END)"),
-    Form("split_part", "utf8 utf8 place", "utf8", calls("split_part", same=True), lambda node, a, b, n: f"split_part({a}, {b}, {whole(n)})",
-         faults={FIELD: "field 0 in split_part, where the first field is 1"}, literals="each"),
-    Form("repeat", "utf8 times", "utf8", calls("repeat", same=True), lambda node, a, n: f"repeat({a}, {whole(n)})", literals="each"),
-    Form("reverse", "utf8", "utf8", calls("reverse", same=True), applied("reverse")),
-    Form("concat", "utf8 utf8+", "utf8", calls("concat", same=True), applied("concat"),
-         lambda node, *operands: "(" + " || ".join(f"coalesce({one}, '')" for one in operands) + ")", is_strict=False, nulls="never"),
-    Form("regexp_like", "utf8 regex", "bool", (call("regexp_like", True), Spelling(JOINED, "%7 ~ %8", True), Spelling(JOINED, "%7 regexp %8"), Spelling(JOINED, "%7 rlike %8")), applied("regexp_like"), literals="each"),
-    Form("~*", "utf8 regex", "bool", (Spelling(JOINED, "%7 ~* %8", True), call("texticregexeq", True)), infix("~*"), literals="each"),
-    Form("!~", "utf8 regex", "bool", (Spelling(JOINED, "%7 !~ %8", True), call("textregexne", True)), infix("!~"), literals="each"),
-    Form("!~*", "utf8 regex", "bool", (Spelling(JOINED, "%7 !~* %8", True), call("texticregexne", True)), infix("!~*"), literals="each"),
-    Form("regexp_substr", "utf8 regex", "utf8", calls("regexp_substr", same=True), applied("regexp_substr"), literals="each", nulls="always"),
-    Form("textregexsubstr", "utf8 regex", "utf8", (Spelling(ATOM, "substring( %0 from %1 )", True), call("textregexsubstr", True)),
-         lambda node, a, p: f"substring({a} from {p})", literals="each", nulls="always"),
-    Form("regexp_extract", "utf8 regex place", "utf8", calls("regexp_extract"),
-         lambda node, a, p, n: f"(CASE WHEN {n} >= 0 THEN regexp_substr({a}, {p}, 1, 1, '', least({n}, 100)::int) END)", literals="each", nulls="always"),
-    Form("regexp_instr", "utf8 regex", "i64", calls("regexp_instr", same=True), counted("regexp_instr"), literals="each"),
-    Form("regexp_count", "utf8 regex", "i64", calls("regexp_count", same=True), counted("regexp_count"), literals="each"),
-    Form("regexp_replace", "utf8 regex written flags?", "utf8", calls("regexp_replace", same=True), applied("regexp_replace"), literals="each"),
-]
-
-
 # -- casts -----------------------------------------------------------------------------------------------------------------
 
 def cast_in_postgresql(node, operand):
@@ -331,13 +151,39 @@ def casts():
         yield Form(f"cast {name}", "S", name, tuple(spellings), cast_in_postgresql, cast_in_sqlite, faults, f"cast {name}", weight=3)
 
 
+def tried_in_postgresql(node, operand):
+    source, name = node.operands[0].type, node.type
+    if name in ("utf8", source) or source == "bool" or name == "bool" and source != "utf8":
+        return cast_in_postgresql(node, operand)
+    return f"tried_{name}({operand}::text)"
+
+
+def tried():
+    """Casts that are null where they cannot be made."""
+    for name in ("bool", *INTEGERS, "utf8"):
+        spellings = [Spelling(ATOM, f"try_cast( %0 as {one} )") for one in (name, *SQL_NAMES.get(name, []))]
+        yield Form(f"try_cast {name}", "S", name, tuple(spellings), tried_in_postgresql, literals="each", is_strict=False, nulls="always", weight=1)
+
+
+def sizes():
+    """Casts to texts of a size at most."""
+    for size in (1, 3, 12):
+        yield Form(f"varchar {size}", "S", "utf8", (Spelling(ATOM, f"cast( %0 as varchar({size}) )"), Spelling(ATOM, f"( %0 ) :: varchar({size})")),
+                   lambda node, operand, size=size: f"left({operand}::text, {size})", literals="cast utf8", weight=1)
+
+
+def truths():
+    """A whole number where a truth value is taken: nothing is written."""
+    return [Form("truth", "N", "bool", (Spelling(ATOM, "%0"),), lambda node, operand: f"({operand} <> 0)", lambda node, operand: f"({operand} <> 0)", weight=0)]
+
+
 def meetings():
     """An operand of an integer type beside one of a wider type: nothing is written."""
     return [Form("meet", "narrower", "N", (Spelling(ATOM, "%0"),), typed(lambda node, operand: operand), lambda node, operand: f"(+ {operand})",
                  weight=0)]
 
 
-FORMS = {form.kind: form for form in [*CHOICES, *truth_tests(), *NUMBERS, *TEXTS, *casts(), *meetings()]}
+FORMS = {form.kind: form for form in [*CHOICES, *truth_tests(), *NUMBERS, *TEXTS, *casts(), *tried(), *sizes(), *meetings(), *truths()]}
 
 # What the rows above call in PostgreSQL.
 POSTGRESQL_FUNCTIONS = [
@@ -361,6 +207,12 @@ POSTGRESQL_FUNCTIONS = [
     "WHEN $3 < 0 THEN fault('22011') "
     "WHEN $2::numeric + $3 <= 1 THEN left($1, 0) "
     "ELSE substr($1, least(greatest($2, 1), 2147483647)::integer, least($2::numeric + $3 - greatest($2, 1), 2147483647)::integer) END $$;",
+    *(f"CREATE FUNCTION tried_{name}(text) RETURNS {name} LANGUAGE plpgsql VOLATILE AS "
+      f"$$ BEGIN RETURN {'$1' if name == 'bool' else 'text_number($1)'}::{name}; EXCEPTION WHEN OTHERS THEN RETURN NULL; END $$;" for name in ("bool", *INTEGERS)),
+    # words are runs of letters and digits, as in C.utf8 and not by ICU, where 日 is one; and a letter may become two
+    "CREATE FUNCTION initcapped(text) RETURNS text LANGUAGE sql IMMUTABLE STRICT AS "
+    """$$ SELECT string_agg((upper(left(m[1], 1) COLLATE "und-x-icu") COLLATE "C") || (lower(substr(m[1], 2) COLLATE "C.utf8") COLLATE "C") || m[2], '' ORDER BY n) """
+    """FROM regexp_matches($1 COLLATE "C.utf8", '([[:alnum:]]*)([^[:alnum:]]*)', 'g') WITH ORDINALITY AS t(m, n) $$;""",
     # PostgreSQL takes 1.5 for a numeric
     "CREATE FUNCTION text_number(text) RETURNS text LANGUAGE sql VOLATILE AS "
     "$$ SELECT CASE WHEN $1 ~ '[^-+0-9 \\t\\n\\v\\f\\r]' THEN fault('22P02') ELSE $1 END $$;",

@@ -4,7 +4,7 @@ from collections import Counter
 from dataclasses import dataclass
 
 from engines import NOT_ASKED, STATES, Fault, Refused, value_of
-from functions import FIELD, FORMS, NEGATIVE, NO_VALUE, OVERFLOW, SHIFT, ZERO, fault_of, is_form
+from functions import FIELD, FORMS, NEGATIVE, NO_CHARACTER, NO_VALUE, OVERFLOW, SHIFT, ZERO, fault_of, is_form
 from literals import is_unchanged
 from patterns import folds_past_ascii, has_lone_escape
 from rules import rule_that_drops
@@ -96,7 +96,7 @@ def faults_above(tree, faults):
     """The names of the faults that a call may have above one that faults: where rules drop that one, it has a value there."""
     calls = [node for node, _ in faults]
     above = [node for node in tree.nodes() if any(one is call for one in node.nodes() for call in calls) and not any(node is call for call in calls)]
-    return {fault_of(node, why) for node in above for why in (OVERFLOW, ZERO, SHIFT, NO_VALUE, NEGATIVE, FIELD)} - {None}
+    return {fault_of(node, why) for node in above for why in (OVERFLOW, ZERO, SHIFT, NO_VALUE, NEGATIVE, FIELD, NO_CHARACTER)} - {None}
 
 
 # -- running everyone ------------------------------------------------------------------------------

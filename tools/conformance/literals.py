@@ -32,9 +32,15 @@ def literal_types(kind, operands, forms):
 
     def taken(node):
         if node.value is None:
-            return common
+            return node.type if common is None and has_typed_places(kind) else common
         return common if node.type in INTEGERS and common in INTEGERS else own(node)
     return [taken(node) if bare else node.type for node, bare in zip(operands, is_bare)]
+
+
+def has_typed_places(kind):
+    """Whether null has the type of its place where no argument has one: of functions whose places have types of their own, and of abs and sign."""
+    form = FORMS.get(kind)
+    return form is not None and form.literals == "each" and not set(form.takes.replace("+", "").replace("?", "").split()) & {"T", "N", "S"}
 
 
 def types_of_cases(operands, forms):

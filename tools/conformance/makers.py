@@ -62,12 +62,21 @@ class Maker:
             operands = self.matched(value)
         elif word in (*JOINTS, "not", "cast"):
             operands = tuple(self.truth(level, one) for level, one in zip(levels, sizes))
+            operands = self.with_number(operands) if word != "cast" else operands
         else:
             name = rng.choice(["bool"] + ["utf8"] * 2 + self.types + self.types * (5 if self.flat else 1))
             # what is compared is mostly small, so that more of a tree is logic
             sizes = [min(one, rng.choice((1, 1, 2, 3, 5))) for one in sizes]
             operands = tuple(self.of(name, level, one) for level, one in zip(levels, sizes))
         return self.met(Node(word, "bool", operands, value))
+
+    def with_number(self, operands):
+        """These truth values, of which one is now and then a column of numbers: whether it is not 0."""
+        if self.flat or self.rng.random() > 0.1:
+            return operands
+        column = self.leaf(self.rng.choice(self.types), constant=0)
+        place = self.rng.randrange(len(operands))
+        return (*operands[:place], Node("truth", "bool", (column,), None, "0"), *operands[place + 1:])
 
     def matched(self, escape):
         """A text and a pattern, which often matches it in some row."""
@@ -150,7 +159,13 @@ class Maker:
         form, numbers = self.rng.choices(fitting, [form.weight for form, _ in fitting])[0]
         operands = self.operands(form, name, size - 1)
         fits = [number for number in numbers if form.spellings[number].least <= len(operands) <= form.spellings[number].most]
-        return self.met(Node(form.kind, name, operands, None, str(self.rng.choice(fits)))) if fits else None
+        if not fits:
+            return None
+        number = self.rng.choice(fits)
+        if form.kind.startswith("is ") and number == 0:
+            # before the words alone a number may stand
+            operands = self.with_number(operands)
+        return self.met(Node(form.kind, name, operands, None, str(number)))
 
     def is_coming(self, kind):
         return "all" in self.coming or kind in self.coming
@@ -208,9 +223,11 @@ class Maker:
         if word == "times":
             return Node("literal", "i64", (), rng.choice((-1, 0, 1, 2, 3, 5)), "bare")
         if word == "begin":
-            return Node("literal", "i64", (), rng.choice((1, 1, 2, 3, 5, 12)), "bare")
+            return Node("literal", "i64", (), rng.choice((1, 1, 2, 3, 5, 12, 1, 2, 3, 0, -2)), "bare")
+        if word == "code":
+            return self.constant("i64", rng.choice((97, 233, 26085, 128512, 8364, 1114109, 1114112, 55296, 65533, 10, 1, 0, -1, 2 ** 31, 2 ** 32 + 97)), size)
         if word == "regex":
-            return Node("literal", "utf8", (), rng.choice(("a", "^a", "b$", "a.*b", "[ab]+", "a|b", "^$", "x?y", "^.$", "é")), "bare")
+            return Node("literal", "utf8", (), rng.choice(("a", "^a", "b$", "(?s)a.*b", "[ab]+", "a|b", "^$", "x?y", "(?s)^.$", "é", "(a)(b)?", "([ab])([^b])", "(x|y)+a", "[A-Z](y)")), "bare")
         if word == "written":
             return Node("literal", "utf8", (), rng.choice(("", "x", "[\\&]", "\\1", "\\\\", "é", "a\\b")), "bare")
         if word == "flags":
@@ -247,7 +264,7 @@ class Maker:
         has_operand, compared = form.takes == "case of", self.any_type()
         parts = self.shares(size, count * 2 + 1)
         first = [self.of(compared, 0, parts[0])] if has_operand else []
-        when = (lambda part: self.leaf(compared)) if has_operand else (lambda part: self.truth(0, part))
+        when = (lambda part: self.leaf(compared)) if has_operand else (lambda part: self.with_number((self.truth(0, part),))[0])
         pairs = [one for place in range(count) for one in (when(parts[2 * place]), self.of(name, 0, min(3, parts[2 * place + 1])))]
         return (*first, *pairs, *[self.of(name, 0, min(3, parts[-1]))] * (rng.random() < 0.7))
 

@@ -29,9 +29,9 @@ def has_lone_escape(case, table, row):
 
 
 def folds_past_ascii(case, table, row):
-    """Whether in a row an ILIKE meets letters past ASCII that have a case."""
+    """Whether in a row an ILIKE, or a pattern of any case, meets letters past ASCII that have a case."""
     for node in case.tree.nodes():
-        if "ilike" in node.kind:
+        if "ilike" in node.kind or node.kind in ("~*", "!~*"):
             for leaf in node.nodes():
                 if leaf.operands or leaf.type != "utf8":
                     continue

@@ -4,10 +4,10 @@ import re
 from functions import BARE, FORMS, POSTGRESQL_FUNCTIONS, SIGN, SQL_NAMES, WHOLE_IN_POSTGRESQL, is_form, spelling_of
 from literals import is_unchanged, literal_forms
 from tables import INTEGERS
-from trees import ARITHMETIC, BETWEEN, FOLDED, LEVEL, LIKES, OPERANDS, TESTS
+from trees import ARITHMETIC, BETWEEN, COMPARISONS, FOLDED, LEVEL, LIKES, OPERANDS, TESTS
 
 KEYWORDS = "and or not is null between like ilike escape true false cast as unknown distinct from in case when then else end".split()
-ANY_CASE = {*KEYWORDS, "symmetric", "isnull", "notnull", *(name for names in SQL_NAMES.values() for name in names)}
+ANY_CASE = {*KEYWORDS, "symmetric", "isnull", "notnull", "both", "leading", "trailing", "for", "regexp", "rlike", *(name for names in SQL_NAMES.values() for name in names)}
 
 
 def quoted(text, quote):
@@ -72,6 +72,9 @@ def may_touch(left, right):
         return False
     if left[-1] in "\"'" and right[0] in "\"'":
         return False
+    if left.lower() == "for" and right == "(":
+        # a call, of a function for
+        return False
     # PostgreSQL takes a name before a quote for the beginning of a literal of another kind, and `!=-` for one operator
     if re.search(word + "$", left) and right[0] in "\"'":
         return len(left) > 2
@@ -107,7 +110,7 @@ class Text:
         self.tokens += [self.style.keyword(token) if token in ANY_CASE or token[:1].isalpha() and token[-1] == "(" else token for token in tokens]
 
     def tree(self, node, form, level):
-        if node.kind == "meet":
+        if node.kind in ("meet", "truth"):
             return self.tree(node.operands[0], "", level)
         grouped = level_of(node, form) < level or self.style.is_grouped()
         if grouped:
@@ -128,7 +131,7 @@ class Text:
 
     def form(self, node):
         """A call by a row of functions.py."""
-        rest = list(zip(node.operands, literal_forms(node.kind, node.operands)))
+        rest = list(zip(node.operands, self.forms(node)))
         for word in spelling_of(node).words.split():
             if word == "%*":
                 self.listed(rest)
@@ -161,6 +164,10 @@ class Text:
         return name if is_bare else quoted(name, '"')
 
     def literal(self, node, form):
+        if form == "quoted" or form == "typed" and node.type != "bool" and node.value is not None and self.style.has("type before a text"):
+            self.say(*[node.type] * (form == "typed"))
+            self.tokens.append(quoted(str(node.value), "'"))
+            return
         if node.value is None:
             self.say("null")
         elif node.type == "bool":
@@ -175,8 +182,14 @@ class Text:
             self.say("::", node.type + ("?" if form == "nullable" else ""))
 
     def operands(self, node):
+        return list(zip(node.operands, self.forms(node), OPERANDS[node.kind]))
+
+    def forms(self, node):
+        """How each literal operand is written: some numbers next to expressions of numbers as texts."""
         forms = literal_forms(node.kind, node.operands)
-        return list(zip(node.operands, forms, OPERANDS[node.kind]))
+        is_compared = node.kind in (*COMPARISONS, *BETWEEN, "in", "not in") and any(one.kind != "literal" and one.type in INTEGERS for one in node.operands)
+        return ["quoted" if is_compared and form == "bare" and one.kind == "literal" and one.value is not None and self.style.has("number in quotes") else form
+                for one, form in zip(node.operands, forms)]
 
     def call(self, node):
         first, *others = self.operands(node)
