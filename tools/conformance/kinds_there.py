@@ -38,14 +38,14 @@ def days_between(moment):
             yield f"create function here.{name}(u text, a {moment}, b {other}) returns int language sql as $$ select b::date - a::date $$;"
 
 
-# A float whose 15 digits end at that place or before it is itself.
+# A float whose 15 digits end before the point is itself.
 FLOATS = """
 create function here.round(x float8) returns float8 language sql as $$ select case when x in ('nan', 'inf', '-inf') then x
   when abs(x - pg_catalog.trunc(x)) >= 0.5 then pg_catalog.trunc(x) + pg_catalog.sign(x) else pg_catalog.trunc(x) end $$;
 create function here.round(x float8, p int) returns float8 language sql as $$
-  select case when abs(x) >= 10 ^ (14 - p) then x else pg_catalog.round(x::numeric, p)::float8 end $$;
+  select case when abs(x) >= 1e15 then x else pg_catalog.round(x::numeric, p)::float8 end $$;
 create function here.trunc(x float8, p int) returns float8 language sql as $$
-  select case when abs(x) >= 10 ^ (14 - p) then x else pg_catalog.trunc(x::numeric, p)::float8 end $$;
+  select case when abs(x) >= 1e15 then x else pg_catalog.trunc(x::numeric, p)::float8 end $$;
 create function here.sign(x float8) returns float8 language sql as $$ select case when x = 'nan' then x else pg_catalog.sign(x) end $$;
 create function here.sign(x numeric) returns float8 language sql as $$ select pg_catalog.sign(x)::float8 $$;
 create function here.sqrt(x numeric) returns float8 language sql as $$ select pg_catalog.sqrt(x::float8) $$;
