@@ -23,12 +23,10 @@ pub fn counted(alloc: Global, item: Lowered<Standard>) -> Result<Lowered<Standar
     ensures { Makes (λ x. lowered x.tree x.operand) result
         (specs.counted (lowered item.tree item.operand)) }
 {
-    match item.operand {
-        Operand::Whole(_) => as_integer(alloc, PType::I64, item),
-        Operand::Of(kind) => Err(Refusal::NoCommonKind(
-            Operand::Of(kind),
-            Operand::Whole(PType::I64),
-        )),
+    let Lowered { tree, operand } = item;
+    match operand {
+        Operand::Whole(_) => as_integer(alloc, PType::I64, Lowered { tree, operand }),
+        Operand::Of(_) => Err(Refusal::NoCommonKind(operand, Operand::Whole(PType::I64))),
     }
 }
 
