@@ -226,27 +226,26 @@ fn begins_with_name(text: &str, written: &str) -> bool {
     }
 }
 
+/// Whether what stands in quotes between these bytes of a text is compared with the column, whose name
+/// is written like that.
+fn is_compared_at(text: &str, start: usize, end: usize, written: &str) -> bool {
+    let before = text.get(..start.saturating_sub(1)).unwrap_or("");
+    let behind = text.get(end.saturating_add(1)..).unwrap_or("");
+    before_comparison(before).is_some_and(|it| ends_with_name(it, written))
+        || behind_comparison(behind).is_some_and(|it| begins_with_name(it, written))
+}
+
 /// Whether a text compares the column, whose name is written like that, with a date in single quotes.
 fn compares_with_date(text: &str, written: &str) -> bool {
-    let mut rest = text;
-    let mut before_length = 0usize;
-    while let Some((outside, quoted)) = rest.split_once('\'') {
-        let Some((inside, behind)) = quoted.split_once('\'') else {
-            return false;
-        };
-        let start = before_length.saturating_add(outside.len());
-        let before = text.get(..start).unwrap_or("");
-        if read_cell(Kind::Date, inside.as_bytes()).is_some() {
-            let is_left = before_comparison(before).is_some_and(|it| ends_with_name(it, written));
-            let is_right = behind_comparison(behind).is_some_and(|it| begins_with_name(
-                it, written,
-            ));
-            if is_left || is_right {
-                return true;
-            }
+    let (mut start, mut is_quoted) = (0usize, false);
+    for part in text.split('\'') {
+        let end = start.saturating_add(part.len());
+        let is_date = is_quoted && read_cell(Kind::Date, part.as_bytes()).is_some();
+        if is_date && is_compared_at(text, start, end, written) {
+            return true;
         }
-        before_length = text.len().saturating_sub(behind.len());
-        rest = behind;
+        start = end.saturating_add(1);
+        is_quoted = !is_quoted;
     }
     false
 }
