@@ -56,8 +56,7 @@ pub struct TextField {
     pub is_quoted_null: bool,
     /// Whether null is the empty field alone, as it is where no text for it is given.
     pub is_usual_null: bool,
-    /// What reads the column, if it is a date, a timestamp or a number in another form, as
-    /// `29.02.2024` and `1,234.50`.
+    /// What reads the column, if it has another form, as `29.02.2024` and `1,234.50`.
     pub reading: Option<String>,
 }
 
@@ -67,12 +66,10 @@ pub struct MixedColumn {
     pub name: String,
     /// The first field that is none of a kind of which others are. None where each field is null.
     pub field: Option<TextField>,
-    /// Whether the column is probably not meant to be text: that field is what other programs write
-    /// for null, or more fields than not are of the kind, without quoted texts for null; or each is
-    /// null, and rows may follow that were not looked at.
+    /// Whether it is probably not meant to be text: that field is what other programs write for null,
+    /// or most are of the kind, without quoted texts for null; or all are null, and rows may follow.
     pub is_meant: bool,
-    /// Whether its fields are dates in another form, and what is asked compares it with a date in
-    /// quotes.
+    /// Whether it is of dates in another form, and is compared with a date in quotes.
     pub is_compared: bool,
 }
 
@@ -349,8 +346,7 @@ fn mixed_column(
     }))
 }
 
-/// The column at that place, if its fields are dates or numbers in another form; a column of dates is
-/// probably not meant to be text where what is asked has a date in a text.
+/// The column at that place, if its fields are dates or numbers in another form.
 fn other_column(
     alloc: Global,
     words: &Words<'_>,
@@ -371,8 +367,7 @@ fn other_column(
     numbered_column(alloc, name, fields, width, numbers, column)
 }
 
-/// The columns of those names that are text, and have numbers, dates or timestamps, or nulls alone:
-/// of rows with those numbers; `is_full` says that others may follow.
+/// The columns of those names that are text, and may not be meant to be: of rows with those numbers.
 pub(crate) fn mixed_columns(
     alloc: Global,
     format: &Format<'_>,

@@ -37,8 +37,9 @@ pub fn text_is_read_back()
 /// whole number next to a float is the nearest float. An interval moves a date or a timestamp by its
 /// days or its microseconds, and the difference of two timestamps is that of their microseconds; so
 /// are sums of such, and whole numbers times them. Two literal numbers, one of them with a point, are
-/// one number. A function that chooses among values or compares them, as IN, CASE, `coalesce` and `greatest`, is called on integers, each of which stores in the
-/// kind in which the values meet what its value means; what is chosen has that kind.
+/// one number. A function that chooses among values or compares them, as IN, CASE, `coalesce` and
+/// `greatest`, is called on integers, each of which stores in the kind in which the values meet what
+/// its value means; what is chosen has that kind.
 pub fn texts_mean_their_rows()
     ensures { (scope : Fields) (kinds : List Kind) → TextsMeanTheirRows scope kinds }
 {
